@@ -1,0 +1,9 @@
+pub mod Bytes
+pub mod Numbers
+pub mod Tokens
+pub mod Words
+pub mod Spans
+pub mod TokenLaws
+pub mod Causes
+pub mod Transfer
+pub mod Script

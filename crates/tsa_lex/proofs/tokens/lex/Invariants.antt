@@ -1,0 +1,13 @@
+use Rattle.std.proofs.Common.{◌≤◌, ◌-◌, length, map}
+use Rattle.tsa_base.specs.Tokens.{lexeme}
+use Rattle.tsa_lex.proofs.Steps.{ReadTo}
+use Rattle.tsa_lex.proofs.tokens.lex.Given as goal
+
+abbrev pub invariant-tokens : goal.invariant-tokens
+invariant-tokens l = record {
+  within : l.at ≤ length l.source;
+  read : ReadTo l.source l.at (map lexeme l.tokens.items);
+}
+
+abbrev pub decreases-tokens : goal.decreases-tokens
+decreases-tokens l = length l.source - l.at

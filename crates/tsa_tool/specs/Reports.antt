@@ -1,0 +1,63 @@
+-- What is written for the words and the input, and the status.
+use Rattle.std.specs.Prelude.{ℕ, ◌+◌, min, List, [], ◌∷◌, ◌++◌, length, Some, None, Ok, Err, codes, if◌then◌else◌, nat_lt}
+use Rattle.std.specs.declared.option.Option.{Option}
+use Rattle.std.specs.declared.result.Result.{Result}
+use Rattle.tsa_base.specs.declared.limits.TheConstants.{INPUT_LIMIT}
+use Rattle.tsa_tree.specs.Items.{Item}
+use Rattle.tsa_tool.specs.Checks.{unit_of}
+use Rattle.tsa_tool.specs.declared.answer.Status.{Status}
+use Rattle.tsa_tool.specs.declared.answer.Status.TheVariants.{Accepted, Refused, WordsRefused}
+use Rattle.tsa_tool.specs.declared.check.Refusal.{Refusal}
+use Rattle.tsa_tool.specs.declared.check.Refusal.TheVariants.{NotBuilt}
+use Rattle.tsa_tool.specs.declared.command.Command.{Command}
+use Rattle.tsa_tool.specs.declared.command.Command.TheVariants.{Check}
+
+pub record Report : Type 0 where
+  pub status : Status
+  pub text : List ℕ
+
+-- the number of a status
+abbrev pub status_number : Status → ℕ
+status_number Accepted = 0
+status_number Refused = 2
+status_number WordsRefused = 3
+
+-- one line
+abbrev pub line : List ℕ → List ℕ
+line text = text ++ 10 ∷ []
+
+abbrev pub words_refused : Report
+words_refused = record { status = WordsRefused; text = line (codes "words refused") }
+
+abbrev pub not_built : Report
+not_built = record { status = Refused; text = line (codes "NB0 form is not built yet") }
+
+-- the line and the status of a refusal of these bytes
+abbrev pub refused_report : List ℕ → Refusal → Report
+refused_report bytes NotBuilt = not_built
+
+abbrev pub accepted : Report
+accepted = record { status = Accepted; text = line (codes "accepted") }
+
+abbrev pub unit_report : List ℕ → Result (List Item) Refusal → Report
+unit_report bytes (Ok unit) = accepted
+unit_report bytes (Err refusal) = refused_report bytes refusal
+
+-- what `check` answers to an input that is short enough
+unfoldable pub judged : List ℕ → Report
+judged bytes = unit_report bytes (unit_of bytes)
+
+-- what a command answers to an input
+abbrev pub report_on : Option Command → List ℕ → Report
+report_on None bytes = words_refused
+report_on (Some Check) bytes = if nat_lt INPUT_LIMIT (length bytes) then not_built else judged bytes
+
+-- how many bytes of an input a command reads
+abbrev pub input_read : Option Command → List ℕ → ℕ
+input_read None bytes = 0
+input_read (Some Check) bytes = min (length bytes) (INPUT_LIMIT + 1)
+
+-- the command reads its input
+abbrev pub Reads : Option Command → Type 0
+Reads None = ⊥
+Reads (Some Check) = Unit {0}

@@ -1,0 +1,88 @@
+//! What is answered to an input.
+ghost use Rattle.std.specs.Prelude.{◌≡◌, ◌≤◌, IfOk, length};
+ghost use Rattle.tsa_base.specs.declared.limits.TheConstants.{INPUT_LIMIT};
+ghost use Rattle.tsa_tool.specs.Reports.{status_number, words_refused, not_built, judged, accepted, refused_report};
+ghost use Rattle.tsa_tool.specs.Answer.{report_of};
+
+use crate::check::{Refusal, ToolRefusal, check_unit};
+use std::alloc::Global;
+use tsa_base::NoMemory;
+
+/// How an answer ends the program.
+#[derive(Clone, Copy, Debug, PartialEq, Eq)]
+pub enum Status {
+    Accepted,
+    Refused,
+    WordsRefused,
+}
+
+impl Status {
+    /// The exit status.
+    pub fn number(self) -> u8
+        ensures { result ≡ status_number self }
+    {
+        match self {
+            Status::Accepted => 0,
+            Status::Refused => 2,
+            Status::WordsRefused => 3,
+        }
+    }
+}
+
+/// The text that is written, and the status.
+#[derive(Drop)]
+pub struct Answer {
+    pub status: Status,
+    pub text: Vec<u8>,
+}
+
+/// The answer to words that ask for no command.
+pub fn refuse_words(alloc: Global) -> Result<Answer, NoMemory>
+    ensures { IfOk result (λ answer. report_of answer ≡ words_refused) }
+{
+    answer_of(alloc, Status::WordsRefused, b"words refused\n")
+}
+
+/// The answer to an input that is too long.
+pub fn refuse_length(alloc: Global) -> Result<Answer, NoMemory>
+    ensures { IfOk result (λ answer. report_of answer ≡ not_built) }
+{
+    refuse(alloc, b"", Refusal::NotBuilt)
+}
+
+/// What `check` answers to an input that is short enough.
+#[tactic(auto, unfolding(crate::specs::Reports::judged))]
+pub fn check(alloc: Global, bytes: &[u8]) -> Result<Answer, NoMemory>
+    requires { length bytes.now ≤ INPUT_LIMIT }
+    ensures { IfOk result (λ answer. report_of answer ≡ judged bytes.now) }
+{
+    match check_unit(alloc, bytes) {
+        Ok(_) => accept(alloc),
+        Err(ToolRefusal::Refused(refusal)) => refuse(alloc, bytes, refusal),
+        Err(ToolRefusal::NoMemory) => Err(NoMemory),
+    }
+}
+
+fn accept(alloc: Global) -> Result<Answer, NoMemory>
+    ensures { IfOk result (λ answer. report_of answer ≡ accepted) }
+{
+    answer_of(alloc, Status::Accepted, b"accepted\n")
+}
+
+// The answer to a unit that is refused: the line of the refusal, which may name a place in the bytes.
+fn refuse(alloc: Global, bytes: &[u8], refusal: Refusal) -> Result<Answer, NoMemory>
+    ensures { IfOk result (λ answer. report_of answer ≡ refused_report bytes.now refusal) }
+{
+    match refusal {
+        Refusal::NotBuilt => answer_of(alloc, Status::Refused, b"NB0 form is not built yet\n"),
+    }
+}
+
+fn answer_of(alloc: Global, status: Status, text: &[u8]) -> Result<Answer, NoMemory>
+    ensures { IfOk result (λ answer. report_of answer ≡ record { status = status; text = text.now }) }
+{
+    Ok(Answer {
+        status,
+        text: text.to_vec(alloc)?,
+    })
+}

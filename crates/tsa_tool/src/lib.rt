@@ -1,0 +1,15 @@
+//! The commands of the analyser, from words and bytes to bytes and a status.
+#![tactic(auto)]
+
+mod answer;
+mod ask;
+mod check;
+mod command;
+mod narrow;
+mod reading;
+mod top;
+
+pub use top::tool;
+
+#[cfg(test)]
+mod tests;

@@ -1,0 +1,52 @@
+//! The top call.
+ghost use Rattle.std.specs.Prelude.{◌≡◌, ◌≤◌, map, string_bytes};
+ghost use Rattle.std.specs.Io.KnownBytes.{Keeps};
+ghost use Rattle.tsa_base.specs.Transfer.{AppendsFront};
+ghost use Rattle.tsa_base.specs.Causes.{Rose};
+ghost use Rattle.tsa_tool.specs.Commands.{command_of};
+ghost use Rattle.tsa_tool.specs.Reports.{report_on, Reads};
+ghost use Rattle.tsa_tool.specs.Runs.{OfInput, IsAnswer, Answers, ReadsItsInput};
+
+use crate::ask::{Trouble, ask};
+use crate::command::command_from;
+use std::alloc::Global;
+use tsa_base::{PushTrouble, Sink, Source, write_all};
+
+const SOURCE_FAILED: u8 = 4;
+
+const SINK_FAILED: u8 = 5;
+
+const NO_MEMORY: u8 = 6;
+
+/// Runs the command that the words ask for on the input, writes its answer, and gives the program's exit status: that
+/// of the answer, or 4 where the source failed, 5 where the sink failed, and 6 for want of memory. The words don't
+/// include the program's name.
+pub fn tool<I: Source, O: Sink>(alloc: Global, words: &[String], input: &mut I, out: &mut O) -> u8
+    ensures answer { IsAnswer result → OfInput (I.left input.old) (λ bytes.
+        Answers (command_of (map string_bytes words.now)) bytes (O.taken out.old) (O.taken out.new) result) }
+    ensures consumed { IsAnswer result → OfInput (I.left input.old) (λ bytes.
+        ReadsItsInput (command_of (map string_bytes words.now)) bytes (I.left input.old) (I.left input.new)) }
+
+    // The source failed: a command that reads, and nothing was written.
+    ensures reads { result ≡ 4 → Reads (command_of (map string_bytes words.now)) }
+    ensures read_fault { result ≡ 4 → Rose (I.faults input.old) (I.faults input.new) }
+    ensures silent { result ≡ 4 → Keeps (O.taken out.old) (O.taken out.new) }
+
+    // The sink failed, or there was no memory: a first part of the report was written.
+    ensures write_fault { result ≡ 5 → Rose (O.faults out.old) (O.faults out.new) }
+    ensures write_front { result ≡ 5 → OfInput (I.left input.old) (λ bytes. AppendsFront (O.taken out.old) (O.taken out.new)
+        (report_on (command_of (map string_bytes words.now)) bytes).text) }
+    ensures memory { result ≡ 6 → OfInput (I.left input.old) (λ bytes. AppendsFront (O.taken out.old) (O.taken out.new)
+        (report_on (command_of (map string_bytes words.now)) bytes).text) }
+    ensures statuses { result ≤ 7 }
+{
+    match ask(alloc, command_from(words), input) {
+        Ok(answer) => match write_all(out, &answer.text) {
+            Ok(()) => answer.status.number(),
+            Err(PushTrouble::Failed) => SINK_FAILED,
+            Err(PushTrouble::NoMemory) => NO_MEMORY,
+        },
+        Err(Trouble::SourceFailed) => SOURCE_FAILED,
+        Err(Trouble::NoMemory) => NO_MEMORY,
+    }
+}
