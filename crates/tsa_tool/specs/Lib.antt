@@ -5,3 +5,10 @@ pub mod Checks
 pub mod Reports
 pub mod Runs
 pub mod Answer
+pub mod Names
+pub mod Rules
+pub mod Walks
+pub mod Program
+pub mod Warnings
+pub mod Limits
+pub mod Resolved

@@ -6,7 +6,9 @@ mod ask;
 mod check;
 mod command;
 mod narrow;
+mod program;
 mod reading;
+mod rules;
 mod top;
 
 pub use top::tool;

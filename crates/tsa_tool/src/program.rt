@@ -1,0 +1,36 @@
+//! A thin unit with its names resolved: a global is known by its place among the items.
+
+use tsa_base::Span;
+
+/// What a point of a body does.
+#[derive(Clone, Copy, Debug, PartialEq, Eq)]
+pub enum PointAction {
+    /// Takes the mutex that is declared at this place.
+    Take { lock: u32 },
+    /// Gives it back.
+    Give { lock: u32 },
+    /// Writes a number, which may have the mutex of this place as its guard.
+    Write { guard: Option<u32> },
+    /// The end of the body.
+    End,
+}
+
+/// A point, and the byte where it stands.
+#[derive(Clone, Copy, Debug, PartialEq, Eq)]
+pub struct BodyPoint {
+    pub place: u32,
+    pub action: PointAction,
+}
+
+/// A body: its name, and its points in order.
+#[derive(Drop)]
+pub struct BodyCode {
+    pub name: Span,
+    pub points: Vec<BodyPoint>,
+}
+
+/// The bodies of a unit, in order of the text.
+#[derive(Drop)]
+pub struct Program {
+    pub bodies: Vec<BodyCode>,
+}
