@@ -1,1 +1,4 @@
 pub mod Lists
+pub mod Rows
+pub mod Points
+pub mod Judged

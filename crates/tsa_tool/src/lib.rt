@@ -5,6 +5,7 @@ mod answer;
 mod ask;
 mod check;
 mod command;
+mod judge;
 mod narrow;
 mod program;
 mod reading;
