@@ -5,3 +5,4 @@ pub mod Checks
 pub mod Reports
 pub mod Runs
 pub mod Answer
+pub mod Spelling

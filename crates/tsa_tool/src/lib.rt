@@ -5,10 +5,12 @@ mod answer;
 mod ask;
 mod check;
 mod command;
+mod laws;
 mod narrow;
 mod reading;
 mod top;
 
+pub use laws::what_is_read_is_what_is_spelled;
 pub use top::tool;
 
 #[cfg(test)]
