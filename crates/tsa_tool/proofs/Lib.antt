@@ -2,3 +2,9 @@ pub mod Lists
 pub mod Rows
 pub mod Points
 pub mod Judged
+pub mod Marks
+pub mod MoreMarks
+pub mod SpelledItems
+pub mod ReadItems
+pub mod Braces
+pub mod Spelled

@@ -13,3 +13,4 @@ pub mod Warnings
 pub mod Limits
 pub mod Resolved
 pub mod Judging
+pub mod Spelling

@@ -6,12 +6,14 @@ mod ask;
 mod check;
 mod command;
 mod judge;
+mod laws;
 mod narrow;
 mod program;
 mod reading;
 mod rules;
 mod top;
 
+pub use laws::what_is_read_is_what_is_spelled;
 pub use top::tool;
 
 #[cfg(test)]
