@@ -1,3 +1,4 @@
 pub mod BytesLemmas
 pub mod Longest
 pub mod TokenExamples
+pub mod PlacesLemmas

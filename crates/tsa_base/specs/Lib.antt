@@ -7,3 +7,4 @@ pub mod TokenLaws
 pub mod Causes
 pub mod Transfer
 pub mod Script
+pub mod Places

@@ -5,6 +5,7 @@ mod honest;
 mod laws;
 mod limits;
 mod memory;
+mod places;
 mod read;
 mod stream;
 mod token;
@@ -19,6 +20,7 @@ pub use limits::{
     POINT_LIMIT, THREAD_LIMIT, TRY_LIMIT, TURN_LIMIT,
 };
 pub use memory::{MemorySink, MemorySource};
+pub use places::{LineStarts, Place};
 pub use read::{ReadTrouble, read_all};
 pub use stream::{ReaderSource, WriterSink};
 pub use token::{LexCode, Span, Token, TokenKind};

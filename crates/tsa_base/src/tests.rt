@@ -1,7 +1,7 @@
 //! Each call that may want memory, once with ample memory.
 use crate::{
-    HonestSink, HonestSource, MemorySink, MemorySource, PushTrouble, ReadTrouble, Sink, read_all,
-    write_all,
+    HonestSink, HonestSource, LineStarts, MemorySink, MemorySource, Place, PushTrouble,
+    ReadTrouble, Sink, read_all, write_all,
 };
 use std::alloc::Global;
 use std::test::Fail;
@@ -57,5 +57,29 @@ fn honest_ends_give_and_take_all(rt: HostRuntime) -> Result<(), Fail> {
     assert_eq!(rt; sink.push(b"x"), Ok(1));
     assert_eq!(rt; write_all(&mut sink, &bytes), Ok(()));
     assert_eq!(rt; sink.taken(), b"xabc".as_slice());
+    Ok(())
+}
+
+#[test]
+fn a_byte_is_told_by_its_line_and_its_column(rt: HostRuntime) -> Result<(), Fail> {
+    let alloc = rt.alloc();
+    let table = LineStarts::new(alloc, b"ab\nc\n\nd")?;
+    let rows: [(u32, usize, usize, &[u8]); 8] = [
+        (0, 1, 1, b"1:1: "),
+        (2, 1, 3, b"1:3: "),
+        (3, 2, 1, b"2:1: "),
+        (5, 3, 1, b"3:1: "),
+        (6, 4, 1, b"4:1: "),
+        (7, 4, 2, b"4:2: "),
+        (8, 4, 2, b"4:2: "),
+        (u32::MAX, 4, 2, b"4:2: "),
+    ];
+    for (at, line, column, written) in rows {
+        let place = table.place(at);
+        assert_eq!(rt; place, Place { line, column }, "byte {at}");
+        let mut text = Vec::new(alloc);
+        place.append_to(alloc, &mut text)?;
+        assert_eq!(rt; text.as_slice(), written, "byte {at}");
+    }
     Ok(())
 }
