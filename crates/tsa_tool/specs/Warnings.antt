@@ -7,7 +7,7 @@ use Rattle.tsa_tool.specs.declared.rules.Rule.{Rule}
 use Rattle.tsa_tool.specs.declared.rules.Rule.TheVariants.{TS02, TS06, TS07, TS09}
 use Rattle.tsa_tool.specs.Rules.{Path, path_eq, Action, write, call, finish, Body, Status, Next, entry, effect, breaks}
 
--- The paths of a body: those that its points name, each where it comes first.
+-- The paths of a body: those of its function's attributes, and then those that its points name, each where it comes first.
 
 abbrev pub action_paths : Action → List Path
 action_paths (write guards) = guards
@@ -22,7 +22,7 @@ with_paths paths [] = paths
 with_paths paths (c ∷ cs) = with_paths (with_path paths c) cs
 
 abbrev pub paths_of : Body → List Path
-paths_of b = with_paths [] (flat_map action_paths b.actions)
+paths_of b = with_paths [] (map (λ a. a.path) b.attrs ++ flat_map action_paths b.actions)
 
 -- The same in the order of their texts.
 
