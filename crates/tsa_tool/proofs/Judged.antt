@@ -153,7 +153,7 @@ times_paths : (lock : ℕ) (row : List Held) → times (λ h. h.lock == lock) ro
 times_paths lock [] = refl
 times_paths lock (h ∷ hs) = rw (turned h.lock lock) (ap (λ n. cond (lock == h.lock) (suc n) n) (times_paths lock hs))
 
-own_path : (lock : ℕ) (a : PointAction) → lock_of a ≡ Some lock → action_paths (point_action a) ≡ global lock ∷ []
+pub own_path : (lock : ℕ) (a : PointAction) → lock_of a ≡ Some lock → action_paths (point_action a) ≡ global lock ∷ []
 own_path lock (Take l) e = let same : l ≡ lock = cc in ap (λ n. global n ∷ []) same
 own_path lock (Give l) e = let same : l ≡ lock = cc in ap (λ n. global n ∷ []) same
 own_path lock (Write None) e = cc

@@ -8,3 +8,4 @@ pub mod SpelledItems
 pub mod ReadItems
 pub mod Braces
 pub mod Spelled
+pub mod PathLists

@@ -13,4 +13,5 @@ pub mod Warnings
 pub mod Limits
 pub mod Resolved
 pub mod Judging
+pub mod Lines
 pub mod Spelling

@@ -8,6 +8,7 @@ mod command;
 mod judge;
 mod laws;
 mod narrow;
+mod paths;
 mod program;
 mod reading;
 mod rules;
