@@ -1,12 +1,20 @@
--- What a line says of a path: its text, and the text of its lock's struct.
-use Rattle.std.specs.Prelude.{ℕ, ◌-◌, Bool, List, [], ◌∷◌, ◌++◌, length, take, drop, Some, None, slice_get, option_and_then, codes}
+-- The lines of warnings.
+use Rattle.std.specs.Prelude.{ℕ, ◌+◌, ◌-◌, Bool, true, false, List, [], ◌∷◌, ◌++◌, length, take, drop, map, Some, None, slice_get, slice_index, option_and_then, unwrap_or, codes, sum_by}
 use Rattle.std.specs.declared.option.Option.{Option}
+use Rattle.std.specs.List.{flat_map}
 use Rattle.std.specs.Option.{option_map_or}
 use Rattle.tsa_base.specs.declared.token.Span.{Span}
 use Rattle.tsa_base.specs.Spans.{span_text}
+use Rattle.tsa_base.specs.Places.{place_at, place_text}
 use Rattle.tsa_tree.specs.Items.{Item, lock, lock_function, mutex, number, body}
+use Rattle.tsa_tool.specs.declared.rules.Rule.{Rule}
+use Rattle.tsa_tool.specs.declared.rules.Rule.TheVariants.{TS02, TS06, TS07, TS09}
 use Rattle.tsa_tool.specs.Names.{struct_named}
 use Rattle.tsa_tool.specs.Rules.{Path, global}
+use Rattle.tsa_tool.specs.Program.{UnitBody}
+use Rattle.tsa_tool.specs.Warnings.{Warning, body_warnings}
+
+-- What a line says of a path: its text, and the text of its lock's struct.
 
 -- the name that a global or a function declares
 abbrev pub item_name : Item → Option Span
@@ -19,3 +27,70 @@ item_name (body name steps end) = Some name
 -- a path's text is the name of its global
 unfoldable pub path_text : List ℕ → List Item → Path → List ℕ
 path_text bytes items (global place) = option_map_or (span_text bytes) (option_and_then item_name (slice_get items place)) []
+
+-- the place of the struct of a mutex, and 0 for other items
+abbrev pub struct_place : List ℕ → List Item → Item → ℕ
+struct_place bytes items (lock kind tag member) = 0
+struct_place bytes items (lock_function name tag param takes argument) = 0
+struct_place bytes items (mutex tag name) = unwrap_or (struct_named bytes items (span_text bytes tag)) 0
+struct_place bytes items (number name guard) = 0
+struct_place bytes items (body name steps end) = 0
+
+-- the text at the struct, with its quotes
+abbrev pub struct_kind : Item → Option Span
+struct_kind (lock kind tag member) = Some kind
+struct_kind (lock_function name tag param takes argument) = None
+struct_kind (mutex tag name) = None
+struct_kind (number name guard) = None
+struct_kind (body name steps end) = None
+
+-- the bytes between the first and the last
+unfoldable pub unquoted : List ℕ → List ℕ
+unquoted text = take (length text - 2) (drop 1 text)
+
+-- the text of a path's lock
+unfoldable pub lock_text : List ℕ → List Item → Path → List ℕ
+lock_text bytes items (global place) = unquoted (option_map_or (span_text bytes) (option_and_then struct_kind (option_and_then (slice_get items) (option_and_then (λ item. Some (struct_place bytes items item)) (slice_get items place)))) [])
+
+-- The texts of the rules, by the lock's text and the path's.
+
+abbrev pub rule_code : Rule → List ℕ
+rule_code TS02 = codes "TS02"
+rule_code TS06 = codes "TS06"
+rule_code TS07 = codes "TS07"
+rule_code TS09 = codes "TS09"
+
+abbrev pub before_path : Rule → List ℕ
+before_path TS02 = codes "writing needs "
+before_path TS06 = []
+before_path TS07 = []
+before_path TS09 = codes "returning with "
+
+abbrev pub behind_path : Rule → List ℕ
+behind_path TS02 = codes " exclusively"
+behind_path TS06 = codes " is acquired while held or pending"
+behind_path TS07 = codes " is released while not held"
+behind_path TS09 = codes " not as declared"
+
+-- what a rule says of a lock `K 'P'`
+unfoldable pub rule_text : Rule → List ℕ → List ℕ → List ℕ
+rule_text rule kind path = before_path rule ++ kind ++ codes " '" ++ path ++ codes "'" ++ behind_path rule
+
+-- `L:C: TSnn in F: TEXT`, and the line end
+unfoldable pub warning_line : List ℕ → List Item → UnitBody → Warning → List ℕ
+warning_line bytes items b w =
+    place_text (place_at bytes (slice_index b.places w.point)) ++ rule_code w.rule ++ codes " in " ++ span_text bytes b.name ++ codes ": " ++ rule_text w.rule (lock_text bytes items w.path) (path_text bytes items w.path) ++ 10 ∷ []
+
+-- All lines of a unit, and how many they are.
+
+abbrev pub warnings_of : List ℕ → List Item → UnitBody → List Warning
+warnings_of bytes items b = body_warnings (path_text bytes items) b.code
+
+abbrev pub body_lines : List ℕ → List Item → UnitBody → List ℕ
+body_lines bytes items b = flat_map (warning_line bytes items b) (warnings_of bytes items b)
+
+unfoldable pub unit_lines : List ℕ → List Item → List UnitBody → List ℕ
+unit_lines bytes items bodies = flat_map (body_lines bytes items) bodies
+
+unfoldable pub unit_count : List ℕ → List Item → List UnitBody → ℕ
+unit_count bytes items bodies = sum_by (λ b. length (warnings_of bytes items b)) bodies

@@ -7,6 +7,7 @@ mod check;
 mod command;
 mod judge;
 mod laws;
+mod lines;
 mod narrow;
 mod paths;
 mod program;

@@ -1,0 +1,130 @@
+//! The lines of warnings. The texts of the rules stand here and nowhere else.
+ghost use Rattle.std.specs.Prelude.{◌≡◌, ◌<◌, ◌++◌, ◌∷◌, [], map, length, slice_index, OnOk};
+ghost use Rattle.tsa_base.specs.Places.{place_at, place_text};
+ghost use Rattle.tsa_base.specs.Spans.{span_text};
+ghost use Rattle.tsa_tree.specs.Items.{item_of};
+ghost use Rattle.tsa_tool.specs.Rules.{global};
+ghost use Rattle.tsa_tool.specs.Resolved.{body_view};
+ghost use Rattle.tsa_tool.specs.Judging.{warning_view};
+ghost use Rattle.tsa_tool.specs.Lines.{struct_place, unquoted, lock_text, path_text, rule_code, before_path, behind_path, rule_text, warning_line};
+
+use crate::judge::Warning;
+use crate::paths::path_text;
+use crate::program::BodyCode;
+use crate::rules::Rule;
+use std::alloc::Global;
+use tsa_base::{LineStarts, NoMemory};
+use tsa_tree::ThinItem;
+
+impl Rule {
+    /// The rule's code.
+    pub fn code(self) -> &'static [u8]
+        ensures { result.now ≡ rule_code self }
+    {
+        match self {
+            Rule::TS02 => b"TS02",
+            Rule::TS06 => b"TS06",
+            Rule::TS07 => b"TS07",
+            Rule::TS09 => b"TS09",
+        }
+    }
+
+    // What the rule's text says in front of the lock.
+    fn before_path(self) -> &'static [u8]
+        ensures { result.now ≡ before_path self }
+    {
+        match self {
+            Rule::TS02 => b"writing needs ",
+            Rule::TS06 | Rule::TS07 => b"",
+            Rule::TS09 => b"returning with ",
+        }
+    }
+
+    // What the rule's text says behind the lock.
+    fn behind_path(self) -> &'static [u8]
+        ensures { result.now ≡ behind_path self }
+    {
+        match self {
+            Rule::TS02 => b" exclusively",
+            Rule::TS06 => b" is acquired while held or pending",
+            Rule::TS07 => b" is released while not held",
+            Rule::TS09 => b" not as declared",
+        }
+    }
+}
+
+// The bytes between the quotes.
+#[tactic(auto, unfolding(crate::specs::Lines::unquoted))]
+fn unquoted(text: &[u8]) -> &[u8]
+    ensures { result.now ≡ unquoted text.now }
+{
+    if text.len() < 2 {
+        return &[];
+    }
+    &text[1..text.len() - 1]
+}
+
+/// The text of a path's lock, by the places of the structs.
+#[tactic(auto, unfolding(crate::specs::Lines::lock_text))]
+fn lock_text<'s>(bytes: &'s [u8], items: &[ThinItem], structs: &[u32], path: u32) -> &'s [u8]
+    requires { structs.now ≡ map (struct_place bytes.now (map item_of items.now)) (map item_of items.now) }
+    ensures { result.now ≡ lock_text bytes.now (map item_of items.now) (global path) }
+{
+    let Some(place) = structs.get(path as usize) else {
+        return unquoted(&[]);
+    };
+    match items.get(*place as usize) {
+        Some(ThinItem::Lock { kind, .. }) => unquoted(kind.text_in(bytes)),
+        _ => unquoted(&[]),
+    }
+}
+
+// Appends what a rule says of a lock.
+#[tactic(auto, unfolding(crate::specs::Lines::rule_text))]
+fn push_rule(text: &mut Vec<u8>, rule: Rule, kind: &[u8], path: &[u8]) -> Result<(), NoMemory>
+    ensures { OnOk result (text.new.items ≡ text.old.items ++ rule_text rule kind.now path.now) }
+{
+    text.extend_from_slice(rule.before_path())?;
+    text.extend_from_slice(kind)?;
+    text.extend_from_slice(b" '")?;
+    text.extend_from_slice(path)?;
+    text.extend_from_slice(b"'")?;
+    text.extend_from_slice(rule.behind_path())?;
+    Ok(())
+}
+
+/// What the lines of a unit speak of: its bytes and where their lines begin, its items, and the places of the structs of
+/// its mutexes.
+pub struct UnitText<'s> {
+    pub bytes: &'s [u8],
+    pub starts: &'s LineStarts<'s>,
+    pub items: &'s [ThinItem],
+    pub structs: &'s [u32],
+}
+
+// Appends the line of a warning.
+#[tactic(auto, unfolding(crate::specs::Lines::warning_line))]
+fn push_line(
+    alloc: Global,
+    text: &mut Vec<u8>,
+    unit: &UnitText<'_>,
+    body: &BodyCode,
+    warning: &Warning,
+) -> Result<(), NoMemory>
+    requires starts { unit.now.starts.now ≡ unit.now.bytes.now }
+    requires structs { unit.now.structs.now ≡ map (struct_place unit.now.bytes.now (map item_of unit.now.items.now)) (map item_of unit.now.items.now) }
+    requires point { warning.now.point < length body.now.points.items }
+    ensures { OnOk result (text.new.items ≡ text.old.items ++ warning_line unit.now.bytes.now (map item_of unit.now.items.now) (body_view body.now) (warning_view warning.now)) }
+{
+    let place = body.points[warning.point as usize].place;
+    unit.starts.place(place).append_to(alloc, text)?;
+    text.extend_from_slice(warning.rule.code())?;
+    text.extend_from_slice(b" in ")?;
+    text.extend_from_slice(body.name.text_in(unit.bytes))?;
+    text.extend_from_slice(b": ")?;
+    let kind = lock_text(unit.bytes, unit.items, unit.structs, warning.path);
+    let path = path_text(unit.bytes, unit.items, warning.path);
+    push_rule(text, warning.rule, kind, path)?;
+    text.extend_from_slice(b"\n")?;
+    Ok(())
+}
