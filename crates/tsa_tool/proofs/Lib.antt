@@ -1,1 +1,4 @@
 pub mod Lists
+pub mod Places
+pub mod Scopes
+pub mod Turns

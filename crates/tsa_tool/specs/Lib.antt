@@ -12,3 +12,4 @@ pub mod Program
 pub mod Warnings
 pub mod Limits
 pub mod Resolved
+pub mod Scopes

@@ -1,5 +1,5 @@
 -- The limits that a thin unit can pass.
-use Rattle.std.specs.Prelude.{ℕ, ◌+◌, ◌*◌, Bool, true, false, ◌&&◌, List, [], ◌∷◌, length, nat_le, sum_by}
+use Rattle.std.specs.Prelude.{ℕ, Bool, ◌&&◌, List, length, nat_le, sum_by}
 use Rattle.std.specs.List.{list_all}
 use Rattle.tsa_base.specs.declared.limits.TheConstants.{POINT_LIMIT, CAPABILITY_LIMIT, FUNCTION_LIMIT, PLACE_LIMIT}
 use Rattle.tsa_tree.specs.Items.{Item, lock, lock_function, mutex, number, body}

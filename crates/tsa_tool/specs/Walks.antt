@@ -1,5 +1,5 @@
 -- Walks through a body, and where a premise fails on one.
-use Rattle.std.specs.Prelude.{◌≡◌, ℕ, ◌+◌, true, false, Bool, length, Some, None, nat_lt, if◌then◌else◌}
+use Rattle.std.specs.Prelude.{◌≡◌, ℕ, ◌+◌, true, length, Some, None, nat_lt, if◌then◌else◌}
 use Rattle.std.specs.declared.option.Option.{Option}
 use Rattle.tsa_tool.specs.declared.rules.Rule.{Rule}
 use Rattle.tsa_tool.specs.Rules.{Body, Path, Status, Outcome, Next, Yes, No, Rest, entry, effect, breaks}

@@ -1,11 +1,11 @@
 -- The warnings of a body: the failing premises, ordered by point, rule and path.
-use Rattle.std.specs.Prelude.{ℕ, zero, suc, ◌+◌, Bool, true, false, List, [], ◌∷◌, ◌++◌, length, map, filter, if◌then◌else◌}
+use Rattle.std.specs.Prelude.{ℕ, zero, suc, ◌+◌, Bool, List, [], ◌∷◌, ◌++◌, length, map, filter, if◌then◌else◌}
 use Rattle.std.specs.List.{list_any, flat_map}
 use Rattle.std.specs.Ordering.{nat_cmp, is_lt}
 use Rattle.std.specs.Cmp.Lexicographic.{slice_cmp}
 use Rattle.tsa_tool.specs.declared.rules.Rule.{Rule}
 use Rattle.tsa_tool.specs.declared.rules.Rule.TheVariants.{TS02, TS06, TS07, TS09}
-use Rattle.tsa_tool.specs.Rules.{Path, path_eq, Attr, Action, write, call, finish, Body, Status, Next, entry, effect, breaks}
+use Rattle.tsa_tool.specs.Rules.{Path, path_eq, Action, write, call, finish, Body, Status, Next, entry, effect, breaks}
 
 -- The paths of a body: those that its points name, each where it comes first.
 

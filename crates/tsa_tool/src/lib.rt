@@ -5,10 +5,13 @@ mod answer;
 mod ask;
 mod check;
 mod command;
+mod names;
 mod narrow;
 mod program;
 mod reading;
 mod rules;
+mod scope;
+mod steps;
 mod top;
 
 pub use top::tool;
