@@ -17,4 +17,6 @@ mod top;
 pub use top::tool;
 
 #[cfg(test)]
+mod name_tests;
+#[cfg(test)]
 mod tests;
