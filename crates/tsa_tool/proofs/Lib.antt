@@ -9,3 +9,6 @@ pub mod ReadItems
 pub mod Braces
 pub mod Spelled
 pub mod PathLists
+pub mod Places
+pub mod Scopes
+pub mod Turns

@@ -15,3 +15,4 @@ pub mod Resolved
 pub mod Judging
 pub mod Lines
 pub mod Spelling
+pub mod Scopes

@@ -85,15 +85,27 @@ is_new bytes before name = is_none (named bytes before (span_text bytes name))
 abbrev pub has_struct : List ℕ → List Item → Span → Bool
 has_struct bytes before tag = is_some (struct_named bytes before (span_text bytes tag))
 
--- the item may stand behind those before it
-unfoldable pub fits : List ℕ → List Item → Item → Bool
-fits bytes before (lock kind tag member) = not (has_struct bytes before tag)
-fits bytes before (lock_function name tag param takes argument) =
+-- what the item itself names, its statements aside, may stand behind the items before it
+unfoldable pub head_fits : List ℕ → List Item → Item → Bool
+head_fits bytes before (lock kind tag member) = not (has_struct bytes before tag)
+head_fits bytes before (lock_function name tag param takes argument) =
     is_new bytes before name && (has_struct bytes before tag && (is_new bytes before param && (not (bytes_eq (span_text bytes param) (span_text bytes name)) && bytes_eq (span_text bytes argument) (span_text bytes param))))
-fits bytes before (mutex tag name) = is_new bytes before name && has_struct bytes before tag
-fits bytes before (number name None) = is_new bytes before name
-fits bytes before (number name (Some guard)) = is_new bytes before name && means is_mutex (meaning bytes before (span_text bytes guard))
-fits bytes before (body name steps end) = is_new bytes before name && list_all (step_fits bytes before) steps
+head_fits bytes before (mutex tag name) = is_new bytes before name && has_struct bytes before tag
+head_fits bytes before (number name None) = is_new bytes before name
+head_fits bytes before (number name (Some guard)) = is_new bytes before name && means is_mutex (meaning bytes before (span_text bytes guard))
+head_fits bytes before (body name steps end) = is_new bytes before name
+
+-- the statements of a body
+abbrev pub steps_of : Item → List ThinStep
+steps_of (lock kind tag member) = []
+steps_of (lock_function name tag param takes argument) = []
+steps_of (mutex tag name) = []
+steps_of (number name guard) = []
+steps_of (body name steps end) = steps
+
+-- the item may stand behind those before it
+abbrev pub fits : List ℕ → List Item → Item → Bool
+fits bytes before item = head_fits bytes before item && list_all (step_fits bytes before) (steps_of item)
 
 -- each item may stand behind those before it
 abbrev pub all_fit : List ℕ → List Item → List Item → Bool

@@ -58,14 +58,18 @@ unit_body bytes before name steps close = record {
   code = record { attrs = []; actions = map (action_of bytes before) steps ++ finish ∷ [] };
 }
 
+-- the body that an item is
+abbrev pub item_bodies : List ℕ → List Item → Item → List UnitBody
+item_bodies bytes before (lock kind tag member) = []
+item_bodies bytes before (lock_function name tag param takes argument) = []
+item_bodies bytes before (mutex tag name) = []
+item_bodies bytes before (number name guard) = []
+item_bodies bytes before (body name steps close) = unit_body bytes before name steps close ∷ []
+
 -- the bodies of the items behind some others, in order of the text
 abbrev pub bodies_behind : List ℕ → List Item → List Item → List UnitBody
 bodies_behind bytes before [] = []
-bodies_behind bytes before (lock kind tag member ∷ items) = bodies_behind bytes (before ++ lock kind tag member ∷ []) items
-bodies_behind bytes before (lock_function name tag param takes argument ∷ items) = bodies_behind bytes (before ++ lock_function name tag param takes argument ∷ []) items
-bodies_behind bytes before (mutex tag name ∷ items) = bodies_behind bytes (before ++ mutex tag name ∷ []) items
-bodies_behind bytes before (number name guard ∷ items) = bodies_behind bytes (before ++ number name guard ∷ []) items
-bodies_behind bytes before (body name steps close ∷ items) = unit_body bytes before name steps close ∷ bodies_behind bytes (before ++ body name steps close ∷ []) items
+bodies_behind bytes before (item ∷ items) = item_bodies bytes before item ++ bodies_behind bytes (before ++ item ∷ []) items
 
 abbrev pub bodies_of : List ℕ → List Item → List UnitBody
 bodies_of bytes items = bodies_behind bytes [] items

@@ -8,15 +8,20 @@ mod command;
 mod judge;
 mod laws;
 mod lines;
+mod names;
 mod narrow;
 mod paths;
 mod program;
 mod reading;
 mod rules;
+mod scope;
+mod steps;
 mod top;
 
 pub use laws::what_is_read_is_what_is_spelled;
 pub use top::tool;
 
+#[cfg(test)]
+mod name_tests;
 #[cfg(test)]
 mod tests;
