@@ -76,10 +76,13 @@ behind_path TS09 = codes " not as declared"
 unfoldable pub rule_text : Rule → List ℕ → List ℕ → List ℕ
 rule_text rule kind path = before_path rule ++ kind ++ codes " '" ++ path ++ codes "'" ++ behind_path rule
 
--- `L:C: TSnn in F: TEXT`, and the line end
+-- `L:C: TSnn in F: `
+unfoldable pub line_head : List ℕ → UnitBody → ℕ → Rule → List ℕ
+line_head bytes b point rule = place_text (place_at bytes (slice_index b.places point)) ++ rule_code rule ++ codes " in " ++ span_text bytes b.name ++ codes ": "
+
+-- the same, what the rule says, and the line end
 unfoldable pub warning_line : List ℕ → List Item → UnitBody → Warning → List ℕ
-warning_line bytes items b w =
-    place_text (place_at bytes (slice_index b.places w.point)) ++ rule_code w.rule ++ codes " in " ++ span_text bytes b.name ++ codes ": " ++ rule_text w.rule (lock_text bytes items w.path) (path_text bytes items w.path) ++ 10 ∷ []
+warning_line bytes items b w = line_head bytes b w.point w.rule ++ rule_text w.rule (lock_text bytes items w.path) (path_text bytes items w.path) ++ 10 ∷ []
 
 -- All lines of a unit, and how many they are.
 

@@ -1,16 +1,17 @@
 //! The lines of warnings. The texts of the rules stand here and nowhere else.
-ghost use Rattle.std.specs.Prelude.{◌≡◌, ◌<◌, ◌++◌, ◌∷◌, [], map, length, slice_index, OnOk};
+ghost use Rattle.std.specs.Prelude.{◌≡◌, ◌≤◌, ◌<◌, ◌+◌, ◌++◌, ◌∷◌, [], map, length, vec_len, slice_index, OnOk};
+ghost use Rattle.std.specs.List.{flat_map};
 ghost use Rattle.tsa_base.specs.Places.{place_at, place_text};
 ghost use Rattle.tsa_base.specs.Spans.{span_text};
 ghost use Rattle.tsa_tree.specs.Items.{item_of};
 ghost use Rattle.tsa_tool.specs.Rules.{global};
 ghost use Rattle.tsa_tool.specs.Resolved.{body_view};
 ghost use Rattle.tsa_tool.specs.Judging.{warning_view};
-ghost use Rattle.tsa_tool.specs.Lines.{struct_place, unquoted, lock_text, path_text, rule_code, before_path, behind_path, rule_text, warning_line};
+ghost use Rattle.tsa_tool.specs.Lines.{struct_place, unquoted, lock_text, path_text, rule_code, before_path, behind_path, rule_text, line_head, warning_line};
 
 use crate::judge::Warning;
 use crate::paths::path_text;
-use crate::program::BodyCode;
+use crate::program::{BodyCode, BodyPoint};
 use crate::rules::Rule;
 use std::alloc::Global;
 use tsa_base::{LineStarts, NoMemory};
@@ -102,6 +103,37 @@ pub struct UnitText<'s> {
     pub structs: &'s [u32],
 }
 
+// The byte where a point stands.
+fn point_place(points: &[BodyPoint], number: u32) -> u32
+    ensures { result ≡ slice_index (map (λ p. p.place) points.now) number }
+{
+    match points.get(number as usize) {
+        Some(point) => point.place,
+        None => 0,
+    }
+}
+
+// Appends what stands in front of a rule's text.
+#[tactic(auto, unfolding(crate::specs::Lines::line_head))]
+fn push_head(
+    alloc: Global,
+    text: &mut Vec<u8>,
+    unit: &UnitText<'_>,
+    body: &BodyCode,
+    warning: &Warning,
+) -> Result<(), NoMemory>
+    requires { unit.now.starts.now ≡ unit.now.bytes.now }
+    ensures { OnOk result (text.new.items ≡ text.old.items ++ line_head unit.now.bytes.now (body_view body.now) warning.now.point warning.now.rule) }
+{
+    let place = point_place(&body.points, warning.point);
+    unit.starts.place(place).append_to(alloc, text)?;
+    text.extend_from_slice(warning.rule.code())?;
+    text.extend_from_slice(b" in ")?;
+    text.extend_from_slice(body.name.text_in(unit.bytes))?;
+    text.extend_from_slice(b": ")?;
+    Ok(())
+}
+
 // Appends the line of a warning.
 #[tactic(auto, unfolding(crate::specs::Lines::warning_line))]
 fn push_line(
@@ -113,18 +145,32 @@ fn push_line(
 ) -> Result<(), NoMemory>
     requires starts { unit.now.starts.now ≡ unit.now.bytes.now }
     requires structs { unit.now.structs.now ≡ map (struct_place unit.now.bytes.now (map item_of unit.now.items.now)) (map item_of unit.now.items.now) }
-    requires point { warning.now.point < length body.now.points.items }
-    ensures { OnOk result (text.new.items ≡ text.old.items ++ warning_line unit.now.bytes.now (map item_of unit.now.items.now) (body_view body.now) (warning_view warning.now)) }
+    ensures line { OnOk result (text.new.items ≡ text.old.items ++ warning_line unit.now.bytes.now (map item_of unit.now.items.now) (body_view body.now) (warning_view warning.now)) }
+    ensures counted { OnOk result (vec_len text.old < vec_len text.new) }
 {
-    let place = body.points[warning.point as usize].place;
-    unit.starts.place(place).append_to(alloc, text)?;
-    text.extend_from_slice(warning.rule.code())?;
-    text.extend_from_slice(b" in ")?;
-    text.extend_from_slice(body.name.text_in(unit.bytes))?;
-    text.extend_from_slice(b": ")?;
+    push_head(alloc, text, unit, body, warning)?;
     let kind = lock_text(unit.bytes, unit.items, unit.structs, warning.path);
     let path = path_text(unit.bytes, unit.items, warning.path);
     push_rule(text, warning.rule, kind, path)?;
     text.extend_from_slice(b"\n")?;
+    Ok(())
+}
+
+// Appends the lines of a body's warnings.
+fn push_lines(
+    alloc: Global,
+    text: &mut Vec<u8>,
+    unit: &UnitText<'_>,
+    body: &BodyCode,
+    warnings: &[Warning],
+) -> Result<(), NoMemory>
+    requires starts { unit.now.starts.now ≡ unit.now.bytes.now }
+    requires structs { unit.now.structs.now ≡ map (struct_place unit.now.bytes.now (map item_of unit.now.items.now)) (map item_of unit.now.items.now) }
+    ensures lines { OnOk result (text.new.items ≡ text.old.items ++ flat_map (warning_line unit.now.bytes.now (map item_of unit.now.items.now) (body_view body.now)) (map warning_view warnings.now)) }
+    ensures counted { OnOk result (vec_len text.old + length warnings.now ≤ vec_len text.new) }
+{
+    'warnings: for warning in warnings {
+        push_line(alloc, text, unit, body, warning)?;
+    }
     Ok(())
 }

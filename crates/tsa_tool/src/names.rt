@@ -1,5 +1,5 @@
 //! The names of a unit, resolved item by item.
-ghost use Rattle.std.specs.Prelude.{◌≡◌, ◌≤◌, ◌∷◌, ◌++◌, [], Some, None, true, length, map, IfOk, if◌then◌else◌};
+ghost use Rattle.std.specs.Prelude.{◌≡◌, ◌≤◌, ◌∷◌, ◌++◌, [], Some, None, true, length, map, IfOk, IfSome, if◌then◌else◌};
 ghost use Rattle.std.specs.List.{list_all};
 ghost use Rattle.std.specs.Option.{option_map};
 ghost use Rattle.tsa_base.specs.Spans.{span_text};
@@ -8,10 +8,13 @@ ghost use Rattle.tsa_tree.specs.Items.{item_of};
 ghost use Rattle.tsa_tool.specs.Names.{means, meaning, is_mutex, step_fits, head_fits, steps_of, fits, all_fit};
 ghost use Rattle.tsa_tool.specs.Program.{item_bodies, bodies_of};
 ghost use Rattle.tsa_tool.specs.Resolved.{body_view, program_view};
+ghost use Rattle.tsa_tool.specs.Lines.{struct_place};
 ghost use Rattle.tsa_tool.specs.Scopes.{Knows};
 
 use crate::program::{BodyCode, Program};
-use crate::scope::{Scope, empty_scope, enter, has_struct, is_new, meaning, same_text};
+use crate::scope::{
+    Scope, empty_scope, enter, has_struct, is_new, meaning, same_text, struct_places,
+};
 use crate::steps::body_code;
 use std::alloc::Global;
 use tsa_base::{INPUT_LIMIT, NoMemory, Span};
@@ -114,8 +117,10 @@ fn take_item<'s>(
 /// The bodies of a unit with their names resolved, or `None` where an item may not stand behind those before it.
 pub fn resolve(alloc: Global, bytes: &[u8], items: &[ThinItem]) -> Result<Option<Program>, NoMemory>
     requires { length items.now ≤ INPUT_LIMIT }
-    ensures { IfOk result (λ program. option_map program_view program
+    ensures bodies { IfOk result (λ program. option_map program_view program
         ≡ (if all_fit bytes.now [] (map item_of items.now) then Some (bodies_of bytes.now (map item_of items.now)) else None)) }
+    ensures structs { IfOk result (λ program. IfSome program (λ p. p.structs.items
+        ≡ map (struct_place bytes.now (map item_of items.now)) (map item_of items.now))) }
 {
     let mut scope = empty_scope(alloc, bytes);
     let mut bodies = Vec::new(alloc);
@@ -131,5 +136,6 @@ pub fn resolve(alloc: Global, bytes: &[u8], items: &[ThinItem]) -> Result<Option
             return Ok(None);
         }
     }
-    Ok(Some(Program { bodies }))
+    let structs = struct_places(alloc, &scope, bytes, items)?;
+    Ok(Some(Program { bodies, structs }))
 }

@@ -29,8 +29,9 @@ pub struct BodyCode {
     pub points: Vec<BodyPoint>,
 }
 
-/// The bodies of a unit, in order of the text.
+/// The bodies of a unit, in order of the text, and for each item the place of the struct of a mutex, 0 for other items.
 #[derive(Drop)]
 pub struct Program {
     pub bodies: Vec<BodyCode>,
+    pub structs: Vec<u32>,
 }

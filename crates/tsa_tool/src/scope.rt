@@ -1,11 +1,12 @@
 //! What was declared so far, by name.
-ghost use Rattle.std.specs.Prelude.{◌≡◌, ◌<◌, ◌^◌, ℕ, ◌∷◌, ◌++◌, [], List, OnOk, Some, true, length, map};
+ghost use Rattle.std.specs.Prelude.{◌≡◌, ◌<◌, ◌^◌, ℕ, ◌∷◌, ◌++◌, [], List, OnOk, IfOk, Some, true, length, map};
 ghost use Rattle.std.specs.Map.{update};
 ghost use Rattle.std.specs.Option.{option_map};
 ghost use Rattle.std.specs.Str.{bytes_eq};
 ghost use Rattle.tsa_base.specs.Spans.{span_text};
 ghost use Rattle.tsa_tree.specs.Items.{item_of};
 ghost use Rattle.tsa_tool.specs.Names.{has_struct, is_new, named, meaning, head_fits};
+ghost use Rattle.tsa_tool.specs.Lines.{struct_place};
 ghost use Rattle.tsa_tool.specs.Scopes.{place_in, Knows};
 
 use std::alloc::Global;
@@ -115,4 +116,31 @@ pub fn enter<'s>(
         ThinItem::Number { name, .. } => put(&mut scope.names, bytes, *name, place),
         ThinItem::Body { name, .. } => put(&mut scope.names, bytes, *name, place),
     }
+}
+
+fn struct_place(scope: &Scope<'_>, bytes: &[u8], items: &[ThinItem], item: &ThinItem) -> u32
+    requires { Knows scope.now bytes.now (map item_of items.now) }
+    ensures { result ≡ struct_place bytes.now (map item_of items.now) (item_of item.now) }
+{
+    match item {
+        ThinItem::Mutex { tag, .. } => place_of(&scope.tags, tag.text_in(bytes)).unwrap_or(0),
+        _ => 0,
+    }
+}
+
+/// For each item the place of the struct of a mutex, and 0 for other items.
+pub fn struct_places(
+    alloc: Global,
+    scope: &Scope<'_>,
+    bytes: &[u8],
+    items: &[ThinItem],
+) -> Result<Vec<u32>, NoMemory>
+    requires { Knows scope.now bytes.now (map item_of items.now) }
+    ensures { IfOk result (λ places. places.items ≡ map (struct_place bytes.now (map item_of items.now)) (map item_of items.now)) }
+{
+    let mut places = Vec::new(alloc);
+    'items: for item in items {
+        places.push(struct_place(scope, bytes, items, item))?;
+    }
+    Ok(places)
 }
