@@ -16,3 +16,4 @@ pub mod Judging
 pub mod Lines
 pub mod Spelling
 pub mod Scopes
+pub mod Warned

@@ -1,5 +1,5 @@
 -- The lines of warnings.
-use Rattle.std.specs.Prelude.{ℕ, ◌+◌, ◌-◌, Bool, true, false, List, [], ◌∷◌, ◌++◌, length, take, drop, map, Some, None, slice_get, slice_index, option_and_then, unwrap_or, codes, sum_by}
+use Rattle.std.specs.Prelude.{ℕ, ◌+◌, ◌-◌, Bool, true, false, List, [], ◌∷◌, ◌++◌, length, take, drop, map, Some, None, slice_get, slice_index, option_and_then, unwrap_or, codes}
 use Rattle.std.specs.declared.option.Option.{Option}
 use Rattle.std.specs.List.{flat_map}
 use Rattle.std.specs.Option.{option_map_or}
@@ -92,8 +92,19 @@ warnings_of bytes items b = body_warnings (path_text bytes items) b.code
 abbrev pub body_lines : List ℕ → List Item → UnitBody → List ℕ
 body_lines bytes items b = flat_map (warning_line bytes items b) (warnings_of bytes items b)
 
-unfoldable pub unit_lines : List ℕ → List Item → List UnitBody → List ℕ
-unit_lines bytes items bodies = flat_map (body_lines bytes items) bodies
+-- the lines of a unit, and how many they are
+pub record Warned : Type 0 where
+  pub text : List ℕ
+  pub count : ℕ
 
-unfoldable pub unit_count : List ℕ → List Item → List UnitBody → ℕ
-unit_count bytes items bodies = sum_by (λ b. length (warnings_of bytes items b)) bodies
+-- those of a body behind others
+abbrev pub with_body : List ℕ → List Item → Warned → UnitBody → Warned
+with_body bytes items w b = record { text = w.text ++ body_lines bytes items b; count = w.count + length (warnings_of bytes items b) }
+
+-- those of all bodies
+abbrev pub with_bodies : List ℕ → List Item → Warned → List UnitBody → Warned
+with_bodies bytes items w [] = w
+with_bodies bytes items w (b ∷ bodies) = with_bodies bytes items (with_body bytes items w b) bodies
+
+abbrev pub unit_warned : List ℕ → List Item → List UnitBody → Warned
+unit_warned bytes items bodies = with_bodies bytes items (record { text = []; count = 0 }) bodies

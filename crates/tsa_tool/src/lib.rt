@@ -7,6 +7,7 @@ mod check;
 mod command;
 mod judge;
 mod laws;
+mod limits;
 mod lines;
 mod names;
 mod narrow;
@@ -17,6 +18,7 @@ mod rules;
 mod scope;
 mod steps;
 mod top;
+mod warn;
 
 pub use laws::what_is_read_is_what_is_spelled;
 pub use top::tool;

@@ -156,8 +156,8 @@ fn push_line(
     Ok(())
 }
 
-// Appends the lines of a body's warnings.
-fn push_lines(
+/// Appends the lines of a body's warnings, in their order.
+pub fn push_lines(
     alloc: Global,
     text: &mut Vec<u8>,
     unit: &UnitText<'_>,
