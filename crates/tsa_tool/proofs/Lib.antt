@@ -8,3 +8,10 @@ pub mod SpelledItems
 pub mod ReadItems
 pub mod Braces
 pub mod Spelled
+pub mod Members
+pub mod WalkLemmas
+pub mod PathLemmas
+pub mod SortLemmas
+pub mod NamedLemmas
+pub mod WarningLemmas
+pub mod WarningLaw

@@ -14,3 +14,4 @@ pub mod Limits
 pub mod Resolved
 pub mod Judging
 pub mod Spelling
+pub mod WarningLaws

@@ -13,7 +13,7 @@ mod reading;
 mod rules;
 mod top;
 
-pub use laws::what_is_read_is_what_is_spelled;
+pub use laws::{warnings_are_the_failing_premises, what_is_read_is_what_is_spelled};
 pub use top::tool;
 
 #[cfg(test)]
