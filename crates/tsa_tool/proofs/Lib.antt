@@ -12,3 +12,10 @@ pub mod PathLists
 pub mod Places
 pub mod Scopes
 pub mod Turns
+pub mod Members
+pub mod WalkLemmas
+pub mod PathLemmas
+pub mod SortLemmas
+pub mod NamedLemmas
+pub mod WarningLemmas
+pub mod WarningLaw
