@@ -19,3 +19,4 @@ pub mod SortLemmas
 pub mod NamedLemmas
 pub mod WarningLemmas
 pub mod WarningLaw
+pub mod Onces
