@@ -1,5 +1,5 @@
 //! All tokens of a text.
-ghost use Rattle.std.specs.Prelude.{◌≡◌, ◌≤◌, ◌+◌, IfOk, IsErrOf, Some, None, length, take, drop, map};
+ghost use Rattle.std.specs.Prelude.{◌≡◌, ◌≤◌, ◌+◌, IfOk, IsErrOf, Some, None, length, take, drop, map, vec_len};
 ghost use Rattle.tsa_base.specs.declared.limits.TheConstants.{INPUT_LIMIT};
 ghost use Rattle.tsa_base.specs.Tokens.{lexeme};
 ghost use Rattle.tsa_lex.specs.Thin.{thin_tokens};
@@ -24,6 +24,7 @@ pub enum LexRefusal {
 pub fn lex<'s>(alloc: Global, source: &'s [u8]) -> Result<Vec<Token<'s>>, LexRefusal>
     requires { length source.now ≤ INPUT_LIMIT }
     ensures tokens { IfOk result (λ tokens. thin_tokens source.now ≡ Some (map lexeme tokens.items)) }
+    ensures count { IfOk result (λ tokens. vec_len tokens ≤ length source.now) }
     ensures not_built { IsErrOf result LexRefusal.NotBuilt → thin_tokens source.now ≡ None }
 {
     let mut tokens = Vec::new(alloc);

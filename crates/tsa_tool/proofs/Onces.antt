@@ -1,11 +1,10 @@
 -- The paths of a body in order are its paths, each once.
-use Rattle.std.proofs.Common.{◌≡◌, ℕ, zero, suc, ◌+◌, Bool, true, false, ◌||◌, List, [], ◌∷◌, ◌++◌, map, Option, Some, None, refl, sym, ap, ◌∙◌, arith, cond}
+use Rattle.std.proofs.Common.{◌≡◌, ℕ, zero, suc, ◌+◌, Bool, true, false, ◌||◌, List, [], ◌∷◌, ◌++◌, Option, Some, None, refl, sym, ap, ◌∙◌, arith, cond}
 use Rattle.std.proofs.lemmas.Bool.Decides.{nat_tests}
-use Rattle.std.specs.Prelude.{◌==◌}
 use Rattle.std.specs.List.{list_any, flat_map}
 use Rattle.tsa_tool.specs.declared.program.BodyPoint.{BodyPoint}
 use Rattle.tsa_tool.specs.Resolved.{code_of}
-use Rattle.tsa_tool.specs.Rules.{Path, global, path_eq, Body}
+use Rattle.tsa_tool.specs.Rules.{Path, global, path_eq}
 use Rattle.tsa_tool.specs.Warnings.{action_paths, with_path, with_paths, paths_of, comes_before, insert_by, sorted_by}
 use Rattle.tsa_tool.specs.Judging.{times, ArePathsOf}
 

@@ -1,16 +1,16 @@
 -- The paths of a body, found point by point, and put in order.
-use Rattle.std.proofs.Common.{◌≡◌, ℕ, zero, suc, ◌+◌, ◌-◌, ◌<◌, ◌≤◌, Bool, true, false, not, List, [], ◌∷◌, ◌++◌, length, take, drop, get_or, map, Option, None, Some, refl, sym, ap, ◌∙◌, append_assoc, drop-cons, arith, cond}
+use Rattle.std.proofs.Common.{◌≡◌, ℕ, zero, suc, ◌+◌, ◌-◌, ◌<◌, ◌≤◌, Bool, true, false, not, List, [], ◌∷◌, ◌++◌, length, take, drop, get_or, map, None, Some, refl, sym, ap, ◌∙◌, drop-cons, arith}
 use Rattle.std.proofs.lemmas.Bool.Decides.{nat_tests}
 use Rattle.std.proofs.lemmas.List.{length-append, map-append}
-use Rattle.std.specs.Prelude.{◌==◌, nat_le, if◌then◌else◌, insert}
+use Rattle.std.specs.Prelude.{◌==◌, nat_le}
 use Rattle.std.specs.List.{list_any, flat_map, prefix_len}
 use Rattle.tsa_base.specs.declared.limits.TheConstants.{CAPABILITY_LIMIT}
 use Rattle.tsa_tool.specs.declared.program.BodyPoint.{BodyPoint}
 use Rattle.tsa_tool.specs.declared.program.PointAction.{PointAction}
 use Rattle.tsa_tool.specs.declared.program.PointAction.TheVariants.{Take, Give, Write, End}
-use Rattle.tsa_tool.specs.Resolved.{point_action, code_of}
+use Rattle.tsa_tool.specs.Resolved.{point_action}
 use Rattle.tsa_tool.specs.Rules.{Path, global, path_eq}
-use Rattle.tsa_tool.specs.Warnings.{action_paths, with_path, with_paths, paths_of, comes_before, insert_by, sorted_by}
+use Rattle.tsa_tool.specs.Warnings.{action_paths, with_path, with_paths, comes_before, insert_by}
 use Rattle.tsa_tool.specs.Judging.{lock_of}
 use Rattle.tsa_tool.proofs.Judged.{own_path}
 

@@ -1,6 +1,5 @@
 pub mod Commands
 pub mod Reading
-pub mod Narrow
 pub mod Checks
 pub mod Reports
 pub mod Runs

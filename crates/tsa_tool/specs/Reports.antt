@@ -1,12 +1,13 @@
 -- What is written for the words and the input, and the status.
-use Rattle.std.specs.Prelude.{ℕ, ◌+◌, min, List, [], ◌∷◌, ◌++◌, length, Some, None, Ok, Err, codes, if◌then◌else◌, nat_lt}
+use Rattle.std.specs.Prelude.{ℕ, ◌+◌, min, List, [], ◌∷◌, ◌++◌, length, Some, None, Ok, Err, codes, ◌==◌, if◌then◌else◌, nat_lt}
 use Rattle.std.specs.declared.option.Option.{Option}
 use Rattle.std.specs.declared.result.Result.{Result}
 use Rattle.tsa_base.specs.declared.limits.TheConstants.{INPUT_LIMIT}
-use Rattle.tsa_tree.specs.Items.{Item}
-use Rattle.tsa_tool.specs.Checks.{unit_of}
+use Rattle.std.specs.Fmt.{decimal}
+use Rattle.tsa_tool.specs.Checks.{warned_in}
+use Rattle.tsa_tool.specs.Lines.{Warned}
 use Rattle.tsa_tool.specs.declared.answer.Status.{Status}
-use Rattle.tsa_tool.specs.declared.answer.Status.TheVariants.{Accepted, Refused, WordsRefused}
+use Rattle.tsa_tool.specs.declared.answer.Status.TheVariants.{Accepted, Warned as Warns, Refused, WordsRefused, LimitPassed}
 use Rattle.tsa_tool.specs.declared.check.Refusal.{Refusal}
 use Rattle.tsa_tool.specs.declared.check.Refusal.TheVariants.{NotBuilt}
 use Rattle.tsa_tool.specs.declared.command.Command.{Command}
@@ -19,8 +20,10 @@ pub record Report : Type 0 where
 -- the number of a status
 abbrev pub status_number : Status → ℕ
 status_number Accepted = 0
+status_number Warns = 1
 status_number Refused = 2
 status_number WordsRefused = 3
+status_number LimitPassed = 7
 
 -- one line
 abbrev pub line : List ℕ → List ℕ
@@ -29,28 +32,32 @@ line text = text ++ 10 ∷ []
 abbrev pub words_refused : Report
 words_refused = record { status = WordsRefused; text = line (codes "words refused") }
 
-abbrev pub not_built : Report
-not_built = record { status = Refused; text = line (codes "NB0 form is not built yet") }
+abbrev pub too_long : Report
+too_long = record { status = LimitPassed; text = line (codes "LM1 over 1048576 bytes") }
 
 -- the line and the status of a refusal of these bytes
 abbrev pub refused_report : List ℕ → Refusal → Report
-refused_report bytes NotBuilt = not_built
+refused_report bytes NotBuilt = record { status = Refused; text = line (codes "NB0 form is not built yet") }
 
 abbrev pub accepted : Report
 accepted = record { status = Accepted; text = line (codes "accepted") }
 
-abbrev pub unit_report : List ℕ → Result (List Item) Refusal → Report
-unit_report bytes (Ok unit) = accepted
+-- the lines of the warnings and their count, or that there are none
+abbrev pub warned_report : Warned → Report
+warned_report w = if w.count == 0 then accepted else record { status = Warns; text = w.text ++ (codes "warnings: " ++ decimal w.count ++ 10 ∷ []) }
+
+abbrev pub unit_report : List ℕ → Result Warned Refusal → Report
+unit_report bytes (Ok w) = warned_report w
 unit_report bytes (Err refusal) = refused_report bytes refusal
 
 -- what `check` answers to an input that is short enough
 unfoldable pub judged : List ℕ → Report
-judged bytes = unit_report bytes (unit_of bytes)
+judged bytes = unit_report bytes (warned_in bytes)
 
 -- what a command answers to an input
 abbrev pub report_on : Option Command → List ℕ → Report
 report_on None bytes = words_refused
-report_on (Some Check) bytes = if nat_lt INPUT_LIMIT (length bytes) then not_built else judged bytes
+report_on (Some Check) bytes = if nat_lt INPUT_LIMIT (length bytes) then too_long else judged bytes
 
 -- how many bytes of an input a command reads
 abbrev pub input_read : Option Command → List ℕ → ℕ

@@ -1,10 +1,13 @@
 //! What is answered to an input.
-ghost use Rattle.std.specs.Prelude.{◌≡◌, ◌≤◌, IfOk, length};
+ghost use Rattle.std.specs.Prelude.{◌≡◌, ◌≤◌, ◌∷◌, ◌++◌, [], codes, IfOk, OnOk, length};
 ghost use Rattle.tsa_base.specs.declared.limits.TheConstants.{INPUT_LIMIT};
-ghost use Rattle.tsa_tool.specs.Reports.{status_number, words_refused, not_built, judged, accepted, refused_report};
+ghost use Rattle.tsa_tool.specs.Reports.{status_number, words_refused, too_long, judged, accepted, warned_report, refused_report};
 ghost use Rattle.tsa_tool.specs.Answer.{report_of};
+ghost use Rattle.tsa_tool.specs.Warned.{warned_of};
+ghost use Rattle.std.specs.Fmt.{decimal};
 
 use crate::check::{Refusal, ToolRefusal, check_unit};
+use crate::warn::UnitLines;
 use std::alloc::Global;
 use tsa_base::NoMemory;
 
@@ -12,8 +15,10 @@ use tsa_base::NoMemory;
 #[derive(Clone, Copy, Debug, PartialEq, Eq)]
 pub enum Status {
     Accepted,
+    Warned,
     Refused,
     WordsRefused,
+    LimitPassed,
 }
 
 impl Status {
@@ -23,8 +28,10 @@ impl Status {
     {
         match self {
             Status::Accepted => 0,
+            Status::Warned => 1,
             Status::Refused => 2,
             Status::WordsRefused => 3,
+            Status::LimitPassed => 7,
         }
     }
 }
@@ -45,9 +52,9 @@ pub fn refuse_words(alloc: Global) -> Result<Answer, NoMemory>
 
 /// The answer to an input that is too long.
 pub fn refuse_length(alloc: Global) -> Result<Answer, NoMemory>
-    ensures { IfOk result (λ answer. report_of answer ≡ not_built) }
+    ensures { IfOk result (λ answer. report_of answer ≡ too_long) }
 {
-    refuse(alloc, b"", Refusal::NotBuilt)
+    answer_of(alloc, Status::LimitPassed, b"LM1 over 1048576 bytes\n")
 }
 
 /// What `check` answers to an input that is short enough.
@@ -57,10 +64,35 @@ pub fn check(alloc: Global, bytes: &[u8]) -> Result<Answer, NoMemory>
     ensures { IfOk result (λ answer. report_of answer ≡ judged bytes.now) }
 {
     match check_unit(alloc, bytes) {
-        Ok(_) => accept(alloc),
+        Ok(lines) => warned(alloc, lines),
         Err(ToolRefusal::Refused(refusal)) => refuse(alloc, bytes, refusal),
         Err(ToolRefusal::NoMemory) => Err(NoMemory),
     }
+}
+
+// The answer to a unit: the lines of its warnings and how many they are, or that there are none.
+fn warned(alloc: Global, lines: UnitLines) -> Result<Answer, NoMemory>
+    ensures { IfOk result (λ answer. report_of answer ≡ warned_report (warned_of lines)) }
+{
+    if lines.count == 0 {
+        return accept(alloc);
+    }
+    let UnitLines { mut text, count } = lines;
+    push_count(alloc, &mut text, count)?;
+    Ok(Answer {
+        status: Status::Warned,
+        text,
+    })
+}
+
+fn push_count(alloc: Global, text: &mut Vec<u8>, count: usize) -> Result<(), NoMemory>
+    ensures { OnOk result (text.new.items ≡ text.old.items ++ (codes "warnings: " ++ decimal count ++ 10 ∷ [])) }
+{
+    let number = count.to_string(alloc)?;
+    text.extend_from_slice(b"warnings: ")?;
+    text.extend_from_slice(number.as_bytes())?;
+    text.extend_from_slice(b"\n")?;
+    Ok(())
 }
 
 fn accept(alloc: Global) -> Result<Answer, NoMemory>

@@ -10,7 +10,6 @@ mod laws;
 mod limits;
 mod lines;
 mod names;
-mod narrow;
 mod paths;
 mod program;
 mod reading;

@@ -96,6 +96,7 @@ fn push_rule(text: &mut Vec<u8>, rule: Rule, kind: &[u8], path: &[u8]) -> Result
 
 /// What the lines of a unit speak of: its bytes and where their lines begin, its items, and the places of the structs of
 /// its mutexes.
+#[derive(Drop)]
 pub struct UnitText<'s> {
     pub bytes: &'s [u8],
     pub starts: &'s LineStarts<'s>,

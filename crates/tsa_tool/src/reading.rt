@@ -1,5 +1,5 @@
 //! Reads the thin grammar from tokens: each function reads one part of it at a place, and gives the place behind it.
-ghost use Rattle.std.specs.Prelude.{◌≡◌, map, length, IfOk};
+ghost use Rattle.std.specs.Prelude.{◌≡◌, ◌≤◌, map, length, vec_len, IfOk, IfSome};
 ghost use Rattle.std.specs.Option.{option_map};
 ghost use Rattle.std.specs.Str.{bytes_eq};
 ghost use Rattle.tsa_base.specs.Tokens.{lexeme};
@@ -306,7 +306,8 @@ fn item(
 /// The unit that the tokens spell, where they spell one.
 #[tactic(auto, using(crate::proofs::Lists::items_begin, crate::proofs::Lists::items_more, crate::proofs::Lists::items_done, crate::proofs::Lists::items_bad, crate::proofs::Lists::items_out))]
 pub fn read_unit(alloc: Global, tokens: &[Token<'_>]) -> Result<Option<ThinUnit>, NoMemory>
-    ensures { IfOk result (λ unit. option_map (λ u. map item_of u.items.items) unit ≡ items_of (map lexeme tokens.now)) }
+    ensures items { IfOk result (λ unit. option_map (λ u. map item_of u.items.items) unit ≡ items_of (map lexeme tokens.now)) }
+    ensures count { IfOk result (λ unit. IfSome unit (λ u. vec_len u.items ≤ length tokens.now)) }
 {
     let mut items = Vec::new(alloc);
     let mut at = 0;

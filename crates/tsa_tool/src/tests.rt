@@ -4,15 +4,19 @@ use std::alloc::Global;
 use std::io;
 use std::io::{Read, Write};
 use std::test::Fail;
-use tsa_base::{HonestSink, HonestSource, MemorySink, MemorySource, ReaderSource, WriterSink};
+use tsa_base::{
+    HonestSink, HonestSource, INPUT_LIMIT, MemorySink, MemorySource, ReaderSource, WriterSink,
+};
 
-const LOCKED_WRITE: &[u8] = b"struct CAPABILITY(\"mutex\") lock { int s; };
+// One lock, its two functions, a mutex and a number that it guards, on five lines.
+const LOCKS: &[u8] = b"struct CAPABILITY(\"mutex\") lock { int s; };
 void acq(struct lock *m) ACQUIRE(m);
 void rel(struct lock *m) RELEASE(m);
 struct lock mu;
 int g GUARDED_BY(mu);
-void w(void) { acq(&mu); g = 1; rel(&mu); }
 ";
+
+const LOCKED_WRITE: &[u8] = b"void w(void) { acq(&mu); g = 1; rel(&mu); }";
 
 const NOT_BUILT: &str = "NB0 form is not built yet\n";
 
@@ -24,20 +28,26 @@ fn words_of(alloc: Global, words: &[&str]) -> Result<Vec<String>, Fail> {
     Ok(list)
 }
 
+// A text behind the five lines.
+fn behind_locks(alloc: Global, text: &[u8]) -> Result<Vec<u8>, Fail> {
+    let mut unit = LOCKS.to_vec(alloc)?;
+    unit.extend_from_slice(text)?;
+    Ok(unit)
+}
+
 #[test]
-fn words_and_units_are_answered(rt: HostRuntime) -> Result<(), Fail> {
+fn words_are_answered(rt: HostRuntime) -> Result<(), Fail> {
     let alloc = rt.alloc();
-    let rows: [(&[&str], &[u8], &str, u8); 6] = [
-        (&["check"], LOCKED_WRITE, "accepted\n", 0),
-        (&["check"], b"int a[2];", NOT_BUILT, 2),
-        (&["check"], b"int a; int b;", NOT_BUILT, 2),
-        (&[], LOCKED_WRITE, "words refused\n", 3),
-        (&["lint"], LOCKED_WRITE, "words refused\n", 3),
-        (&["check", "check"], LOCKED_WRITE, "words refused\n", 3),
+    let unit = behind_locks(alloc, LOCKED_WRITE)?;
+    let rows: [(&[&str], &str, u8); 4] = [
+        (&["check"], "accepted\n", 0),
+        (&[], "words refused\n", 3),
+        (&["lint"], "words refused\n", 3),
+        (&["check", "check"], "words refused\n", 3),
     ];
-    for (words, unit, text, status) in rows {
+    for (words, text, status) in rows {
         let words = words_of(alloc, words)?;
-        let mut source = HonestSource::new(alloc, unit)?;
+        let mut source = HonestSource::new(alloc, &unit)?;
         let mut sink = HonestSink::new(alloc);
         assert_eq!(rt; tool(alloc, &words, &mut source, &mut sink), status);
         assert_eq!(rt; sink.taken(), text.as_bytes());
@@ -45,46 +55,163 @@ fn words_and_units_are_answered(rt: HostRuntime) -> Result<(), Fail> {
     Ok(())
 }
 
-// The text with the first occurrence of some bytes replaced.
-fn replaced(alloc: Global, text: &[u8], from: &[u8], to: &[u8]) -> Result<Vec<u8>, Fail> {
-    let mut all = Vec::new(alloc);
-    for at in 0..text.len() {
-        if let Some(behind) = text[at..].strip_prefix(from) {
-            all.extend_from_slice(&text[..at])?;
-            all.extend_from_slice(to)?;
-            all.extend_from_slice(behind)?;
-            break;
-        }
+#[test]
+fn units_are_checked(rt: HostRuntime) -> Result<(), Fail> {
+    let alloc = rt.alloc();
+    let words = words_of(alloc, &["check"])?;
+    let rows: [(&[u8], &str, u8); 9] = [
+        (LOCKED_WRITE, "accepted\n", 0),
+        (
+            b"void w(void) { g = 1; }",
+            "6:16: TS02 in w: writing needs mutex 'mu' exclusively\nwarnings: 1\n",
+            1,
+        ),
+        (
+            b"void w(void) { acq(&mu); acq(&mu); }",
+            "6:26: TS06 in w: mutex 'mu' is acquired while held or pending\n6:36: TS09 in w: returning with mutex 'mu' not as declared\nwarnings: 2\n",
+            1,
+        ),
+        (
+            b"void w(void) { rel(&mu); }",
+            "6:16: TS07 in w: mutex 'mu' is released while not held\nwarnings: 1\n",
+            1,
+        ),
+        // A number without a guard may be written anywhere, and each body is judged by itself.
+        (
+            b"int h; void a(void) { h = 1; } void b(void) { }",
+            "accepted\n",
+            0,
+        ),
+        // At the end the paths come in the order of their texts.
+        (
+            b"struct lock z;\nstruct lock a;\nvoid w(void) {\n  acq(&z);\n  acq(&a);\n}",
+            "11:1: TS09 in w: returning with mutex 'a' not as declared\n11:1: TS09 in w: returning with mutex 'z' not as declared\nwarnings: 2\n",
+            1,
+        ),
+        // The bodies come in the order of the text, and the points of each in theirs.
+        (
+            b"void b(void) { rel(&mu); g = 2; }\nvoid a(void) { g = 3; }",
+            "6:16: TS07 in b: mutex 'mu' is released while not held\n6:26: TS02 in b: writing needs mutex 'mu' exclusively\n7:16: TS02 in a: writing needs mutex 'mu' exclusively\nwarnings: 3\n",
+            1,
+        ),
+        (b"int a[2];", NOT_BUILT, 2),
+        (b"int x /* guarded? */;", NOT_BUILT, 2),
+    ];
+    for (text, answer, status) in rows {
+        let unit = behind_locks(alloc, text)?;
+        let mut source = HonestSource::new(alloc, &unit)?;
+        let mut sink = HonestSink::new(alloc);
+        assert_eq!(rt;
+            tool(alloc, &words, &mut source, &mut sink),
+            status,
+            "{answer}"
+        );
+        assert_eq!(rt; sink.taken(), answer.as_bytes(), "{answer}");
     }
-    Ok(all)
+    Ok(())
 }
 
 #[test]
-fn a_unit_without_one_condition_is_not_built(rt: HostRuntime) -> Result<(), Fail> {
+fn names_out_of_place_are_not_built(rt: HostRuntime) -> Result<(), Fail> {
     let alloc = rt.alloc();
     let words = words_of(alloc, &["check"])?;
-    let rows: [(&[u8], &[u8], &str); 13] = [
-        (b"g = 1;", b"g = 1; g = 2;", "accepted\n"),
-        (b"g = 1; ", b"", "accepted\n"),
-        (b"int g ", b"int mu ", NOT_BUILT),
-        (b"void rel(", b"void acq(", NOT_BUILT),
-        (b"g = 1", b"h = 1", NOT_BUILT),
-        (b"rel(&mu); }", b"}", NOT_BUILT),
-        (b"acq(&mu);", b"rel(&mu);", NOT_BUILT),
-        (b"ACQUIRE(m)", b"RELEASE(m)", NOT_BUILT),
-        (b"ACQUIRE(m)", b"ACQUIRE(n)", NOT_BUILT),
-        (b"*m) RELEASE(m)", b"*acq) RELEASE(acq)", NOT_BUILT),
-        (b"GUARDED_BY(mu)", b"GUARDED_BY(g)", NOT_BUILT),
-        (b"struct lock mu", b"struct block mu", NOT_BUILT),
-        (b"lock mu;", b"lock NULL;", NOT_BUILT),
+    let rows: [&[u8]; 12] = [
+        b"int mu;",
+        b"struct CAPABILITY(\"mutex\") lock { int t; };",
+        b"struct block other;",
+        b"void acq(struct lock *n) ACQUIRE(n);",
+        b"void take(struct lock *take) ACQUIRE(take);",
+        b"void take(struct lock *g) ACQUIRE(g);",
+        b"void take(struct lock *n) ACQUIRE(m);",
+        b"int h GUARDED_BY(g);",
+        b"int h GUARDED_BY(h);",
+        b"void w(void) { take(&mu); }",
+        b"void w(void) { acq(&g); }",
+        b"void w(void) { mu = 1; }",
     ];
-    for (from, to, text) in rows {
-        let unit = replaced(alloc, LOCKED_WRITE, from, to)?;
-        assert!(rt; unit.as_slice() != LOCKED_WRITE);
+    for text in rows {
+        let unit = behind_locks(alloc, text)?;
+        let mut source = HonestSource::new(alloc, &unit)?;
+        let mut sink = HonestSink::new(alloc);
+        assert_eq!(rt; tool(alloc, &words, &mut source, &mut sink), 2);
+        assert_eq!(rt; sink.taken(), NOT_BUILT.as_bytes());
+    }
+    Ok(())
+}
+
+// A body of so many writes, whose end is one point more.
+fn body_of(alloc: Global, writes: usize) -> Result<Vec<u8>, Fail> {
+    let mut unit = b"int h; void w(void) { ".to_vec(alloc)?;
+    for _ in 0..writes {
+        unit.extend_from_slice(b"h = 0; ")?;
+    }
+    unit.extend_from_slice(b"}")?;
+    Ok(unit)
+}
+
+#[test]
+fn a_body_may_have_so_many_points(rt: HostRuntime) -> Result<(), Fail> {
+    let alloc = rt.alloc();
+    let words = words_of(alloc, &["check"])?;
+    for (writes, answer) in [(4095, "accepted\n"), (4096, NOT_BUILT)] {
+        let unit = body_of(alloc, writes)?;
         let mut source = HonestSource::new(alloc, &unit)?;
         let mut sink = HonestSink::new(alloc);
         tool(alloc, &words, &mut source, &mut sink);
-        assert_eq!(rt; sink.taken(), text.as_bytes(), "{text}");
+        assert_eq!(rt; sink.taken(), answer.as_bytes());
+    }
+    Ok(())
+}
+
+#[test]
+fn inputs_up_to_the_limit_are_read(rt: HostRuntime) -> Result<(), Fail> {
+    let alloc = rt.alloc();
+    let words = words_of(alloc, &["check"])?;
+    let rows: [(usize, &str, u8); 3] = [
+        (0, "accepted\n", 0),
+        (INPUT_LIMIT, "accepted\n", 0),
+        (INPUT_LIMIT + 1, "LM1 over 1048576 bytes\n", 7),
+    ];
+    for (len, answer, status) in rows {
+        let blanks = vec![in alloc; b' '; len]?;
+        let mut source = HonestSource::new(alloc, &blanks)?;
+        let mut sink = HonestSink::new(alloc);
+        assert_eq!(rt; tool(alloc, &words, &mut source, &mut sink), status);
+        assert_eq!(rt; sink.taken(), answer.as_bytes());
+    }
+    Ok(())
+}
+
+// How many pulls of 16 bytes the locked write needs: 199 bytes, and one more to find the end.
+const PULLS: u32 = 14;
+
+#[test]
+fn a_fault_at_any_pull_is_answered_and_nothing_is_written(rt: HostRuntime) -> Result<(), Fail> {
+    let alloc = rt.alloc();
+    let words = words_of(alloc, &["check"])?;
+    let unit = behind_locks(alloc, LOCKED_WRITE)?;
+    for number in 0..PULLS + 1 {
+        let mut source = MemorySource::new(alloc, &unit, 16, &[number])?;
+        let mut sink = HonestSink::new(alloc);
+        let status = tool(alloc, &words, &mut source, &mut sink);
+        assert_eq!(rt; status, if number < PULLS { 4 } else { 0 });
+        assert_eq!(rt; sink.taken().is_empty(), number < PULLS);
+    }
+    Ok(())
+}
+
+#[test]
+fn a_fault_at_any_push_leaves_the_bytes_before_it(rt: HostRuntime) -> Result<(), Fail> {
+    let alloc = rt.alloc();
+    let words = words_of(alloc, &["check"])?;
+    let unit = behind_locks(alloc, LOCKED_WRITE)?;
+    let answer = b"accepted\n";
+    for number in 0..10usize {
+        let mut source = MemorySource::new(alloc, &unit, 4, &[])?;
+        let mut sink = MemorySink::new(alloc, 1, &[number as u32])?;
+        let status = tool(alloc, &words, &mut source, &mut sink);
+        assert_eq!(rt; status, if number < 9 { 5 } else { 0 });
+        assert_eq!(rt; sink.taken(), &answer[..number.min(9)]);
     }
     Ok(())
 }
@@ -93,13 +220,10 @@ fn a_unit_without_one_condition_is_not_built(rt: HostRuntime) -> Result<(), Fail
 fn faults_in_memory_end_the_run(rt: HostRuntime) -> Result<(), Fail> {
     let alloc = rt.alloc();
     let words = words_of(alloc, &["check"])?;
-    let rows: [(&[u32], &[u32], u8, &[u8]); 3] = [
-        (&[1], &[], 4, b""),
-        (&[], &[2], 5, b"ac"),
-        (&[], &[], 0, b"accepted\n"),
-    ];
+    let unit = behind_locks(alloc, LOCKED_WRITE)?;
+    let rows: [(&[u32], &[u32], u8, &[u8]); 2] = [(&[1], &[], 4, b""), (&[], &[2], 5, b"ac")];
     for (pulls, pushes, status, taken) in rows {
-        let mut source = MemorySource::new(alloc, LOCKED_WRITE, 4, pulls)?;
+        let mut source = MemorySource::new(alloc, &unit, 4, pulls)?;
         let mut sink = MemorySink::new(alloc, 1, pushes)?;
         assert_eq!(rt; tool(alloc, &words, &mut source, &mut sink), status);
         assert_eq!(rt; sink.taken(), taken);
@@ -107,8 +231,8 @@ fn faults_in_memory_end_the_run(rt: HostRuntime) -> Result<(), Fail> {
     Ok(())
 }
 
-// A standard reader that gives a unit in pieces of 16 bytes and a standard writer that takes one byte at a time. Each
-// fails at its call of a number.
+// A standard reader that gives the five lines in pieces of 16 bytes, and a standard writer that takes one byte at a
+// time. Each fails at its call of a number.
 #[derive(Drop)]
 struct Broken {
     at: usize,
@@ -137,9 +261,9 @@ impl Read for Broken {
         if self.fails() {
             return Err(io::Error::from(io::ErrorKind::Other));
         }
-        let from = self.at.min(LOCKED_WRITE.len());
-        let count = into.len().min(16).min(LOCKED_WRITE.len() - from);
-        into[..count].copy_from_slice(&LOCKED_WRITE[from..from + count]);
+        let from = self.at.min(LOCKS.len());
+        let count = into.len().min(16).min(LOCKS.len() - from);
+        into[..count].copy_from_slice(&LOCKS[from..from + count]);
         self.at = from + count;
         Ok(count)
     }

@@ -10,7 +10,7 @@ use Rattle.tsa_lex.proofs.tokens.lex.Goals as goal
 pub tokens-init : goal.tokens-init
 tokens-init c =
     let none : c.new-tokens.result.items ≡ [] = search rules in
-    record { within = omega arith; read = rw none (begins c.args.source.now) }
+    record { within = omega arith; many = search rules; read = rw none (begins c.args.source.now) }
 
 pub tokens-preserved-then-is_blank : goal.tokens-preserved-then-is_blank
 tokens-preserved-then-is_blank c =
@@ -19,6 +19,7 @@ tokens-preserved-then-is_blank c =
     let blank : is_blank (get_or text at 0) ≡ true = search rules in
     record {
       within = omega arith;
+      many = omega arith;
       read = goes_blank text at (map lexeme c.tokens.tokens.items) c.tokens.invariant.read c.tokens-test.true blank;
     }
 
@@ -45,6 +46,7 @@ tokens-preserved c =
     ap (map lexeme) pushed ∙ map-append lexeme c.tokens.tokens.items (token ∷ []) ∙ ap (λ x. map lexeme c.tokens.tokens.items ++ x ∷ []) c.token_at-token.ensures in
     record {
       within = omega arith;
+      many = grind (arith, common_steps);
       read = rw lexemes (goes_on text at (map lexeme c.tokens.tokens.items) c.in-Some.kind c.in-Some.len c.tokens.invariant.read c.tokens-test.true other next some);
     }
 

@@ -1,4 +1,4 @@
-use Rattle.std.proofs.Common.{◌≤◌, ◌-◌, length, map}
+use Rattle.std.proofs.Common.{◌≤◌, ◌-◌, length, map, vec_len}
 use Rattle.tsa_base.specs.Tokens.{lexeme}
 use Rattle.tsa_lex.proofs.Steps.{ReadTo}
 use Rattle.tsa_lex.proofs.tokens.lex.Given as goal
@@ -6,6 +6,7 @@ use Rattle.tsa_lex.proofs.tokens.lex.Given as goal
 abbrev pub invariant-tokens : goal.invariant-tokens
 invariant-tokens l = record {
   within : l.at ≤ length l.source;
+  many : vec_len l.tokens ≤ l.at;
   read : ReadTo l.source l.at (map lexeme l.tokens.items);
 }
 

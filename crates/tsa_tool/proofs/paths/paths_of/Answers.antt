@@ -1,15 +1,14 @@
-use Rattle.std.proofs.Common.{◌≡◌, ◌≤◌, ◌+◌, ◌<◌, ◌++◌, [], ◌∷◌, Some, None, true, false, length, map, drop, get_or, vec_len, refl, sym, ap, ◌∙◌, rules, arith}
+use Rattle.std.proofs.Common.{◌≡◌, ◌≤◌, ◌++◌, [], ◌∷◌, Some, true, false, length, get_or, refl, rules, arith}
 use Rattle.std.proofs.lemmas.Grind.{common_steps}
 use Rattle.std.specs.Prelude.{◌==◌, nat_le}
 use Rattle.std.specs.List.{list_any}
 use Rattle.tsa_base.specs.declared.limits.TheConstants.{CAPABILITY_LIMIT}
 use Rattle.tsa_tool.specs.declared.program.BodyPoint.{BodyPoint}
 use Rattle.tsa_tool.specs.declared.program.PointAction.TheVariants.{Take}
-use Rattle.tsa_tool.specs.Rules.{Path, global}
 use Rattle.tsa_tool.specs.Resolved.{code_of}
 use Rattle.tsa_tool.specs.Warnings.{paths_of}
 use Rattle.tsa_tool.specs.Judging.{lock_of}
-use Rattle.tsa_tool.proofs.PathLists.{goes_known, goes_new, over_limit, within_limit}
+use Rattle.tsa_tool.proofs.PathLists.{goes_known, goes_new, over_limit}
 use Rattle.tsa_tool.proofs.paths.paths_of.Goals as goal
 
 pub points-preserved-then-is_among : goal.points-preserved-then-is_among

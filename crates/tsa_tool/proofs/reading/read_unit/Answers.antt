@@ -16,4 +16,4 @@ items-preserved c =
     let here : item_at (map lexeme tokens) c.items.at ≡ Some (item_of c.in-Some.item, c.in-Some.next) = grind (arith, common_steps) in
     let rest : c.items.at ≢ length tokens = search rules in
     let more = items_more tokens (length tokens) c.items.turn c.items.at (map item_of c.items.items.items) (item_of c.in-Some.item) c.in-Some.next (omega arith) rest here in
-    rw mapped (c.items.invariant ∙ more)
+    record { many = grind (arith, common_steps); read = rw mapped (c.items.invariant.read ∙ more) }

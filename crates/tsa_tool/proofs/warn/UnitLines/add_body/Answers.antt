@@ -1,12 +1,11 @@
-use Rattle.std.proofs.Common.{◌≡◌, List, length, map, Some, None, sym, ap, ◌∙◌, rules}
-use Rattle.std.specs.Prelude.{nat_le, if◌then◌else◌}
+use Rattle.std.proofs.Common.{◌≡◌, length, map, rules}
+use Rattle.std.specs.Prelude.{nat_le}
 use Rattle.tsa_base.specs.declared.limits.TheConstants.{CAPABILITY_LIMIT}
 use Rattle.tsa_tree.specs.Items.{item_of}
-use Rattle.tsa_tool.specs.Rules.{Path, global, path_eq}
+use Rattle.tsa_tool.specs.Rules.{global}
 use Rattle.tsa_tool.specs.Resolved.{code_of}
 use Rattle.tsa_tool.specs.Warnings.{paths_of, sorted_by}
 use Rattle.tsa_tool.specs.Lines.{path_text}
-use Rattle.tsa_tool.specs.Judging.{times}
 use Rattle.tsa_tool.proofs.Onces.{sorted_are_paths, chosen}
 use Rattle.tsa_tool.proofs.warn.UnitLines.add_body.Goals as goal
 
