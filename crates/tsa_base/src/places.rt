@@ -4,6 +4,7 @@ ghost use Rattle.std.specs.List.Sorted.{IsNonDecreasing, IsPartitionPoint};
 ghost use Rattle.tsa_base.specs.Places.{AreStarts};
 
 use crate::NoMemory;
+use itoa::Buffer;
 use std::alloc::Global;
 use std::marker::Model;
 
@@ -20,14 +21,13 @@ impl Place {
 
     /// Appends `L:C: `, both numbers in decimal. A refusal may leave a first part of it.
     #[tactic(auto, unfolding(crate::specs::Places::place_text))]
-    pub fn append_to(self, alloc: Global, text: &mut Vec<u8>) -> Result<(), NoMemory>
+    pub fn append_to(self, text: &mut Vec<u8>) -> Result<(), NoMemory>
         ensures { OnOk result (text.new.items ≡ text.old.items ++ place_text self) }
     {
-        let line = self.line.to_string(alloc)?;
-        let column = self.column.to_string(alloc)?;
-        text.extend_from_slice(line.as_bytes())?;
+        let mut digits = Buffer::new();
+        text.extend_from_slice(digits.format(self.line).as_bytes())?;
         text.extend_from_slice(b":")?;
-        text.extend_from_slice(column.as_bytes())?;
+        text.extend_from_slice(digits.format(self.column).as_bytes())?;
         text.extend_from_slice(b": ")?;
         Ok(())
     }

@@ -78,7 +78,7 @@ fn a_byte_is_told_by_its_line_and_its_column(rt: HostRuntime) -> Result<(), Fail
         let place = table.place(at);
         assert_eq!(rt; place, Place { line, column }, "byte {at}");
         let mut text = Vec::new(alloc);
-        place.append_to(alloc, &mut text)?;
+        place.append_to(&mut text)?;
         assert_eq!(rt; text.as_slice(), written, "byte {at}");
     }
     Ok(())

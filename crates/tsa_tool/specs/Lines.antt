@@ -67,14 +67,14 @@ before_path TS07 = []
 before_path TS09 = codes "returning with "
 
 abbrev pub behind_path : Rule → List ℕ
-behind_path TS02 = codes " exclusively"
-behind_path TS06 = codes " is acquired while held or pending"
-behind_path TS07 = codes " is released while not held"
-behind_path TS09 = codes " not as declared"
+behind_path TS02 = codes "' exclusively"
+behind_path TS06 = codes "' is acquired while held or pending"
+behind_path TS07 = codes "' is released while not held"
+behind_path TS09 = codes "' not as declared"
 
 -- what a rule says of a lock `K 'P'`
 unfoldable pub rule_text : Rule → List ℕ → List ℕ → List ℕ
-rule_text rule kind path = before_path rule ++ kind ++ codes " '" ++ path ++ codes "'" ++ behind_path rule
+rule_text rule kind path = before_path rule ++ kind ++ codes " '" ++ path ++ behind_path rule
 
 -- `L:C: TSnn in F: `
 unfoldable pub line_head : List ℕ → UnitBody → ℕ → Rule → List ℕ

@@ -13,7 +13,6 @@ use crate::judge::Warning;
 use crate::paths::path_text;
 use crate::program::{BodyCode, BodyPoint};
 use crate::rules::Rule;
-use std::alloc::Global;
 use tsa_base::{LineStarts, NoMemory};
 use tsa_tree::ThinItem;
 
@@ -46,10 +45,10 @@ impl Rule {
         ensures { result.now ≡ behind_path self }
     {
         match self {
-            Rule::TS02 => b" exclusively",
-            Rule::TS06 => b" is acquired while held or pending",
-            Rule::TS07 => b" is released while not held",
-            Rule::TS09 => b" not as declared",
+            Rule::TS02 => b"' exclusively",
+            Rule::TS06 => b"' is acquired while held or pending",
+            Rule::TS07 => b"' is released while not held",
+            Rule::TS09 => b"' not as declared",
         }
     }
 }
@@ -89,7 +88,6 @@ fn push_rule(text: &mut Vec<u8>, rule: Rule, kind: &[u8], path: &[u8]) -> Result
     text.extend_from_slice(kind)?;
     text.extend_from_slice(b" '")?;
     text.extend_from_slice(path)?;
-    text.extend_from_slice(b"'")?;
     text.extend_from_slice(rule.behind_path())?;
     Ok(())
 }
@@ -117,7 +115,6 @@ fn point_place(points: &[BodyPoint], number: u32) -> u32
 // Appends what stands in front of a rule's text.
 #[tactic(auto, unfolding(crate::specs::Lines::line_head))]
 fn push_head(
-    alloc: Global,
     text: &mut Vec<u8>,
     unit: &UnitText<'_>,
     body: &BodyCode,
@@ -127,7 +124,7 @@ fn push_head(
     ensures { OnOk result (text.new.items ≡ text.old.items ++ line_head unit.now.bytes.now (body_view body.now) warning.now.point warning.now.rule) }
 {
     let place = point_place(&body.points, warning.point);
-    unit.starts.place(place).append_to(alloc, text)?;
+    unit.starts.place(place).append_to(text)?;
     text.extend_from_slice(warning.rule.code())?;
     text.extend_from_slice(b" in ")?;
     text.extend_from_slice(body.name.text_in(unit.bytes))?;
@@ -138,7 +135,6 @@ fn push_head(
 // Appends the line of a warning.
 #[tactic(auto, unfolding(crate::specs::Lines::warning_line))]
 fn push_line(
-    alloc: Global,
     text: &mut Vec<u8>,
     unit: &UnitText<'_>,
     body: &BodyCode,
@@ -149,7 +145,7 @@ fn push_line(
     ensures line { OnOk result (text.new.items ≡ text.old.items ++ warning_line unit.now.bytes.now (map item_of unit.now.items.now) (body_view body.now) (warning_view warning.now)) }
     ensures counted { OnOk result (vec_len text.old < vec_len text.new) }
 {
-    push_head(alloc, text, unit, body, warning)?;
+    push_head(text, unit, body, warning)?;
     let kind = lock_text(unit.bytes, unit.items, unit.structs, warning.path);
     let path = path_text(unit.bytes, unit.items, warning.path);
     push_rule(text, warning.rule, kind, path)?;
@@ -159,7 +155,6 @@ fn push_line(
 
 /// Appends the lines of a body's warnings, in their order.
 pub fn push_lines(
-    alloc: Global,
     text: &mut Vec<u8>,
     unit: &UnitText<'_>,
     body: &BodyCode,
@@ -171,7 +166,7 @@ pub fn push_lines(
     ensures counted { OnOk result (vec_len text.old + length warnings.now ≤ vec_len text.new) }
 {
     'warnings: for warning in warnings {
-        push_line(alloc, text, unit, body, warning)?;
+        push_line(text, unit, body, warning)?;
     }
     Ok(())
 }

@@ -46,7 +46,7 @@ impl UnitLines {
         };
         let sorted = sorted_paths(alloc, unit.bytes, unit.items, &paths)?;
         let warnings = judge(alloc, &body.points, &sorted)?;
-        push_lines(alloc, &mut self.text, unit, body, &warnings)?;
+        push_lines(&mut self.text, unit, body, &warnings)?;
         self.count += warnings.len();
         Ok(true)
     }
