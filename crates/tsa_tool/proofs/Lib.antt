@@ -20,3 +20,4 @@ pub mod NamedLemmas
 pub mod WarningLemmas
 pub mod WarningLaw
 pub mod Onces
+pub mod ThinLaw

@@ -17,3 +17,4 @@ pub mod Spelling
 pub mod Scopes
 pub mod Warned
 pub mod WarningLaws
+pub mod ThinUnits

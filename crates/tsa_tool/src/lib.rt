@@ -19,7 +19,9 @@ mod steps;
 mod top;
 mod warn;
 
-pub use laws::{warnings_are_the_failing_premises, what_is_read_is_what_is_spelled};
+pub use laws::{
+    thin_units_are_warned_of, warnings_are_the_failing_premises, what_is_read_is_what_is_spelled,
+};
 pub use top::tool;
 
 #[cfg(test)]
