@@ -67,12 +67,13 @@ free_unnamed b c zero none = rw none.by_attrs refl
 free_unnamed b c (suc p) none = after_unnamed (action_at b p) c (status_into b c p) (none.by_points p) ∙ free_unnamed b c p none
 
 holds_unnamed : (b : Body) (c : Path) (p : ℕ) (rule : Rule) → Unnamed b c → breaks rule b p c (status_into b c p) ≡ false
-holds_unnamed b c p TS02 none = write_unnamed (action_at b p) c (status_into b c p) (none.by_points p)
+holds_unnamed b c p TS02 none = write_unnamed (action_at b p) c (after_action (action_at b p) c (status_into b c p)) (none.by_points p)
 holds_unnamed b c p TS06 none = acquire_unnamed (action_at b p) c (status_into b c p) (none.by_points p)
 holds_unnamed b c p TS07 none = release_unnamed (action_at b p) c (status_into b c p) (none.by_points p)
 holds_unnamed b c p TS09 none =
     let leaves : exit b p c ≡ free = rw none.by_attrs refl in
-    rw (leaves, free_unnamed b c p none) (exit_free (action_at b p))
+    let kept : after_action (action_at b p) c (status_into b c p) ≡ free = free_unnamed b c (suc p) none in
+    rw (leaves, kept) (exit_free (action_at b p))
 
 abbrev all_named : Body → List Path
 all_named b = map (λ a. a.path) b.attrs ++ flat_map action_paths b.actions

@@ -62,8 +62,8 @@ dull_rule : (row : List Held) (p : ℕ) (a : Action) (rule : Rule) → ((h : Hel
 dull_rule row p a rule none = ap (map (λ h. record { point = p; rule = rule; path = global h.lock })) (filter_none (λ h. fails_by rule a (global h.lock) (status_of h.is_held)) row none)
 
 -- the warnings of the four rules, one after another
-four : (row : List Held) (p : ℕ) (a : Action) (w2 w6 w7 w9 : List Warning) → row_rule_warnings row p a TS02 ≡ w2 → row_rule_warnings row p a TS06 ≡ w6 → row_rule_warnings row p a TS07 ≡ w7 → row_rule_warnings row p a TS09 ≡ w9 → row_warnings row p a ≡ w2 ++ (w6 ++ (w7 ++ (w9 ++ [])))
-four row p a w2 w6 w7 w9 e2 e6 e7 e9 = simp (e2, e6, e7, e9)
+four : (row : List Held) (p : ℕ) (a : Action) (writes takes gives ends : List Warning) → row_rule_warnings row p a TS02 ≡ writes → row_rule_warnings row p a TS06 ≡ takes → row_rule_warnings row p a TS07 ≡ gives → row_rule_warnings row p a TS09 ≡ ends → row_warnings row p a ≡ writes ++ (takes ++ (gives ++ (ends ++ [])))
+four row p a writes takes gives ends write_is take_is give_is end_is = simp (write_is, take_is, give_is, end_is)
 
 alone : (ws : List Warning) → ws ++ [] ≡ ws
 alone ws = append-nil ws

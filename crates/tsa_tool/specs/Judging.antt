@@ -8,7 +8,7 @@ use Rattle.tsa_tool.specs.declared.program.PointAction.{PointAction}
 use Rattle.tsa_tool.specs.declared.program.PointAction.TheVariants.{Take, Give, Write, End}
 use Rattle.tsa_tool.specs.declared.rules.Rule.{Rule}
 use Rattle.tsa_tool.specs.declared.rules.Rule.TheVariants.{TS02, TS06, TS07, TS09}
-use Rattle.tsa_tool.specs.Rules.{Path, global, path_eq, Body, Action, Status, free, exclusive, breaks_write, breaks_acquire, breaks_release, breaks_exit}
+use Rattle.tsa_tool.specs.Rules.{Path, global, path_eq, Body, Action, Status, free, exclusive, after_action, breaks_write, breaks_acquire, breaks_release, breaks_exit}
 use Rattle.tsa_tool.specs.Warnings.{action_paths, rules, Warning as PathWarning}
 
 -- how many elements pass
@@ -60,10 +60,10 @@ HasEntry action row = IfSome (lock_of action) (λ lock. times (λ h. h.lock == l
 
 -- a premise fails, in a function that hands nothing on
 abbrev pub fails_by : Rule → Action → Path → Status → Bool
-fails_by TS02 a c s = breaks_write a c s
+fails_by TS02 a c s = breaks_write a c (after_action a c s)
 fails_by TS06 a c s = breaks_acquire a c s
 fails_by TS07 a c s = breaks_release a c s
-fails_by TS09 a c s = breaks_exit a free s
+fails_by TS09 a c s = breaks_exit a free (after_action a c s)
 
 -- the warnings of a point, of what a row says
 abbrev pub row_rule_warnings : List Held → ℕ → Action → Rule → List PathWarning

@@ -139,7 +139,7 @@ action_at b p = or_end (slice_get b.actions p)
 abbrev pub effect : Body → ℕ → Path → Outcome → Status → Status
 effect b p c o s = after_action (action_at b p) c s
 
--- Premises, by the status before the point.
+-- Premises, by the status on which they are judged.
 
 abbrev pub is_free : Status → Bool
 is_free free = true
@@ -228,9 +228,10 @@ breaks_exit (write guards) exit s = false
 breaks_exit (call attrs) exit s = false
 breaks_exit finish exit s = not (status_eq s exit)
 
--- a premise of a rule fails at a point for a capability, on the status before the point
+-- a premise of a rule fails at a point for a capability, whose status before the point is given: a call is judged on that
+-- status, a write and the end on the one after the point's effect
 abbrev pub breaks : Rule → Body → ℕ → Path → Status → Bool
-breaks TS02 b p c s = breaks_write (action_at b p) c s
+breaks TS02 b p c s = breaks_write (action_at b p) c (after_action (action_at b p) c s)
 breaks TS06 b p c s = breaks_acquire (action_at b p) c s
 breaks TS07 b p c s = breaks_release (action_at b p) c s
-breaks TS09 b p c s = breaks_exit (action_at b p) (exit b p c) s
+breaks TS09 b p c s = breaks_exit (action_at b p) (exit b p c) (after_action (action_at b p) c s)
