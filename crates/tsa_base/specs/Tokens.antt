@@ -1,7 +1,7 @@
 -- The tokens of a text, or its first bad byte (C11 6.4): a text falls into pieces, front by front, and its tokens are
 -- the pieces that don't only separate tokens.
-use Rattle.std.specs.Prelude.{ℕ, zero, suc, ◌+◌, ◌-◌, Bool, true, false, ◌||◌, ◌&&◌, List, [], ◌∷◌, length, take, Some, None, Ok, Err, codes, ◌==◌, if◌then◌else◌}
-use Rattle.std.specs.List.{list_all, list_any, prefix_len, filter_map}
+use Rattle.std.specs.Prelude.{ℕ, zero, suc, ◌+◌, ◌-◌, Bool, true, false, ◌||◌, ◌&&◌, List, [], ◌∷◌, length, take, drop, Some, None, Ok, Err, codes, ◌==◌, if◌then◌else◌}
+use Rattle.std.specs.List.{list_all, list_any, prefix_len, suffix_len, filter_map}
 use Rattle.std.specs.Str.{bytes_eq}
 use Rattle.std.specs.declared.option.Option.{Option}
 use Rattle.std.specs.declared.result.Result.{Result}
@@ -74,10 +74,13 @@ block_end (c ∷ d ∷ cs) = if (c == 42) && (d == 47) then Some 2 else map_leng
 abbrev pub line_len : List ℕ → ℕ
 line_len cs = prefix_len is_line_byte cs
 
--- from the last line end on, or from the start, there are spaces and tabs alone; the last byte comes first
+-- the bytes behind the last line end, or all where there is none
+abbrev pub last_line : List ℕ → List ℕ
+last_line before = drop (length before - suffix_len is_line_byte before) before
+
+-- a rest begins with the first of a line's bytes that is no space and no tab
 unfoldable pub opens_line : List ℕ → Bool
-opens_line [] = true
-opens_line (c ∷ cs) = (c == 10) || (is_indent c && opens_line cs)
+opens_line before = list_all is_indent (last_line before)
 
 -- the bytes of a kind that a rest begins with
 abbrev pub front_word : (ℕ → Bool) → List ℕ → List ℕ
@@ -129,13 +132,13 @@ slash_front whole (d ∷ ds) =
     if d == 42 then block_front (block_end ds)
     else (if d == 47 then Ok (comment, line_len whole) else token_front whole (longest whole))
 
--- the piece that a rest begins with, and its length; before are the bytes in front of it, the last one first
-unfoldable pub front_of : List ℕ → List ℕ → Result (PieceKind × ℕ) LexCode
-front_of before [] = Err LX1
-front_of before (c ∷ cs) =
+-- the piece that a rest begins with, and its length; whether it may begin a preprocessing line is given
+unfoldable pub front_of : Bool → List ℕ → Result (PieceKind × ℕ) LexCode
+front_of opens [] = Err LX1
+front_of opens (c ∷ cs) =
     if is_blank c then Ok (blank, 1)
     else (if c == 47 then slash_front (c ∷ cs) cs
-    else (if (c == 35) && opens_line before
+    else (if (c == 35) && opens
     then (if is_skipped (line_word cs) then Ok (skipped_line, line_len (c ∷ cs)) else Err LX4)
     else token_front (c ∷ cs) (longest (c ∷ cs))))
 
@@ -159,15 +162,15 @@ abbrev pub begun : (at : ℕ) → (whole : List ℕ) → Result (PieceKind × �
 begun at whole (Err code) behind = Err (record { code = code; byte = at })
 begun at whole (Ok (kind, n)) behind = after (record { kind = kind; text = take n whole; span = record { from = at; to = at + n } }) (behind n)
 
--- the pieces of a rest at a place, whose first bytes, so many, belong to the piece before
-unfoldable pub pieces_at : (at : ℕ) (before : List ℕ) (covered : ℕ) (rest : List ℕ) → Result (List Piece) BadByte
-pieces_at at before covered [] = Ok []
-pieces_at at before (suc covered) (c ∷ cs) = pieces_at (at + 1) (c ∷ before) covered cs
-pieces_at at before zero (c ∷ cs) = begun at (c ∷ cs) (front_of before (c ∷ cs)) (λ n. pieces_at (at + 1) (c ∷ before) (n - 1) cs)
+-- the pieces of a text from a place on, where the rest is given; its first bytes, so many, belong to the piece before
+unfoldable pub pieces_at : (text : List ℕ) (at : ℕ) (covered : ℕ) (rest : List ℕ) → Result (List Piece) BadByte
+pieces_at text at covered [] = Ok []
+pieces_at text at (suc covered) (c ∷ cs) = pieces_at text (at + 1) covered cs
+pieces_at text at zero (c ∷ cs) = begun at (c ∷ cs) (front_of (opens_line (take at text)) (c ∷ cs)) (λ n. pieces_at text (at + 1) (n - 1) cs)
 
 -- the pieces of a text
 abbrev pub pieces_of : List ℕ → Result (List Piece) BadByte
-pieces_of text = pieces_at 0 [] zero text
+pieces_of text = pieces_at text 0 zero text
 
 -- a token, as definitions see it
 pub record Lexeme : Type 0 where

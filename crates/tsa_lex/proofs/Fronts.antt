@@ -1,12 +1,11 @@
 -- How far the longest front reaches, by its first byte.
-use Rattle.std.proofs.Common.{◌≡◌, ◌≢◌, ◌⊎◌, inl, inr, ℕ, zero, suc, ◌+◌, ◌<◌, ◌≤◌, Bool, true, false, ◌==◌, List, [], ◌∷◌, length, take, get_or, refl, ap, arith}
+use Rattle.std.proofs.Common.{◌≡◌, ◌≢◌, ℕ, zero, suc, ◌+◌, ◌<◌, ◌≤◌, Bool, true, false, List, [], ◌∷◌, length, take, get_or, refl, ap, arith}
 use Rattle.std.proofs.lemmas.Bool.Decides.{nat_tests}
 use Rattle.std.proofs.lemmas.List.Sums.{prefix_len-le-length}
 use Rattle.std.specs.List.{list_all, prefix_len}
 use Rattle.tsa_base.specs.Bytes.{is_letter, is_digit, is_word_byte, is_run_byte, is_text_byte}
 use Rattle.tsa_base.specs.Tokens.{closes, is_token, longest, is_punctuator, punctuators}
-use Rattle.tsa_lex.specs.Thin.{is_thin_punct, joins}
-use Rattle.tsa_lex.proofs.Longest.{longest-none, longest-found, longest-reaches}
+use Rattle.tsa_lex.proofs.Longest.{longest-none, longest-found}
 
 all_front-step : (p : ℕ → Bool) (c : ℕ) (cs : List ℕ) (n : ℕ) (b : Bool) → p c ≡ b → suc n ≤ prefix_len p (c ∷ cs) → (n ≤ prefix_len p cs → list_all p (take n cs) ≡ true) → list_all p (take (suc n) (c ∷ cs)) ≡ true
 all_front-step p c cs n true e within rest = let small : suc n ≤ 1 + prefix_len p cs = rw e at within in rw e (rest (omega arith))
@@ -116,62 +115,6 @@ nothing_past (c ∷ cs) past = nothing_past cs past
 -- the input ends before a closing quote
 pub text_cut_none : (cs : List ℕ) → prefix_len is_text_byte cs ≡ length cs → longest (34 ∷ cs) ≡ 0
 text_cut_none cs cut = text_none cs (λ quote. let past : get_or cs (length cs) 0 ≡ 34 = rw cut at quote in nothing_past cs past)
-
-thin_byte : (c : ℕ) → is_thin_punct c ≡ true → ((c ≡ 123) ⊎ (c ≡ 125)) ⊎ (((c ≡ 40) ⊎ (c ≡ 41)) ⊎ ((c ≡ 59) ⊎ ((c ≡ 42) ⊎ ((c ≡ 38) ⊎ (c ≡ 61)))))
-thin_byte c e = grind (arith, nat_tests)
-
-no_longer_at : (c d : ℕ) (ds : List ℕ) → ((c ≡ 123) ⊎ (c ≡ 125)) ⊎ (((c ≡ 40) ⊎ (c ≡ 41)) ⊎ ((c ≡ 59) ⊎ ((c ≡ 42) ⊎ ((c ≡ 38) ⊎ (c ≡ 61))))) → joins c (d ∷ ds) ≡ false → is_token (c ∷ d ∷ ds) ≡ false
-unfolding is_token is_punctuator punctuators
-no_longer_at c d ds (inl (inl e)) apart = rw e refl
-no_longer_at c d ds (inl (inr e)) apart = rw e refl
-no_longer_at c d ds (inr (inl (inl e))) apart = rw e refl
-no_longer_at c d ds (inr (inl (inr e))) apart = rw e refl
-no_longer_at c d ds (inr (inr (inl e))) apart = rw e refl
-no_longer_at c d ds (inr (inr (inr (inl e)))) apart =
-    let not_equal : (d == 61) ≡ false = let apart' = rw e at apart in grind (arith, nat_tests) in
-    rw e (simp not_equal)
-no_longer_at c d ds (inr (inr (inr (inr (inl e))))) apart =
-    let not_equal : (d == 61) ≡ false = let apart' = rw e at apart in grind (arith, nat_tests) in
-    let not_and : (d == 38) ≡ false = let apart' = rw e at apart in grind (arith, nat_tests) in
-    rw e (simp (not_equal, not_and))
-no_longer_at c d ds (inr (inr (inr (inr (inr e))))) apart =
-    let not_equal : (d == 61) ≡ false = let apart' = rw e at apart in grind (arith, nat_tests) in
-    rw e (simp not_equal)
-
-alone_at : (c : ℕ) → ((c ≡ 123) ⊎ (c ≡ 125)) ⊎ (((c ≡ 40) ⊎ (c ≡ 41)) ⊎ ((c ≡ 59) ⊎ ((c ≡ 42) ⊎ ((c ≡ 38) ⊎ (c ≡ 61))))) → is_token (c ∷ []) ≡ true
-unfolding is_token is_punctuator punctuators
-alone_at c (inl (inl e)) = rw e refl
-alone_at c (inl (inr e)) = rw e refl
-alone_at c (inr (inl (inl e))) = rw e refl
-alone_at c (inr (inl (inr e))) = rw e refl
-alone_at c (inr (inr (inl e))) = rw e refl
-alone_at c (inr (inr (inr (inl e)))) = rw e refl
-alone_at c (inr (inr (inr (inr (inl e))))) = rw e refl
-alone_at c (inr (inr (inr (inr (inr e))))) = rw e refl
-
-no_longer : (c : ℕ) (cs : List ℕ) (j : ℕ) → is_thin_punct c ≡ true → joins c cs ≡ false → 1 < j → j ≤ length (c ∷ cs) → is_token (take j (c ∷ cs)) ≡ false
-no_longer c cs zero thin apart over within = absurd (omega arith)
-no_longer c cs (suc zero) thin apart over within = absurd (omega arith)
-no_longer c [] (suc (suc j)) thin apart over within = absurd (omega arith)
-no_longer c (d ∷ ds) (suc (suc j)) thin apart over within = no_longer_at c d (take j ds) (thin_byte c thin) apart
-
--- a thin punctuator that joins nothing behind it stands alone
-pub lone_longest : (c : ℕ) (cs : List ℕ) → is_thin_punct c ≡ true → joins c cs ≡ false → longest (c ∷ cs) ≡ 1
-lone_longest c cs thin apart = longest-found (c ∷ cs) 1 (omega arith) (omega arith) (alone_at c (thin_byte c thin)) (λ j over within. no_longer c cs j thin apart over within)
-
-joined_bytes : (c d : ℕ) (ds : List ℕ) → joins c (d ∷ ds) ≡ true → ((c ≡ 42) × (d ≡ 61)) ⊎ (((c ≡ 38) × (d ≡ 38)) ⊎ (((c ≡ 38) × (d ≡ 61)) ⊎ ((c ≡ 61) × (d ≡ 61))))
-joined_bytes c d ds joined = grind (arith, nat_tests)
-
-joined_at : (c d : ℕ) → ((c ≡ 42) × (d ≡ 61)) ⊎ (((c ≡ 38) × (d ≡ 38)) ⊎ (((c ≡ 38) × (d ≡ 61)) ⊎ ((c ≡ 61) × (d ≡ 61)))) → is_token (c ∷ d ∷ []) ≡ true
-unfolding is_token is_punctuator punctuators
-joined_at c d (inl (e, f)) = rw (e, f) refl
-joined_at c d (inr (inl (e, f))) = rw (e, f) refl
-joined_at c d (inr (inr (inl (e, f)))) = rw (e, f) refl
-joined_at c d (inr (inr (inr (e, f)))) = rw (e, f) refl
-
--- a punctuator of two bytes is no shorter
-pub joined_reach : (c d : ℕ) (ds : List ℕ) → joins c (d ∷ ds) ≡ true → 2 ≤ longest (c ∷ d ∷ ds)
-joined_reach c d ds joined = longest-reaches (c ∷ d ∷ ds) 2 (omega arith) (joined_at c d (joined_bytes c d ds joined))
 
 no_sign : (j : ℕ) (cs : List ℕ) → is_token (take j (35 ∷ cs)) ≡ false
 unfolding is_token is_punctuator punctuators

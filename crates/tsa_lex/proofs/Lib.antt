@@ -1,7 +1,9 @@
 pub mod Longest
 pub mod Fronts
-pub mod Numbers
-pub mod Values
-pub mod ThinFronts
+pub mod TokenFronts
+pub mod Within
 pub mod Steps
 pub mod Words
+pub mod NumberLemmas
+pub mod GapLemmas
+pub mod PunctLemmas

@@ -9,7 +9,7 @@ use Rattle.std.specs.Str.{bytes_eq}
 use Rattle.tsa_base.specs.Words.{keywords, macro_words, reserved, is_reserved}
 
 -- a word that a text equals is as long as the text
-same_length : (text word : List ℕ) → bytes_eq text word ≡ true → (length word == length text) ≡ true
+pub same_length : (text word : List ℕ) → bytes_eq text word ≡ true → (length word == length text) ≡ true
 same_length text word same = let whole : text ≡ word = (bytes_eq-Decides text word).0 same in rw (sym whole) (grind (arith, nat_tests))
 
 -- of the reserved words those of the text's own length decide
@@ -85,7 +85,7 @@ pub of_twenty_five : (text : List ℕ) → length text ≡ 25 → list_any (byte
 unfolding reserved keywords macro_words
 of_twenty_five text long = of_length text 25 long
 
-differ : (k m : ℕ) → m ≢ k → (k == m) ≡ false
+pub differ : (k m : ℕ) → m ≢ k → (k == m) ≡ false
 differ k m other = grind (arith, nat_tests)
 
 -- no reserved word has another length

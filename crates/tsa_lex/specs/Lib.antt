@@ -1,2 +1,2 @@
-pub mod Thin
-pub mod Laws
+pub mod Seen
+pub mod Puncts

@@ -2,14 +2,21 @@
 #![tactic(auto)]
 
 mod front;
-mod laws;
+mod gaps;
+mod numbers;
+mod puncts;
 mod reserved;
 mod scan;
 mod tokens;
 
-pub use laws::thin_tokens_are_tokens;
 pub use reserved::is_reserved;
 pub use tokens::{LexRefusal, lex};
 
+#[cfg(test)]
+mod gap_tests;
+#[cfg(test)]
+mod number_tests;
+#[cfg(test)]
+mod punct_tests;
 #[cfg(test)]
 mod tests;

@@ -1,8 +1,7 @@
 //! How far words, numbers and texts reach.
 ghost use Rattle.std.specs.Prelude.{◌≡◌, ◌≤◌, length};
-ghost use Rattle.std.specs.List.{prefix_len, list_all};
+ghost use Rattle.std.specs.List.{prefix_len};
 ghost use Rattle.tsa_base.specs.Bytes.{is_letter, is_digit, is_word_byte, is_run_byte, is_text_byte, is_blank};
-ghost use Rattle.tsa_lex.specs.Thin.{is_thin_punct, joins, is_plain};
 
 pub fn is_blank(c: u8) -> bool
     ensures { result ≡ is_blank c }
@@ -40,12 +39,6 @@ pub fn is_text_byte(c: u8) -> bool
     matches!(c, b' '..=b'~') && c != b'"' && c != b'\\'
 }
 
-pub fn is_thin_punct(c: u8) -> bool
-    ensures { result ≡ is_thin_punct c }
-{
-    matches!(c, b'{' | b'}' | b'(' | b')' | b';' | b'*' | b'&' | b'=')
-}
-
 /// How many word bytes a text begins with.
 pub fn word_len(text: &[u8]) -> usize
     ensures len { result ≡ prefix_len is_word_byte text.now }
@@ -68,31 +61,4 @@ pub fn text_len(text: &[u8]) -> usize
     ensures within { result ≤ length text.now }
 {
     text.iter().take_while(|c| is_text_byte(**c)).count()
-}
-
-/// The punctuator and the byte behind it are one longer punctuator.
-pub fn joins(first: u8, rest: &[u8]) -> bool
-    ensures { result ≡ joins first rest.now }
-{
-    match (first, rest.first().copied()) {
-        (b'*' | b'=', Some(b'=')) | (b'&', Some(b'&' | b'=')) => true,
-        _ => false,
-    }
-}
-
-pub fn all_digits(run: &[u8]) -> bool
-    ensures { result ≡ list_all is_digit run.now }
-{
-    run.iter().all(|c| is_digit(*c))
-}
-
-/// The digits are one, or begin with another than 0.
-pub fn is_plain(run: &[u8]) -> bool
-    ensures { result ≡ is_plain run.now }
-{
-    match run {
-        [] => false,
-        [_] => true,
-        [first, ..] => *first != b'0',
-    }
 }

@@ -53,11 +53,11 @@ slash_kind : (whole cs : List ℕ) → KindOfFront whole (slash_front whole cs)
 slash_kind whole [] = token_kind whole (longest whole)
 slash_kind whole (d ∷ ds) = by_test whole (d == 42) _ _ (block_kind whole (block_end ds)) (by_test whole (d == 47) _ _ tt (token_kind whole (longest whole)))
 
-front_kind : (before : List ℕ) (c : ℕ) (cs : List ℕ) → KindOfFront (c ∷ cs) (front_of before (c ∷ cs))
+front_kind : (opens : Bool) (c : ℕ) (cs : List ℕ) → KindOfFront (c ∷ cs) (front_of opens (c ∷ cs))
 unfolding front_of
-front_kind before c cs =
+front_kind opens c cs =
     by_test (c ∷ cs) (is_blank c) _ _ tt (by_test (c ∷ cs) (c == 47) _ _ (slash_kind (c ∷ cs) cs)
-    (by_test (c ∷ cs) ((c == 35) && opens_line before) _ _ (by_test (c ∷ cs) (is_skipped (line_word cs)) _ _ tt tt) (token_kind (c ∷ cs) (longest (c ∷ cs)))))
+    (by_test (c ∷ cs) ((c == 35) && opens) _ _ (by_test (c ∷ cs) (is_skipped (line_word cs)) _ _ tt tt) (token_kind (c ∷ cs) (longest (c ∷ cs)))))
 
 piece_kinds : (at : ℕ) (whole : List ℕ) (kind : PieceKind) (n : ℕ) (rest : Result (List Piece) BadByte) (behind : ℕ → Result (List Piece) BadByte) → KindAmong whole kind n → behind n ≡ rest → HaveKindsIn (tokens_among rest) → HaveKindsIn (tokens_among (begun at whole (Ok (kind, n)) behind))
 piece_kinds at whole kind n (Err bad) behind here is more = rw is tt
@@ -70,12 +70,12 @@ begun_kinds : (at : ℕ) (whole : List ℕ) (r : Result (PieceKind × ℕ) LexCo
 begun_kinds at whole (Err code) behind here more = tt
 begun_kinds at whole (Ok r) behind here more = piece_kinds at whole r.0 r.1 (behind r.1) behind here refl (more r.1)
 
-pieces_kinds : (at : ℕ) (before : List ℕ) (covered : ℕ) (rest : List ℕ) → HaveKindsIn (tokens_among (pieces_at at before covered rest))
+pieces_kinds : (text : List ℕ) (at covered : ℕ) (rest : List ℕ) → HaveKindsIn (tokens_among (pieces_at text at covered rest))
 unfolding pieces_at
-pieces_kinds at before zero [] = tt
-pieces_kinds at before (suc covered) [] = tt
-pieces_kinds at before (suc covered) (c ∷ cs) = pieces_kinds (at + 1) (c ∷ before) covered cs
-pieces_kinds at before zero (c ∷ cs) = begun_kinds at (c ∷ cs) (front_of before (c ∷ cs)) _ (front_kind before c cs) (λ n. pieces_kinds (at + 1) (c ∷ before) (n - 1) cs)
+pieces_kinds text at zero [] = tt
+pieces_kinds text at (suc covered) [] = tt
+pieces_kinds text at (suc covered) (c ∷ cs) = pieces_kinds text (at + 1) covered cs
+pieces_kinds text at zero (c ∷ cs) = begun_kinds at (c ∷ cs) (front_of (opens_line (take at text)) (c ∷ cs)) _ (front_kind (opens_line (take at text)) c cs) (λ n. pieces_kinds text (at + 1) (n - 1) cs)
 
 brace_is_punct : kind_of (codes "}") ≡ Some Punct
 unfolding kind_of
@@ -97,4 +97,4 @@ names_are_no_braces (t ∷ ts) kinds (suc at) s here = names_are_no_braces ts ki
 
 pub braces_close : (text : List ℕ) (ts : List Lexeme) → tokens_of text ≡ Ok ts → BracesClose ts
 braces_close text ts lexed =
-    let kinds : HaveKinds ts = subst HaveKindsIn lexed (pieces_kinds 0 [] zero text) in record { names = names_are_no_braces ts kinds }
+    let kinds : HaveKinds ts = subst HaveKindsIn lexed (pieces_kinds text 0 zero text) in record { names = names_are_no_braces ts kinds }

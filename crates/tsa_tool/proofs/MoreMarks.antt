@@ -7,7 +7,7 @@ use Rattle.tsa_base.specs.declared.token.Span.{Span}
 use Rattle.tsa_base.specs.declared.token.TokenKind.{TokenKind}
 use Rattle.tsa_base.specs.declared.token.TokenKind.TheVariants.{Word, Number, Text, Punct}
 use Rattle.tsa_base.specs.Tokens.{Lexeme}
-use Rattle.tsa_tool.specs.Reading.{text_at, value_at, close_at, is_text, number_of}
+use Rattle.tsa_tool.specs.Reading.{text_at, value_at, close_at, is_text, is_plain, number_of}
 use Rattle.tsa_tool.specs.Spelling.{Mark, placed, quoted, valued, Matches}
 use Rattle.tsa_tool.proofs.Marks.{Stands, IsAt}
 
@@ -47,9 +47,9 @@ was_text {A = A} {P = P} ts at f y e more = by (text_at ts at) refl e
 
 -- A number.
 
-value_step : (o : Option Lexeme) (at v : ℕ) → IsSomeAnd o (Matches (valued v)) → option_and_then {U = ℕ × ℕ} (λ t. option_and_then (λ v. Some (v, at + 1)) (number_of t.kind)) o ≡ Some (v, at + 1)
+value_step : (o : Option Lexeme) (at v : ℕ) → IsSomeAnd o (Matches (valued v)) → option_and_then {U = ℕ × ℕ} (λ t. if is_plain t.text then option_and_then (λ v. Some (v, at + 1)) (number_of t.kind) else None) o ≡ Some (v, at + 1)
 value_step None at v here = absurd here
-value_step (Some t) at v here = rw here.1 refl
+value_step (Some t) at v here = rw (here.0, here.1) refl
 
 value_read : (ts : List Lexeme) (at v : ℕ) → IsAt ts at (valued v) → value_at ts at ≡ Some (v, at + 1)
 unfolding value_at
@@ -58,15 +58,20 @@ value_read ts at v here = value_step (slice_get ts at) at v here
 pub past_value : {A : Type 0} {ms : List Mark} {ts : List Lexeme} {at next v : ℕ} {r : Option A} (f : ℕ × ℕ → Option A) → Stands (valued v ∷ ms) ts at next → (Stands ms ts (at + 1) next → f (v, at + 1) ≡ r) → option_and_then f (value_at ts at) ≡ r
 past_value {ts = ts} {at = at} {v = v} f here more = rw (value_read ts at v here.fits.0) (more (record { fits = here.fits.1 }))
 
-value_back_step : (o : Option Lexeme) (at : ℕ) (r : ℕ × ℕ) → option_and_then {U = ℕ × ℕ} (λ t. option_and_then (λ v. Some (v, at + 1)) (number_of t.kind)) o ≡ Some r → IsSomeAnd o (Matches (valued r.0)) × (r ≡ (r.0, at + 1))
+value_back_step : (o : Option Lexeme) (at : ℕ) (r : ℕ × ℕ) → option_and_then {U = ℕ × ℕ} (λ t. if is_plain t.text then option_and_then (λ v. Some (v, at + 1)) (number_of t.kind) else None) o ≡ Some r → IsSomeAnd o (Matches (valued r.0)) × (r ≡ (r.0, at + 1))
 value_back_step None at r e = cc
-value_back_step (Some t) at r e = by t.kind refl e
+value_back_step (Some t) at r e = plain (is_plain t.text) refl e
   where
-    by : (k : TokenKind) → t.kind ≡ k → option_and_then {U = ℕ × ℕ} (λ v. Some (v, at + 1)) (number_of k) ≡ Some r → ((unsigned : Bool) × (t.kind ≡ Number r.0 unsigned)) × (r ≡ (r.0, at + 1))
-    by Word kind e = cc
-    by (Number value unsigned) kind e = ((unsigned, cc), cc)
-    by Text kind e = cc
-    by Punct kind e = cc
+    by : (k : TokenKind) → t.kind ≡ k → is_plain t.text ≡ true → option_and_then {U = ℕ × ℕ} (λ v. Some (v, at + 1)) (number_of k) ≡ Some r → ((t.kind ≡ Number r.0 false) × (is_plain t.text ≡ true)) × (r ≡ (r.0, at + 1))
+    by Word kind is e = cc
+    by (Number value true) kind is e = cc
+    by (Number value false) kind is e = ((cc, is), cc)
+    by Text kind is e = cc
+    by Punct kind is e = cc
+
+    plain : (b : Bool) → is_plain t.text ≡ b → (if b then option_and_then {U = ℕ × ℕ} (λ v. Some (v, at + 1)) (number_of t.kind) else None) ≡ Some r → ((t.kind ≡ Number r.0 false) × (is_plain t.text ≡ true)) × (r ≡ (r.0, at + 1))
+    plain true is e = by t.kind refl is e
+    plain false is e = cc
 
 value_back : (ts : List Lexeme) (at : ℕ) (r : ℕ × ℕ) → value_at ts at ≡ Some r → IsAt ts at (valued r.0) × (r ≡ (r.0, at + 1))
 unfolding value_at

@@ -1,18 +1,16 @@
 -- What is warned of is a thin unit, and each thin unit is.
 use Rattle.std.proofs.Common.{◌≡◌, Bool, true, false, ◌&&◌, List, [], ◌∷◌, ◌++◌, Option, Some, None, Result, Ok, Err, refl, sym, subst, ap, ◌∙◌, append_assoc, ℕ}
 use Rattle.std.proofs.lemmas.List.{append-nil}
-use Rattle.tsa_base.specs.Tokens.{Lexeme}
-use Rattle.tsa_lex.specs.Thin.{thin_tokens}
-use Rattle.tsa_lex.proofs.Steps.{thin_tokens_are_tokens}
+use Rattle.tsa_base.specs.Tokens.{BadByte, Lexeme, tokens_of}
 use Rattle.tsa_tree.specs.Items.{Item}
 use Rattle.tsa_tool.specs.declared.check.Refusal.{Refusal}
-use Rattle.tsa_tool.specs.declared.check.Refusal.TheVariants.{NotBuilt}
+use Rattle.tsa_tool.specs.declared.check.Refusal.TheVariants.{Lex, NotBuilt}
 use Rattle.tsa_tool.specs.Reading.{items_of}
 use Rattle.tsa_tool.specs.Names.{fits, all_fit}
 use Rattle.tsa_tool.specs.Program.{bodies_of}
 use Rattle.tsa_tool.specs.Limits.{is_thin_unit, items_are_within}
 use Rattle.tsa_tool.specs.Lines.{Warned, unit_warned}
-use Rattle.tsa_tool.specs.Checks.{◌>>=◌, ok_or, items_in, judged_items, warned_in}
+use Rattle.tsa_tool.specs.Checks.{◌>>=◌, ok_or, lexed, items_in, judged_items, warned_in}
 use Rattle.tsa_tool.specs.ThinUnits.{IsThin, ThinUnitsAreWarnedOf}
 use Rattle.tsa_tool.proofs.Spelled.{reading_law}
 
@@ -41,7 +39,7 @@ thin_is text items unit = rw (all_at text [] items unit.fits_each, unit.items_wi
 items_are : (text : List ℕ) (items : List Item) → IsThin text items → items_in text ≡ Ok items
 unfolding items_in
 items_are text items unit =
-    let read : items_of unit.tokens ≡ Some items = reading_law.read text unit.tokens items (thin_tokens_are_tokens text unit.tokens unit.lexed) unit.spelled in
+    let read : items_of unit.tokens ≡ Some items = reading_law.read text unit.tokens items unit.lexed unit.spelled in
     rw (unit.lexed, read) refl
 
 warned : (text : List ℕ) (items : List Item) → IsThin text items → warned_in text ≡ Ok (unit_warned text items (bodies_of text items))
@@ -55,10 +53,10 @@ then_ok r = r >>= (λ x. Ok x)
 
 record Found (text : List ℕ) (items : List Item) : Type 0 where
   pub tokens : List Lexeme
-  pub lexed : thin_tokens text ≡ Some tokens
+  pub lexed : tokens_of text ≡ Ok tokens
   pub read : items_of tokens ≡ Some items
 
-found_items : (text : List ℕ) (tokens : List Lexeme) (items : List Item) (o : Option (List Item)) → thin_tokens text ≡ Some tokens → items_of tokens ≡ o → ◌≡◌ {A = Result (List Item) Refusal} (ok_or NotBuilt o) (Ok items) → Found text items
+found_items : (text : List ℕ) (tokens : List Lexeme) (items : List Item) (o : Option (List Item)) → tokens_of text ≡ Ok tokens → items_of tokens ≡ o → ◌≡◌ {A = Result (List Item) Refusal} (ok_or NotBuilt o) (Ok items) → Found text items
 found_items text tokens items None lexed read e = cc
 found_items text tokens items (Some is) lexed read e = let same : is ≡ items = cc in record { tokens = tokens; lexed = lexed; read = read ∙ ap Some same }
 
@@ -66,13 +64,13 @@ after_items : (o : Option (List Item)) (items : List Item) → ◌≡◌ {A = Re
 after_items None items e = cc
 after_items (Some is) items e = e
 
-found_tokens : (text : List ℕ) (items : List Item) (o : Option (List Lexeme)) → thin_tokens text ≡ o → items_in text ≡ Ok items → Found text items
+found_tokens : (text : List ℕ) (items : List Item) (r : Result (List Lexeme) BadByte) → tokens_of text ≡ r → items_in text ≡ Ok items → Found text items
 unfolding items_in
-found_tokens text items None lexed e = let wrong : ◌≡◌ {A = Result (List Item) Refusal} (Err NotBuilt) (Ok items) = rw lexed at e in cc
-found_tokens text items (Some tokens) lexed e = found_items text tokens items (items_of tokens) lexed refl (after_items (items_of tokens) items (rw lexed at e))
+found_tokens text items (Err bad) is e = let wrong : ◌≡◌ {A = Result (List Item) Refusal} (Err (Lex bad.code bad.byte)) (Ok items) = rw is at e in cc
+found_tokens text items (Ok tokens) is e = found_items text tokens items (items_of tokens) is refl (after_items (items_of tokens) items (rw is at e))
 
 found_in : (text : List ℕ) (items : List Item) → items_in text ≡ Ok items → Found text items
-found_in text items e = found_tokens text items (thin_tokens text) refl e
+found_in text items e = found_tokens text items (tokens_of text) refl e
 
 thin_of : (text : List ℕ) (items : List Item) → items_in text ≡ Ok items → is_thin_unit text items ≡ true → IsThin text items
 unfolding is_thin_unit

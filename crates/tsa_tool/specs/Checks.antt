@@ -2,10 +2,10 @@
 use Rattle.std.specs.Prelude.{ℕ, List, Ok, Err, Some, None, if◌then◌else◌}
 use Rattle.std.specs.declared.option.Option.{Option}
 use Rattle.std.specs.declared.result.Result.{Result}
-use Rattle.tsa_lex.specs.Thin.{thin_tokens}
+use Rattle.tsa_base.specs.Tokens.{BadByte, Lexeme, tokens_of}
 use Rattle.tsa_tree.specs.Items.{Item}
 use Rattle.tsa_tool.specs.declared.check.Refusal.{Refusal}
-use Rattle.tsa_tool.specs.declared.check.Refusal.TheVariants.{NotBuilt}
+use Rattle.tsa_tool.specs.declared.check.Refusal.TheVariants.{Lex, NotBuilt}
 use Rattle.tsa_tool.specs.Reading.{items_of}
 use Rattle.tsa_tool.specs.Limits.{is_thin_unit}
 use Rattle.tsa_tool.specs.Program.{bodies_of}
@@ -20,10 +20,15 @@ abbrev pub ok_or : {A : Type 0} → Refusal → Option A → Result A Refusal
 ok_or r None = Err r
 ok_or r (Some x) = Ok x
 
+-- the tokens, or the refusal of the first bad byte
+abbrev pub lexed : Result (List Lexeme) BadByte → Result (List Lexeme) Refusal
+lexed (Ok tokens) = Ok tokens
+lexed (Err bad) = Err (Lex bad.code bad.byte)
+
 -- the items of an input, whether or not they are a unit
 unfoldable pub items_in : List ℕ → Result (List Item) Refusal
 items_in bytes = do
-  tokens ← ok_or NotBuilt (thin_tokens bytes)
+  tokens ← lexed (tokens_of bytes)
   items ← ok_or NotBuilt (items_of tokens)
   Ok items
 

@@ -40,15 +40,23 @@ name_at ts at = option_and_then (λ t. if is_word t.kind && not (is_reserved t.t
 unfoldable pub text_at : List Lexeme → ℕ → Option (Span × ℕ)
 text_at ts at = option_and_then (λ t. if is_text t.kind then Some (t.span, at + 1) else None) (slice_get ts at)
 
+-- the value of a number that is an `int`
 abbrev pub number_of : TokenKind → Option ℕ
 number_of Word = None
-number_of (Number value unsigned) = Some value
+number_of (Number value true) = None
+number_of (Number value false) = Some value
 number_of Text = None
 number_of Punct = None
 
--- NUMBER
+-- digits of which the first isn't 0, or one alone
+abbrev pub is_plain : List ℕ → Bool
+is_plain [] = false
+is_plain (d ∷ []) = true
+is_plain (d ∷ e ∷ ds) = not (d == 48)
+
+-- NUMBER: one that is decimal and an `int`
 unfoldable pub value_at : List Lexeme → ℕ → Option (ℕ × ℕ)
-value_at ts at = option_and_then (λ t. option_and_then (λ v. Some (v, at + 1)) (number_of t.kind)) (slice_get ts at)
+value_at ts at = option_and_then (λ t. if is_plain t.text then option_and_then (λ v. Some (v, at + 1)) (number_of t.kind) else None) (slice_get ts at)
 
 -- "}", with its span
 unfoldable pub close_at : List Lexeme → ℕ → Option (Span × ℕ)

@@ -5,11 +5,14 @@ use Rattle.std.specs.declared.result.Result.{Result}
 use Rattle.tsa_base.specs.declared.limits.TheConstants.{INPUT_LIMIT}
 use Rattle.std.specs.Fmt.{decimal}
 use Rattle.tsa_tool.specs.Checks.{warned_in}
+use Rattle.tsa_base.specs.declared.token.LexCode.{LexCode}
+use Rattle.tsa_base.specs.declared.token.LexCode.TheVariants.{LX1, LX2, LX3, LX4, LX5}
+use Rattle.tsa_base.specs.Places.{place_at, place_text}
 use Rattle.tsa_tool.specs.Lines.{Warned}
 use Rattle.tsa_tool.specs.declared.answer.Status.{Status}
 use Rattle.tsa_tool.specs.declared.answer.Status.TheVariants.{Accepted, Warned as Warns, Refused, WordsRefused, LimitPassed}
 use Rattle.tsa_tool.specs.declared.check.Refusal.{Refusal}
-use Rattle.tsa_tool.specs.declared.check.Refusal.TheVariants.{NotBuilt}
+use Rattle.tsa_tool.specs.declared.check.Refusal.TheVariants.{Lex, NotBuilt}
 use Rattle.tsa_tool.specs.declared.command.Command.{Command}
 use Rattle.tsa_tool.specs.declared.command.Command.TheVariants.{Check}
 
@@ -35,8 +38,17 @@ words_refused = record { status = WordsRefused; text = line (codes "words refuse
 abbrev pub too_long : Report
 too_long = record { status = LimitPassed; text = line (codes "LM1 over 1048576 bytes") }
 
--- the line and the status of a refusal of these bytes
+-- what a code of a bad byte says
+abbrev pub lex_text : LexCode → List ℕ
+lex_text LX1 = codes "LX1 byte starts no token"
+lex_text LX2 = codes "LX2 unfinished comment"
+lex_text LX3 = codes "LX3 malformed or too wide number"
+lex_text LX4 = codes "LX4 refused preprocessing line"
+lex_text LX5 = codes "LX5 unfinished text"
+
+-- the line and the status of a refusal of these bytes: `L:C: ` and the text, where it has a place
 abbrev pub refused_report : List ℕ → Refusal → Report
+refused_report bytes (Lex code byte) = record { status = Refused; text = line (place_text (place_at bytes byte) ++ lex_text code) }
 refused_report bytes NotBuilt = record { status = Refused; text = line (codes "NB0 form is not built yet") }
 
 abbrev pub accepted : Report

@@ -8,9 +8,9 @@ use Rattle.tsa_base.specs.Words.{is_reserved}
 use Rattle.tsa_tree.specs.declared.ThinStep.{ThinStep}
 use Rattle.tsa_tree.specs.declared.ThinStep.TheVariants.{Call, Assign}
 use Rattle.tsa_tree.specs.Items.{Item, lock, lock_function, mutex, number, body}
-use Rattle.tsa_tool.specs.Reading.{items_of}
+use Rattle.tsa_tool.specs.Reading.{is_plain, items_of}
 
--- what stands at one token: this very one, this very one at a span, a word that isn't reserved, a text, or a number
+-- what stands at one token: this very one, this very one at a span, a word that isn't reserved, a text, or a number that is decimal and an `int`
 pub data Mark : Type 0 where
   this : (text : List ℕ) → Mark
   placed : (text : List ℕ) (span : Span) → Mark
@@ -24,7 +24,7 @@ Matches (this text) t = t.text ≡ text
 Matches (placed text span) t = (t.text ≡ text) × (t.span ≡ span)
 Matches (named span) t = (t.kind ≡ Word) × (is_reserved t.text ≡ false) × (t.span ≡ span)
 Matches (quoted span) t = (t.kind ≡ Text) × (t.span ≡ span)
-Matches (valued value) t = (unsigned : Bool) × (t.kind ≡ Number value unsigned)
+Matches (valued value) t = (t.kind ≡ Number value false) × (is_plain t.text ≡ true)
 
 -- the marks stand at a place, one token each, up to before another place
 abbrev pub FitsTo : List Mark → List Lexeme → ℕ → ℕ → Type 0

@@ -1,8 +1,7 @@
 -- The thin units, and that `check` warns of exactly these.
-use Rattle.std.specs.Prelude.{ℕ, ◌≡◌, true, List, ◌∷◌, ◌++◌, Some, Ok}
+use Rattle.std.specs.Prelude.{ℕ, ◌≡◌, true, List, ◌∷◌, ◌++◌, Ok}
 use Rattle.std.specs.List.{list_all}
-use Rattle.tsa_base.specs.Tokens.{Lexeme}
-use Rattle.tsa_lex.specs.Thin.{thin_tokens}
+use Rattle.tsa_base.specs.Tokens.{Lexeme, tokens_of}
 use Rattle.tsa_tree.specs.Items.{Item}
 use Rattle.tsa_tool.specs.Spelling.{Spells}
 use Rattle.tsa_tool.specs.Names.{fits}
@@ -11,10 +10,10 @@ use Rattle.tsa_tool.specs.Limits.{items_are_within, body_is_within}
 use Rattle.tsa_tool.specs.Lines.{Warned, unit_warned}
 use Rattle.tsa_tool.specs.Checks.{warned_in}
 
--- the text has thin tokens, they spell the items, each item may stand behind those before it, and no limit is passed
+-- the text has tokens, they spell the items, each item may stand behind those before it, and no limit is passed
 pub record IsThin (text : List ℕ) (items : List Item) : Type 0 where
   pub tokens : List Lexeme
-  pub lexed : thin_tokens text ≡ Some tokens
+  pub lexed : tokens_of text ≡ Ok tokens
   pub spelled : Spells tokens items
   pub fits_each : (before : List Item) (item : Item) (behind : List Item) → items ≡ before ++ item ∷ behind → fits text before item ≡ true
   pub items_within : items_are_within items ≡ true

@@ -1,7 +1,7 @@
 //! What is answered to an input.
 ghost use Rattle.std.specs.Prelude.{◌≡◌, ◌≤◌, ◌∷◌, ◌++◌, [], codes, IfOk, OnOk, length};
 ghost use Rattle.tsa_base.specs.declared.limits.TheConstants.{INPUT_LIMIT};
-ghost use Rattle.tsa_tool.specs.Reports.{status_number, words_refused, too_long, judged, accepted, warned_report, refused_report};
+ghost use Rattle.tsa_tool.specs.Reports.{status_number, words_refused, too_long, judged, accepted, warned_report, refused_report, lex_text};
 ghost use Rattle.tsa_tool.specs.Answer.{report_of};
 ghost use Rattle.tsa_tool.specs.Warned.{warned_of};
 ghost use Rattle.std.specs.Fmt.{decimal};
@@ -9,7 +9,7 @@ ghost use Rattle.std.specs.Fmt.{decimal};
 use crate::check::{Refusal, ToolRefusal, check_unit};
 use crate::warn::UnitLines;
 use std::alloc::Global;
-use tsa_base::NoMemory;
+use tsa_base::{LexCode, LineStarts, NoMemory};
 
 /// How an answer ends the program.
 #[derive(Clone, Copy, Debug, PartialEq, Eq)]
@@ -106,7 +106,36 @@ fn refuse(alloc: Global, bytes: &[u8], refusal: Refusal) -> Result<Answer, NoMem
     ensures { IfOk result (λ answer. report_of answer ≡ refused_report bytes.now refusal) }
 {
     match refusal {
+        Refusal::Lex { code, byte } => refuse_byte(alloc, bytes, code, byte),
         Refusal::NotBuilt => answer_of(alloc, Status::Refused, b"NB0 form is not built yet\n"),
+    }
+}
+
+// The answer to a text with a bad byte: its place and what is wrong.
+fn refuse_byte(alloc: Global, bytes: &[u8], code: LexCode, byte: u32) -> Result<Answer, NoMemory>
+    ensures { IfOk result (λ answer. report_of answer ≡ refused_report bytes.now (Refusal.Lex code byte)) }
+{
+    let starts = LineStarts::new(alloc, bytes)?;
+    let mut text = Vec::new(alloc);
+    starts.place(byte).append_to(&mut text)?;
+    text.extend_from_slice(lex_text(code))?;
+    text.extend_from_slice(b"\n")?;
+    Ok(Answer {
+        status: Status::Refused,
+        text,
+    })
+}
+
+// What a code says.
+fn lex_text(code: LexCode) -> &'static [u8]
+    ensures { result.now ≡ lex_text code }
+{
+    match code {
+        LexCode::LX1 => b"LX1 byte starts no token",
+        LexCode::LX2 => b"LX2 unfinished comment",
+        LexCode::LX3 => b"LX3 malformed or too wide number",
+        LexCode::LX4 => b"LX4 refused preprocessing line",
+        LexCode::LX5 => b"LX5 unfinished text",
     }
 }
 

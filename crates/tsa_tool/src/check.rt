@@ -12,13 +12,14 @@ use crate::names::resolve;
 use crate::reading::read_unit;
 use crate::warn::{UnitLines, warn};
 use std::alloc::Global;
-use tsa_base::{LineStarts, NoMemory};
+use tsa_base::{LexCode, LineStarts, NoMemory};
 use tsa_lex::{LexRefusal, lex};
 use tsa_tree::{ThinItem, ThinUnit};
 
-/// Why a unit is refused, with a line of its own.
+/// Why a unit is refused, with a line of its own: a byte that makes it no tokens, or a form that isn't built yet.
 #[derive(Clone, Copy, Debug, PartialEq, Eq)]
 pub enum Refusal {
+    Lex { code: LexCode, byte: u32 },
     NotBuilt,
 }
 
@@ -49,7 +50,9 @@ fn read_items(alloc: Global, bytes: &[u8]) -> Result<ThinUnit, ToolRefusal>
 {
     let tokens = match lex(alloc, bytes) {
         Ok(tokens) => tokens,
-        Err(LexRefusal::NotBuilt) => return Err(NOT_BUILT),
+        Err(LexRefusal::At { code, byte }) => {
+            return Err(ToolRefusal::Refused(Refusal::Lex { code, byte }));
+        }
         Err(LexRefusal::NoMemory) => return Err(ToolRefusal::NoMemory),
     };
     match read_unit(alloc, &tokens)? {

@@ -14,6 +14,7 @@ ghost use Rattle.tsa_tool.specs.Reading.{
   lock_function_at,
   mutex_at,
   guard_at,
+  is_plain,
   number_at,
   call_at,
   assign_at,
@@ -164,9 +165,24 @@ fn number(tokens: &[Token<'_>], at: usize) -> Option<(ThinItem, usize)>
 fn value(tokens: &[Token<'_>], at: usize) -> Option<(u32, usize)>
     ensures { result ≡ value_at (map lexeme tokens.now) at }
 {
-    match tokens.get(at)?.kind {
-        TokenKind::Number { value, .. } => Some((value, at + 1)),
+    let token = tokens.get(at)?;
+    match token.kind {
+        TokenKind::Number {
+            value,
+            unsigned: false,
+        } if is_plain(token.text) => Some((value, at + 1)),
         _ => None,
+    }
+}
+
+// No 0 stands before other digits, so digits are decimal.
+fn is_plain(text: &[u8]) -> bool
+    ensures { result ≡ is_plain text.now }
+{
+    match text {
+        [] => false,
+        [_] => true,
+        [first, ..] => *first != b'0',
     }
 }
 

@@ -59,7 +59,7 @@ fn words_are_answered(rt: HostRuntime) -> Result<(), Fail> {
 fn units_are_checked(rt: HostRuntime) -> Result<(), Fail> {
     let alloc = rt.alloc();
     let words = words_of(alloc, &["check"])?;
-    let rows: [(&[u8], &str, u8); 9] = [
+    let rows: [(&[u8], &str, u8); 10] = [
         (LOCKED_WRITE, "accepted\n", 0),
         (
             b"void w(void) { g = 1; }",
@@ -95,7 +95,13 @@ fn units_are_checked(rt: HostRuntime) -> Result<(), Fail> {
             1,
         ),
         (b"int a[2];", NOT_BUILT, 2),
-        (b"int x /* guarded? */;", NOT_BUILT, 2),
+        (b"int x = 1;", NOT_BUILT, 2),
+        // Comments and skipped lines only separate tokens.
+        (
+            b"int /* // */ h;\n#pragma once\n// void w(void) { g = 1; }",
+            "accepted\n",
+            0,
+        ),
     ];
     for (text, answer, status) in rows {
         let unit = behind_locks(alloc, text)?;
@@ -107,6 +113,58 @@ fn units_are_checked(rt: HostRuntime) -> Result<(), Fail> {
             "{answer}"
         );
         assert_eq!(rt; sink.taken(), answer.as_bytes(), "{answer}");
+    }
+    Ok(())
+}
+
+#[test]
+fn bad_bytes_are_told_with_their_places(rt: HostRuntime) -> Result<(), Fail> {
+    let alloc = rt.alloc();
+    let words = words_of(alloc, &["check"])?;
+    let rows: [(&[u8], &str); 7] = [
+        (b"int g; /* x", "1:8: LX2 unfinished comment\n"),
+        (
+            b"int g = 12345678901;",
+            "1:9: LX3 malformed or too wide number\n",
+        ),
+        (b"int @;", "1:5: LX1 byte starts no token\n"),
+        (b"\"ab", "1:1: LX5 unfinished text\n"),
+        (b"#define X 1", "1:1: LX4 refused preprocessing line\n"),
+        // The bad byte is told before a form that isn't built.
+        (
+            b"int a[2];\n\nint\x0Bb $;",
+            "3:7: LX1 byte starts no token\n",
+        ),
+        (
+            b"void w(void) { g = 0x; } '",
+            "1:20: LX3 malformed or too wide number\n",
+        ),
+    ];
+    for (text, answer) in rows {
+        let mut source = HonestSource::new(alloc, text)?;
+        let mut sink = HonestSink::new(alloc);
+        assert_eq!(rt; tool(alloc, &words, &mut source, &mut sink), 2);
+        assert_eq!(rt; sink.taken(), answer.as_bytes());
+    }
+    Ok(())
+}
+
+#[test]
+fn numbers_are_decimal_and_of_the_type_int(rt: HostRuntime) -> Result<(), Fail> {
+    let alloc = rt.alloc();
+    let words = words_of(alloc, &["check"])?;
+    let rows: [(&[u8], &str); 5] = [
+        (b"int h; void w(void) { h = 0; }", "accepted\n"),
+        (b"int h; void w(void) { h = 2147483647; }", "accepted\n"),
+        (b"int h; void w(void) { h = 1u; }", NOT_BUILT),
+        (b"int h; void w(void) { h = 017; }", NOT_BUILT),
+        (b"int h; void w(void) { h = 0x1; }", NOT_BUILT),
+    ];
+    for (text, answer) in rows {
+        let mut source = HonestSource::new(alloc, text)?;
+        let mut sink = HonestSink::new(alloc);
+        tool(alloc, &words, &mut source, &mut sink);
+        assert_eq!(rt; sink.taken(), answer.as_bytes());
     }
     Ok(())
 }
