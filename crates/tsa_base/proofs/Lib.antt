@@ -2,3 +2,13 @@ pub mod BytesLemmas
 pub mod Longest
 pub mod TokenExamples
 pub mod PlacesLemmas
+pub mod LineEnds
+pub mod BlockEnds
+pub mod LongestFronts
+pub mod PieceFronts
+pub mod FrontPieces
+pub mod PieceSteps
+pub mod Falling
+pub mod TokenPlaces
+pub mod BadFronts
+pub mod OneWay

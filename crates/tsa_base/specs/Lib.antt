@@ -8,3 +8,4 @@ pub mod Causes
 pub mod Transfer
 pub mod Script
 pub mod Places
+pub mod PieceLaws

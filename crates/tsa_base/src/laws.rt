@@ -1,5 +1,6 @@
 //! Laws above the definition of tokens.
 ghost use Rattle.tsa_base.specs.TokenLaws.{TokensAreAsWritten, NextTokenIsTheLongest};
+ghost use Rattle.tsa_base.specs.PieceLaws.{TextsFallIntoPieces};
 
 /// Texts of each form have the tokens, and those of each refusal the first bad byte, that are written beside them.
 #[tactic(auto, using(crate::proofs::TokenExamples::tokens_are_as_written))]
@@ -11,4 +12,11 @@ pub fn tokens_are_as_written()
 #[tactic(auto, using(crate::proofs::Longest::next_token_is_the_longest))]
 pub fn the_next_token_is_the_longest()
     ensures { NextTokenIsTheLongest }
+{}
+
+/// A text is its pieces one after another, in one way only, or it is up to its first bad byte, where none begins: the
+/// tokens stand in it one behind the other, and nothing but blanks, comments and skipped lines is between them.
+#[tactic(auto, using(crate::proofs::TokenPlaces::texts_fall_into_pieces))]
+pub fn texts_fall_into_pieces()
+    ensures { TextsFallIntoPieces }
 {}
