@@ -41,19 +41,3 @@ up_to-within (suc n) cs = up_to-within_step n cs (is_token (take (suc n) cs)) re
 
 pub longest-within : (cs : List ℕ) → longest cs ≤ length cs
 longest-within cs = up_to-within (length cs) cs
-
-reaches_step : (n : ℕ) (cs : List ℕ) (k : ℕ) (b : Bool) → is_token (take (suc n) cs) ≡ b → k ≤ suc n → (b ≡ false → k ≤ longest_up_to n cs) → k ≤ longest_up_to (suc n) cs
-unfolding longest_up_to
-reaches_step n cs k true e within below = rw e within
-reaches_step n cs k false e within below = rw e (below refl)
-
-up_to-reaches : (n : ℕ) (cs : List ℕ) (k : ℕ) → k ≤ n → is_token (take k cs) ≡ true → k ≤ longest_up_to n cs
-up_to-reaches zero cs k within here = omega arith
-up_to-reaches (suc n) cs k within here =
-    reaches_step n cs k (is_token (take (suc n) cs)) refl within (λ other. elim (le-suc_iff.0 within) [
-      | inl below ↦ up_to-reaches n cs k below here
-      | inr same ↦ let wrong : is_token (take (suc n) cs) ≡ true = rw same at here in cc
-    ])
-
-pub longest-reaches : (cs : List ℕ) (k : ℕ) → k ≤ length cs → is_token (take k cs) ≡ true → k ≤ longest cs
-longest-reaches cs k within here = up_to-reaches (length cs) cs k within here

@@ -30,9 +30,6 @@ pub record RowAt (b : Body) (p : ℕ) (paths : List Path) (row : List Held) : Ty
   pub paths_are : map path_at row ≡ paths
   pub says : Says b p row
 
-point_blank : BodyPoint
-point_blank = record { place = 0; action = End }
-
 -- the action of a point
 get_mapped : (points : List BodyPoint) (p : ℕ) (d : BodyPoint) → p < length points → slice_get (map (λ q. point_action q.action) points) p ≡ Some (point_action (get_or points p d).action)
 get_mapped [] p d within = absurd (omega arith)

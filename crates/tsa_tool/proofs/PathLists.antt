@@ -76,9 +76,6 @@ grows paths (c ∷ cs) = omega (arith, with_path-step paths c (list_any (path_eq
 too_many : (n : ℕ) → CAPABILITY_LIMIT < n → nat_le n CAPABILITY_LIMIT ≡ false
 too_many n over = grind (arith, nat_tests)
 
-few : (n : ℕ) → n ≤ CAPABILITY_LIMIT → nat_le n CAPABILITY_LIMIT ≡ true
-few n within = grind (arith, nat_tests)
-
 length-map' : (paths : List ℕ) → length (map global paths) ≡ length paths
 length-map' [] = refl
 length-map' (p ∷ ps) = ap suc (length-map' ps)
@@ -90,9 +87,6 @@ over_limit points i lock d all paths within rest is new full =
     let size : length (map global (paths ++ lock ∷ [])) ≡ suc (length paths) = length-map' (paths ++ lock ∷ []) ∙ length-append paths (lock ∷ []) ∙ omega arith in
     let reach : length (map global (paths ++ lock ∷ [])) ≤ length all = rw more (grows (map global (paths ++ lock ∷ [])) (rest_paths (drop (i + 1) points))) in
     too_many (length all) (omega arith)
-
-pub within_limit : (all : List Path) (paths : List ℕ) → all ≡ map global paths → length paths ≤ CAPABILITY_LIMIT → nat_le (length all) CAPABILITY_LIMIT ≡ true
-within_limit all paths is small = few (length all) (omega (arith, length-map' paths, ap length is))
 
 -- One path more in order.
 

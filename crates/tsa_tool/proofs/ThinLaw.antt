@@ -1,5 +1,5 @@
 -- What is warned of is a thin unit, and each thin unit is.
-use Rattle.std.proofs.Common.{◌≡◌, Bool, true, false, ◌&&◌, List, [], ◌∷◌, ◌++◌, Option, Some, None, Result, Ok, Err, refl, sym, subst, ap, ◌∙◌, append_assoc, ℕ}
+use Rattle.std.proofs.Common.{◌≡◌, ◌⊎◌, inl, inr, Bool, true, false, ◌&&◌, List, [], ◌∷◌, ◌++◌, Option, Some, None, Result, Ok, Err, refl, sym, subst, ap, ◌∙◌, append_assoc, ℕ}
 use Rattle.std.proofs.lemmas.List.{append-nil}
 use Rattle.tsa_base.specs.Tokens.{BadByte, Lexeme, tokens_of}
 use Rattle.tsa_tree.specs.Items.{Item}
@@ -103,5 +103,31 @@ unfolding warned_in
 by_items text w (Err x) is e = let wrong : ◌≡◌ {A = Result Warned Refusal} (Err x) (Ok w) = rw is at e in cc
 by_items text w (Ok items) is e = by_thin text w items (is_thin_unit text items) is refl (after_judged (judged_items text items) w (rw is at e))
 
+-- The refusals.
+
+bad_text : (text : List ℕ) (byte : BadByte) → tokens_of text ≡ Err byte → warned_in text ≡ Err (Lex byte.code byte.byte)
+unfolding warned_in items_in
+bad_text text byte is = rw is refl
+
+-- a text with tokens is warned of, or it isn't built
+judged_or : (text : List ℕ) (items : List Item) (b : Bool) → is_thin_unit text items ≡ b → ((w : Warned) × (judged_items text items ≡ Ok w)) ⊎ (judged_items text items ≡ Err NotBuilt)
+unfolding judged_items
+judged_or text items true is = inl (unit_warned text items (bodies_of text items), rw is refl)
+judged_or text items false is = inr (rw is refl)
+
+built_or : (text : List ℕ) (tokens : List Lexeme) (o : Option (List Item)) → tokens_of text ≡ Ok tokens → items_of tokens ≡ o → ((w : Warned) × (warned_in text ≡ Ok w)) ⊎ (warned_in text ≡ Err NotBuilt)
+unfolding warned_in items_in
+built_or text tokens None is read = inr (rw (is, read) refl)
+built_or text tokens (Some items) is read = elim (judged_or text items (is_thin_unit text items) refl) [
+  | inl found ↦ inl (found.0, rw (is, read, found.1) refl)
+  | inr none ↦ inr (rw (is, read, none) refl)
+]
+
+other_text : (text : List ℕ) (tokens : List Lexeme) → tokens_of text ≡ Ok tokens → ((items : List Item) → IsThin text items → ⊥) → warned_in text ≡ Err NotBuilt
+other_text text tokens is none = elim (built_or text tokens (items_of tokens) is refl) [
+  | inl found ↦ let thin = by_items text found.0 (items_in text) refl found.1 in absurd (none thin.0 thin.1)
+  | inr refused ↦ refused
+]
+
 pub thin_law : ThinUnitsAreWarnedOf
-thin_law = record { warned = warned; thin = λ text w e. by_items text w (items_in text) refl e }
+thin_law = record { warned = warned; thin = λ text w e. by_items text w (items_in text) refl e; bad = bad_text; other = other_text }

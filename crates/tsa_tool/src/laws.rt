@@ -10,7 +10,7 @@ pub fn what_is_read_is_what_is_spelled()
 {}
 
 /// What `check` warns of is exactly the thin units: their tokens spell them, each item may stand behind those before it,
-/// and no limit is passed.
+/// and no limit is passed. Any other text is refused by its first bad byte, or as not built where it has none.
 #[tactic(auto, using(crate::proofs::ThinLaw::thin_law))]
 pub fn thin_units_are_warned_of()
     ensures { ThinUnitsAreWarnedOf }
