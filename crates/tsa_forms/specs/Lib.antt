@@ -1,0 +1,4 @@
+pub mod Form
+pub mod Spelling
+pub mod Reading
+pub mod Exact
