@@ -1,6 +1,15 @@
-//! The syntax tree of a unit: what its declarations and statements name.
+//! The syntax tree of a unit: expressions in the arena, what the grammar sees of a token, and what the items of a thin unit
+//! name.
 #![tactic(auto)]
 
+pub mod expr;
+mod laws;
+pub mod sign;
+
+pub use laws::{
+    expressions_are_as_written, first_pieces_begin, one_answer_is_right, one_tree_is_spelled,
+    rows_are_productions,
+};
 use tsa_base::Span;
 
 /// A unit of the thin language, in plain vectors. Its spans name bytes of the input.
