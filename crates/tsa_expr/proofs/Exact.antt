@@ -1,0 +1,60 @@
+-- What was read by the rows is what the grammar asks for.
+use Rattle.std.proofs.Common.{ℕ, ◌≡◌, subst, List, [], Ok, Err, Result}
+use Rattle.tsa_base.specs.Tokens.{Lexeme}
+use Rattle.tsa_tree.specs.Expressions.{Expression}
+use Rattle.tsa_tree.specs.Rows as rows
+use Rattle.tsa_tree.specs.Rows.{expression, operand}
+use Rattle.tsa_tree.specs.Reads.{read}
+use Rattle.tsa_tree.specs.Answers.{an_expression, a_unary, IsLongest, IsBroken, IsTooDeep, IsAnswer}
+use Rattle.tsa_tree.proofs.AnswerLemmas.{read_answers}
+use Rattle.tsa_expr.specs.declared.refusal.SyntaxRefusal.{SyntaxRefusal}
+use Rattle.tsa_expr.specs.declared.refusal.SyntaxRefusal.TheVariants.{At, Function, NoMemory}
+use Rattle.tsa_expr.specs.declared.refusal.SyntaxCode.TheVariants.{SY1, AT1, AT2, LM2, LM3, LM5}
+use Rattle.tsa_expr.specs.Gives.{Fails, IsOfExpressions}
+use Rattle.tsa_forms.specs.Reading.{Outcome, refuse, syntax, deep}
+
+pub fails_by : {Y : Type 0} (refusal : SyntaxRefusal) (r : Outcome Y) → Fails refusal r → IsOfExpressions refusal
+fails_by (At SY1 token) r h = tt
+fails_by (At LM2 token) r h = tt
+fails_by (At AT1 token) r h = h
+fails_by (At AT2 token) r h = h
+fails_by (At LM3 token) r h = h
+fails_by (At LM5 token) r h = h
+fails_by (Function code span) r h = h
+fails_by NoMemory r h = tt
+
+same_refusal : {X : Type 0} (e f : SyntaxRefusal) → (let r : Result X SyntaxRefusal = Err e in r) ≡ Err f → e ≡ f
+same_refusal e f h = cc
+
+pub broken_by : {X Y : Type 0} (e : SyntaxRefusal) (r : Outcome Y) (token : ℕ) → Fails e r
+    → (let s : Result X SyntaxRefusal = Err e in s) ≡ Err (At SY1 token) → r ≡ Err (refuse syntax token)
+broken_by e r token f h = subst (λ e. Fails e r) (same_refusal e (At SY1 token) h) f
+
+pub deep_by : {X Y : Type 0} (e : SyntaxRefusal) (r : Outcome Y) (token : ℕ) → Fails e r
+    → (let s : Result X SyntaxRefusal = Err e in s) ≡ Err (At LM2 token) → r ≡ Err (refuse deep token)
+deep_by e r token f h = subst (λ e. Fails e r) (same_refusal e (At LM2 token) h) f
+
+module _ (tokens : List Lexeme) (depth at : ℕ) where
+  pub expression_found : (t : Expression) (e : ℕ) → read tokens rows.an_expression (expression [] depth 0) at ≡ Ok (t, e)
+      → IsLongest tokens [] an_expression depth at t e
+  expression_found t e h = subst (IsAnswer tokens [] an_expression depth at) h (read_answers tokens [] an_expression depth at)
+
+  pub expression_broken : (i : ℕ) → read tokens rows.an_expression (expression [] depth 0) at ≡ Err (refuse syntax i)
+      → IsBroken tokens [] an_expression depth at i
+  expression_broken i h = subst (IsAnswer tokens [] an_expression depth at) h (read_answers tokens [] an_expression depth at)
+
+  pub expression_deep : (i : ℕ) → read tokens rows.an_expression (expression [] depth 0) at ≡ Err (refuse deep i)
+      → IsTooDeep tokens [] an_expression depth at i
+  expression_deep i h = subst (IsAnswer tokens [] an_expression depth at) h (read_answers tokens [] an_expression depth at)
+
+  pub unary_found : (t : Expression) (e : ℕ) → read tokens rows.an_expression (operand [] depth) at ≡ Ok (t, e)
+      → IsLongest tokens [] a_unary depth at t e
+  unary_found t e h = subst (IsAnswer tokens [] a_unary depth at) h (read_answers tokens [] a_unary depth at)
+
+  pub unary_broken : (i : ℕ) → read tokens rows.an_expression (operand [] depth) at ≡ Err (refuse syntax i)
+      → IsBroken tokens [] a_unary depth at i
+  unary_broken i h = subst (IsAnswer tokens [] a_unary depth at) h (read_answers tokens [] a_unary depth at)
+
+  pub unary_deep : (i : ℕ) → read tokens rows.an_expression (operand [] depth) at ≡ Err (refuse deep i)
+      → IsTooDeep tokens [] a_unary depth at i
+  unary_deep i h = subst (IsAnswer tokens [] a_unary depth at) h (read_answers tokens [] a_unary depth at)

@@ -1,0 +1,62 @@
+use Rattle.std.proofs.Common.{◌≡◌, ◌+◌, ◌≤◌, ◌<◌, length, max, [], ◌-◌, ◌*◌}
+use Rattle.tsa_tree.specs.Expressions.{height, heights}
+use Rattle.tsa_tree.specs.Reads.{read, read_on, read_behind}
+use Rattle.tsa_tree.specs.Rows.{some_arguments, series}
+use Rattle.tsa_tree.specs.Shapes.{shape, shapes}
+use Rattle.tsa_tree.specs.Signs.{lexemes}
+use Rattle.tsa_expr.specs.Seen.{after}
+use Rattle.tsa_expr.proofs.reader.+reader.Given as goal
+
+abbrev pub decreases-arguments : goal.decreases-arguments
+decreases-arguments l = 8 * (length l.tokens.now - l.at) + 4
+
+abbrev pub decreases-expression : goal.decreases-expression
+decreases-expression l = 8 * (length l.tokens.now - l.at) + 3
+
+abbrev pub decreases-operand : goal.decreases-operand
+decreases-operand l = 8 * (length l.tokens.now - l.at) + 2
+
+abbrev pub decreases-primary : goal.decreases-primary
+decreases-primary l = 8 * (length l.tokens.now - l.at) + 1
+
+abbrev pub decreases-name_or_call : goal.decreases-name_or_call
+decreases-name_or_call l = 8 * (length l.tokens.now - l.at)
+
+abbrev pub decreases-operations : goal.decreases-operations
+decreases-operations l = 8 * (length l.tokens.now - l.left.next)
+
+abbrev pub decreases-accesses : goal.decreases-accesses
+decreases-accesses l = 8 * (length l.tokens.now - l.base.next) + 1
+
+abbrev pub decreases-element : goal.decreases-element
+decreases-element l = 8 * (length l.tokens.now - l.base.next)
+
+abbrev pub invariant-operations-operators : goal.invariant-operations-operators
+invariant-operations-operators l =
+    (l.start < l.whole.next) × (l.fn.left.next ≤ l.whole.next) × (l.whole.next ≤ length l.tokens)
+    × (l.whole.height + l.start ≤ l.whole.next) × (l.whole.height ≡ height (shape l.whole.tree))
+    × (read_on (lexemes l.tokens) [] l.depth l.tight l.start (shape l.fn.left.tree) l.fn.left.next
+    ≡ read_on (lexemes l.tokens) [] l.depth l.tight l.start (shape l.whole.tree) l.whole.next)
+
+abbrev pub decreases-operations-operators : goal.decreases-operations-operators
+decreases-operations-operators l = length l.tokens - l.whole.next
+
+abbrev pub invariant-accesses-operators : goal.invariant-accesses-operators
+invariant-accesses-operators l =
+    (l.start < l.whole.next) × (l.fn.base.next ≤ l.whole.next) × (l.whole.next ≤ length l.tokens)
+    × (l.whole.height + l.start ≤ l.whole.next) × (l.whole.height ≡ height (shape l.whole.tree))
+    × (read_behind (lexemes l.tokens) [] l.depth l.start (shape l.fn.base.tree) l.fn.base.next
+    ≡ read_behind (lexemes l.tokens) [] l.depth l.start (shape l.whole.tree) l.whole.next)
+
+abbrev pub decreases-accesses-operators : goal.decreases-accesses-operators
+decreases-accesses-operators l = length l.tokens - l.whole.next
+
+abbrev pub invariant-arguments-items : goal.invariant-arguments-items
+invariant-arguments-items l =
+    (l.at ≤ l.next) × (l.next ≤ length l.tokens) × (l.height + l.at ≤ l.next)
+    × (max (heights (shapes l.fn.list.items)) l.height ≡ heights (shapes l.list.items))
+    × (after (shapes l.fn.list.items) (read (lexemes l.tokens) some_arguments (series [] l.depth) l.at)
+    ≡ after (shapes l.list.items) (read (lexemes l.tokens) some_arguments (series [] l.depth) l.next))
+
+abbrev pub decreases-arguments-items : goal.decreases-arguments-items
+decreases-arguments-items l = length l.tokens - l.next

@@ -1,0 +1,22 @@
+-- What the readers' results are without the arena.
+use Rattle.std.specs.Prelude.{ℕ, Ok}
+use Rattle.tsa_forms.specs.Reading.{Outcome, then}
+use Rattle.tsa_tree.specs.declared.expr.Expr.{Expr}
+use Rattle.tsa_tree.specs.Expressions.{Expression, Arguments, none, more}
+use Rattle.tsa_tree.specs.Shapes.{shape}
+use Rattle.tsa_expr.specs.declared.reader.Reading.{Reading}
+
+-- what was read, and the place after it
+abbrev pub seen : Reading → Expression × ℕ
+seen reading = (shape reading.tree, reading.next)
+
+abbrev pub seen_pair : Expr × ℕ → Expression × ℕ
+seen_pair pair = (shape pair.0, pair.1)
+
+abbrev pub joined : Arguments → Arguments → Arguments
+joined none others = others
+joined (more first rest) others = more first (joined rest others)
+
+-- the arguments behind those that were there before
+abbrev pub after : Arguments → Outcome Arguments → Outcome Arguments
+after front read = then read (λ args at. Ok (joined front args, at))

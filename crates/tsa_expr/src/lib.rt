@@ -1,0 +1,18 @@
+//! Reading of expressions: from tokens to trees in the arena, one token ahead.
+#![tactic(auto)]
+
+mod nodes;
+mod read;
+mod reader;
+mod refusal;
+mod sign;
+mod view;
+
+pub use read::{read_expr, read_operand, read_rest, read_unary};
+pub use reader::Reading;
+pub use refusal::{SyntaxCode, SyntaxRefusal};
+pub use sign::sign_of;
+pub use view::{name_at, number_at, sign_at, span_at, span_over};
+
+#[cfg(test)]
+mod tests;
