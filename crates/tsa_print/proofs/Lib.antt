@@ -1,0 +1,14 @@
+mod Apart
+mod Longer
+mod Numerals
+mod PieceTokens
+mod PunctPieces
+mod Lexed
+mod PieceSigns
+mod Spelled
+mod ReadSound
+mod Starts
+mod CanonicalApart
+mod WrittenParts
+mod Rows
+mod ReadAgain

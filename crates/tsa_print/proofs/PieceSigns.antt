@@ -1,0 +1,185 @@
+-- What the grammar sees at a token that is a piece of a canonical text.
+use Rattle.std.proofs.Common.{ℕ, suc, ◌+◌, ◌≡◌, ◌∙◌, ap, sym, subst, refl, arith, List, [], ◌∷◌, ◌++◌, Bool, true, false, ◌&&◌, ◌||◌, not, Some, length, slice_get, codes, add-zero}
+use Rattle.std.proofs.lemmas.Bool.{and_parts, not-true}
+use Rattle.std.proofs.lemmas.List.Folds.{list_any-append}
+use Rattle.std.specs.List.{list_all, list_any}
+use Rattle.std.specs.Str.{bytes_eq}
+use Rattle.tsa_base.specs.Bytes.{is_letter, is_word_byte}
+use Rattle.tsa_base.specs.Tokens.{Lexeme}
+use Rattle.tsa_base.specs.Words.{keywords, macro_words, reserved, is_reserved}
+use Rattle.tsa_tree.specs.declared.expr.UnaryOp.{UnaryOp}
+use Rattle.tsa_tree.specs.declared.expr.UnaryOp.TheVariants as prefix_op
+use Rattle.tsa_tree.specs.declared.expr.BinaryOp.TheVariants as op
+use Rattle.tsa_tree.specs.declared.sign.Sign.{Sign}
+use Rattle.tsa_tree.specs.declared.sign.Sign.TheVariants as sign
+use Rattle.tsa_tree.specs.Expressions.{Identifier, plain_name, nowhere}
+use Rattle.tsa_tree.specs.Signs.{Aliases, punctuator_signs, sign_listed, word_sign, sign_of, sign_in, sign_at, identifier_in, identifier_at, value_of, unsigned_of, kind_in, value_at, unsigned_at}
+use Rattle.tsa_tree.specs.Signs as signs
+use Rattle.tsa_print.specs.Canonical.{Piece, word, numeral, operator, prefix, access, comma, open_parenthesis, open_call, close_parenthesis, open_bracket, close_bracket, piece_text}
+use Rattle.tsa_print.specs.Writable.{is_name}
+use Rattle.tsa_print.proofs.Apart.{piece_kind, AreTokens}
+
+-- the token at this place is this piece
+abbrev pub Looks : List Lexeme → ℕ → Piece → Type 0
+Looks ts i p = (t : Lexeme) × (slice_get ts i ≡ Some t) × (t.kind ≡ piece_kind p) × (t.text ≡ piece_text p)
+
+-- these pieces stand from a place on
+abbrev pub Shows : List Lexeme → ℕ → List Piece → Type 0
+Shows ts a [] = Unit {0}
+Shows ts a (p ∷ ps) = Looks ts a p × Shows ts (a + 1) ps
+
+shifted : (t : Lexeme) (ts : List Lexeme) (a : ℕ) (ps : List Piece) → Shows ts a ps → Shows (t ∷ ts) (a + 1) ps
+shifted t ts a [] h = tt
+shifted t ts a (p ∷ ps) h =
+    let next : suc a ≡ a + 1 = omega arith in
+    ((h.0.0, subst (λ n. slice_get (t ∷ ts) n ≡ Some h.0.0) next h.0.1, h.0.2, h.0.3), shifted t ts (a + 1) ps h.1)
+
+-- tokens that are pieces show them, each at its place
+pub shown : (ps : List Piece) (ts : List Lexeme) → AreTokens ps ts → Shows ts 0 ps
+shown [] ts h = tt
+shown (p ∷ ps) [] h = absurd h
+shown (p ∷ ps) (t ∷ ts) h = ((t, refl, h.0, h.1), shifted t ts 0 ps (shown ps ts h.2))
+
+pub as_many : (ps : List Piece) (ts : List Lexeme) → AreTokens ps ts → length ts ≡ length ps
+as_many [] [] h = refl
+as_many [] (t ∷ ts) h = absurd h
+as_many (p ∷ ps) [] h = absurd h
+as_many (p ∷ ps) (t ∷ ts) h = ap suc (as_many ps ts h.2)
+
+-- what stands behind some pieces stands so many places on
+pub split : (ts : List Lexeme) (a : ℕ) (ps qs : List Piece) → Shows ts a (ps ++ qs) → Shows ts a ps × Shows ts (a + length ps) qs
+split ts a [] qs h = (tt, rw add-zero h)
+split ts a (p ∷ ps) qs h =
+    let s = split ts (a + 1) ps qs h.1 in
+    ((h.0, s.0), subst (λ n. Shows ts n qs) (omega arith) s.1)
+
+-- A name is neither `NULL`, nor another reserved word, nor the name of a type.
+no_null : (text : List ℕ) → is_reserved text ≡ false → bytes_eq text (codes "NULL") ≡ false
+unfolding is_reserved reserved keywords
+no_null text e =
+    let f = bytes_eq text in
+    let others = codes "NULL" ∷ codes "__attribute__" ∷ [] in
+    let apart : list_any f (keywords ++ (macro_words ++ others)) ≡ (list_any f keywords || (list_any f macro_words || list_any f others)) =
+    list_any-append f keywords (macro_words ++ others) ∙ ap (λ b. list_any f keywords || b) (list_any-append f macro_words others) in
+    last (list_any f keywords) (list_any f macro_words) _ _ (sym apart ∙ e)
+  where
+    last : (a b c d : Bool) → (a || (b || (c || d))) ≡ false → c ≡ false
+    last false false false d e = refl
+    last false false true d e = cc
+    last false true c d e = cc
+    last true b c d e = cc
+
+named_sign : (aliases : Aliases) (text : List ℕ) → is_reserved text ≡ false → list_any (bytes_eq text) aliases ≡ false
+    → word_sign aliases text ≡ sign.Name
+unfolding word_sign
+named_sign aliases text r l = let n = no_null text r in rw (n, r, l) refl
+
+pub name_sign : (aliases : Aliases) (text : List ℕ) → is_name aliases text ≡ true → word_sign aliases text ≡ sign.Name
+name_sign aliases [] e = cc
+name_sign aliases (c ∷ cs) e =
+    let parts = and_parts (is_letter c && list_all is_word_byte cs) _ e in
+    let words = and_parts (not (is_reserved (c ∷ cs))) _ parts.1 in
+    named_sign aliases (c ∷ cs) (not-true _ words.0) (not-true _ words.1)
+
+abbrev pub prefix_sign : UnaryOp → Sign
+prefix_sign prefix_op.Minus = sign.Operator op.Minus
+prefix_sign prefix_op.Not = sign.Not
+prefix_sign prefix_op.Flip = sign.Flip
+prefix_sign prefix_op.Address = sign.Operator op.BitAnd
+prefix_sign prefix_op.Follow = sign.Operator op.Times
+
+abbrev pub access_sign : Bool → Sign
+access_sign true = sign.Arrow
+access_sign false = sign.Dot
+
+-- the sign of a piece; a word's depends on its text
+abbrev pub piece_sign : Aliases → Piece → Sign
+piece_sign aliases (word text) = word_sign aliases text
+piece_sign aliases (numeral value unsigned) = sign.Number
+piece_sign aliases (operator o) = sign.Operator o
+piece_sign aliases (prefix o) = prefix_sign o
+piece_sign aliases (access arrow) = access_sign arrow
+piece_sign aliases comma = sign.Comma
+piece_sign aliases open_parenthesis = sign.Open
+piece_sign aliases open_call = sign.Open
+piece_sign aliases close_parenthesis = sign.Close
+piece_sign aliases open_bracket = sign.OpenBracket
+piece_sign aliases close_bracket = sign.CloseBracket
+
+of_piece : (aliases : Aliases) (p : Piece) → sign_of aliases (piece_kind p) (piece_text p) ≡ piece_sign aliases p
+unfolding sign_of sign_listed punctuator_signs
+of_piece aliases (word text) = refl
+of_piece aliases (numeral value unsigned) = refl
+of_piece aliases (operator op.Or) = refl
+of_piece aliases (operator op.And) = refl
+of_piece aliases (operator op.BitOr) = refl
+of_piece aliases (operator op.BitXor) = refl
+of_piece aliases (operator op.BitAnd) = refl
+of_piece aliases (operator op.Equal) = refl
+of_piece aliases (operator op.Unequal) = refl
+of_piece aliases (operator op.Less) = refl
+of_piece aliases (operator op.More) = refl
+of_piece aliases (operator op.LessEqual) = refl
+of_piece aliases (operator op.MoreEqual) = refl
+of_piece aliases (operator op.Plus) = refl
+of_piece aliases (operator op.Minus) = refl
+of_piece aliases (operator op.Times) = refl
+of_piece aliases (operator op.Divide) = refl
+of_piece aliases (operator op.Remainder) = refl
+of_piece aliases (prefix prefix_op.Minus) = refl
+of_piece aliases (prefix prefix_op.Not) = refl
+of_piece aliases (prefix prefix_op.Flip) = refl
+of_piece aliases (prefix prefix_op.Address) = refl
+of_piece aliases (prefix prefix_op.Follow) = refl
+of_piece aliases (access true) = refl
+of_piece aliases (access false) = refl
+of_piece aliases comma = refl
+of_piece aliases open_parenthesis = refl
+of_piece aliases open_call = refl
+of_piece aliases close_parenthesis = refl
+of_piece aliases open_bracket = refl
+of_piece aliases close_bracket = refl
+
+-- a token that is a piece is seen as the piece
+pub seen : (aliases : Aliases) (ts : List Lexeme) (i : ℕ) (p : Piece) → Looks ts i p → sign_at ts aliases i ≡ piece_sign aliases p
+unfolding sign_at
+seen aliases ts i p (t, at, kind, text) =
+    ap (sign_in aliases) at ∙ (ap (λ k. sign_of aliases k t.text) kind ∙ (ap (sign_of aliases (piece_kind p)) text ∙ of_piece aliases p))
+
+pub name_seen : (aliases : Aliases) (ts : List Lexeme) (i : ℕ) (text : List ℕ) → is_name aliases text ≡ true
+    → Looks ts i (word text) → sign_at ts aliases i ≡ sign.Name
+name_seen aliases ts i text e h = seen aliases ts i (word text) h ∙ name_sign aliases text e
+
+pub null_seen : (aliases : Aliases) (ts : List Lexeme) (i : ℕ) → Looks ts i (word (codes "NULL")) → sign_at ts aliases i ≡ sign.Null
+unfolding word_sign
+null_seen aliases ts i h = seen aliases ts i (word (codes "NULL")) h
+
+pub prefix_seen : (aliases : Aliases) (ts : List Lexeme) (i : ℕ) (o : UnaryOp) → Looks ts i (prefix o)
+    → signs.prefix (sign_at ts aliases i) ≡ Some o
+prefix_seen aliases ts i o h = ap signs.prefix (seen aliases ts i (prefix o) h) ∙ same o
+  where
+    same : (o : UnaryOp) → signs.prefix (prefix_sign o) ≡ Some o
+    same prefix_op.Minus = refl
+    same prefix_op.Not = refl
+    same prefix_op.Flip = refl
+    same prefix_op.Address = refl
+    same prefix_op.Follow = refl
+
+pub access_seen : (aliases : Aliases) (ts : List Lexeme) (i : ℕ) (arrow : Bool) → Looks ts i (access arrow)
+    → signs.access (sign_at ts aliases i) ≡ Some arrow
+access_seen aliases ts i true h = ap signs.access (seen aliases ts i (access true) h)
+access_seen aliases ts i false h = ap signs.access (seen aliases ts i (access false) h)
+
+-- a word's token has its text, and a numeral's its value and type
+pub named_so : (ts : List Lexeme) (i : ℕ) (name : Identifier) → Looks ts i (word name.text) → plain_name (identifier_at ts i) ≡ plain_name name
+unfolding identifier_at
+named_so ts i name (t, at, kind, text) =
+    ap (λ o. plain_name (identifier_in o)) at ∙ ap (λ x. record { text = x; span = nowhere }) text
+
+pub value_so : (ts : List Lexeme) (i value : ℕ) (unsigned : Bool) → Looks ts i (numeral value unsigned) → value_at ts i ≡ value
+unfolding value_at
+value_so ts i value unsigned (t, at, kind, text) = ap (λ o. value_of (kind_in o)) at ∙ ap value_of kind
+
+pub unsigned_so : (ts : List Lexeme) (i value : ℕ) (unsigned : Bool) → Looks ts i (numeral value unsigned) → unsigned_at ts i ≡ unsigned
+unfolding unsigned_at
+unsigned_so ts i value unsigned (t, at, kind, text) = ap (λ o. unsigned_of (kind_in o)) at ∙ ap unsigned_of kind
