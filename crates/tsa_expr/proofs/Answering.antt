@@ -16,8 +16,8 @@ pub fails_then : {A B : Type 0} (e : SyntaxRefusal) (r : Outcome A) (go : A → 
 unfolding then
 fails_then (refusal.At code.SY1 n) r go h = ap (λ r. then r go) h
 fails_then (refusal.At code.LM2 n) r go h = ap (λ r. then r go) h
-fails_then (refusal.At code.AT1 n) r go h = absurd h
-fails_then (refusal.At code.AT2 n) r go h = absurd h
+fails_then (refusal.At code.AT1 n) r go h = ap (λ r. then r go) h
+fails_then (refusal.At code.AT2 n) r go h = ap (λ r. then r go) h
 fails_then (refusal.At code.LM3 n) r go h = absurd h
 fails_then (refusal.At code.LM5 n) r go h = absurd h
 fails_then (refusal.Function c s) r go h = absurd h

@@ -13,16 +13,6 @@ use Rattle.tsa_expr.specs.declared.refusal.SyntaxCode.TheVariants.{SY1, AT1, AT2
 use Rattle.tsa_expr.specs.Gives.{Fails, IsOfExpressions}
 use Rattle.tsa_forms.specs.Reading.{Outcome, refuse, syntax, deep}
 
-pub fails_by : {Y : Type 0} (refusal : SyntaxRefusal) (r : Outcome Y) → Fails refusal r → IsOfExpressions refusal
-fails_by (At SY1 token) r h = tt
-fails_by (At LM2 token) r h = tt
-fails_by (At AT1 token) r h = h
-fails_by (At AT2 token) r h = h
-fails_by (At LM3 token) r h = h
-fails_by (At LM5 token) r h = h
-fails_by (Function code span) r h = h
-fails_by NoMemory r h = tt
-
 same_refusal : {X : Type 0} (e f : SyntaxRefusal) → (let r : Result X SyntaxRefusal = Err e in r) ≡ Err f → e ≡ f
 same_refusal e f h = cc
 
@@ -58,3 +48,23 @@ module _ (tokens : List Lexeme) (depth at : ℕ) where
   pub unary_deep : (i : ℕ) → read tokens rows.an_expression (operand [] depth) at ≡ Err (refuse deep i)
       → IsTooDeep tokens [] a_unary depth at i
   unary_deep i h = subst (IsAnswer tokens [] a_unary depth at) h (read_answers tokens [] a_unary depth at)
+
+  pub expression_no_other : (e : SyntaxRefusal) → Fails e (read tokens rows.an_expression (expression [] depth 0) at) → IsOfExpressions e
+  expression_no_other (At SY1 token) h = tt
+  expression_no_other (At LM2 token) h = tt
+  expression_no_other (At AT1 token) h = subst (IsAnswer tokens [] an_expression depth at) h (read_answers tokens [] an_expression depth at)
+  expression_no_other (At AT2 token) h = subst (IsAnswer tokens [] an_expression depth at) h (read_answers tokens [] an_expression depth at)
+  expression_no_other (At LM3 token) h = h
+  expression_no_other (At LM5 token) h = h
+  expression_no_other (Function code span) h = h
+  expression_no_other NoMemory h = tt
+
+  pub unary_no_other : (e : SyntaxRefusal) → Fails e (read tokens rows.an_expression (operand [] depth) at) → IsOfExpressions e
+  unary_no_other (At SY1 token) h = tt
+  unary_no_other (At LM2 token) h = tt
+  unary_no_other (At AT1 token) h = subst (IsAnswer tokens [] a_unary depth at) h (read_answers tokens [] a_unary depth at)
+  unary_no_other (At AT2 token) h = subst (IsAnswer tokens [] a_unary depth at) h (read_answers tokens [] a_unary depth at)
+  unary_no_other (At LM3 token) h = h
+  unary_no_other (At LM5 token) h = h
+  unary_no_other (Function code span) h = h
+  unary_no_other NoMemory h = tt

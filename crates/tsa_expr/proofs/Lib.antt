@@ -1,3 +1,6 @@
+pub mod ListedRows
+pub mod WordRows
+pub mod AttributeRows
 pub mod Rows
 pub mod Answering
 pub mod Climbing

@@ -3,13 +3,16 @@ use Rattle.std.specs.Prelude.{ℕ, ◌≡◌, Ok, Err}
 use Rattle.std.specs.declared.result.Result.{Result}
 use Rattle.tsa_expr.specs.declared.refusal.SyntaxRefusal.{SyntaxRefusal}
 use Rattle.tsa_expr.specs.declared.refusal.SyntaxRefusal.TheVariants.{At, Function, NoMemory}
-use Rattle.tsa_expr.specs.declared.refusal.SyntaxCode.TheVariants.{SY1, LM2}
-use Rattle.tsa_forms.specs.Reading.{Outcome, refuse, syntax, deep}
+use Rattle.tsa_expr.specs.declared.refusal.SyntaxCode.TheVariants.{SY1, AT1, AT2, LM2}
+use Rattle.tsa_forms.specs.Reading.{Outcome, refuse, syntax, deep, barred}
+use Rattle.tsa_tree.specs.AttributeRefusals.{left_out, lacking}
 
--- a refusal of expressions is the reading's, and it is no other; but want of memory may always come
+-- a refusal of a token is the reading's, but want of memory may always come; no function is refused
 abbrev pub Fails : {Y : Type 0} → SyntaxRefusal → Outcome Y → Type 0
 Fails (At SY1 token) read = read ≡ Err (refuse syntax token)
 Fails (At LM2 token) read = read ≡ Err (refuse deep token)
+Fails (At AT1 token) read = read ≡ Err (refuse (barred left_out) token)
+Fails (At AT2 token) read = read ≡ Err (refuse (barred lacking) token)
 Fails (At _ token) read = ⊥
 Fails (Function code span) read = ⊥
 Fails NoMemory read = Unit {0}

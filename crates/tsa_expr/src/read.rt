@@ -5,12 +5,12 @@ ghost use Rattle.tsa_tree.specs.Answers.{an_expression, a_unary, IsLongest, IsBr
 ghost use Rattle.tsa_tree.specs.Expressions.{height as height_of};
 ghost use Rattle.tsa_tree.specs.Reads.{read};
 ghost use Rattle.tsa_tree.specs.Rows as rows;
-ghost use Rattle.tsa_tree.specs.Shapes.{shape};
+ghost use Rattle.tsa_tree.specs.Shapes.{shape, shapes};
 ghost use Rattle.tsa_tree.specs.Signs.{lexemes};
 ghost use Rattle.tsa_expr.specs.Gives.{Gives, IsOfExpressions};
-ghost use Rattle.tsa_expr.specs.Seen.{seen};
+ghost use Rattle.tsa_expr.specs.Seen.{seen, after};
 
-use crate::reader::{Reading, expression, operand, operations};
+use crate::reader::{Reading, arguments, expression, operand, operations};
 use crate::refusal::{SyntaxCode, SyntaxRefusal};
 use bumpalo::Bump;
 use tsa_base::Token;
@@ -19,7 +19,7 @@ use tsa_tree::expr::Expr;
 /// The longest expression at a token, where `depth` constructs are open, and the token after it. Of the tokens from `at` on
 /// the longest list that begins an expression decides: SY1 stands at the token after it where it spells none, and LM2 at the
 /// first of its tokens that passes the limit, whether it spells one or not (C11 6.5).
-#[tactic(auto, using(crate::proofs::Exact::fails_by))]
+#[tactic(auto, using(crate::proofs::Exact::expression_no_other))]
 pub fn read_expr<'a>(
     bump: &'a Bump,
     tokens: &[Token<'_>],
@@ -43,7 +43,7 @@ pub fn read_expr<'a>(
 
 /// The longest unary expression at a token, as the operand of a prefix `++` or `--`, and the token after it; refused as
 /// `read_expr` refuses (C11 6.5.3).
-#[tactic(auto, using(crate::proofs::Exact::fails_by))]
+#[tactic(auto, using(crate::proofs::Exact::unary_no_other))]
 pub fn read_unary<'a>(
     bump: &'a Bump,
     tokens: &[Token<'_>],
@@ -104,4 +104,38 @@ pub fn read_rest<'a>(
     ensures high { IfOk result (λ r. r.height ≡ height_of (shape r.tree)) }
 {
     operations(bump, tokens, start, depth, 0, left)
+}
+
+/// A whole expression, as `read_expr` reads it, with its height.
+pub fn read_expression<'a>(
+    bump: &'a Bump,
+    tokens: &[Token<'_>],
+    at: u32,
+    depth: u32,
+) -> Result<Reading<'a>, SyntaxRefusal>
+    requires room { length tokens.now ≤ INPUT_LIMIT }
+    requires within { at ≤ length tokens.now }
+    requires shallow { depth ≤ NESTING_LIMIT }
+    ensures gives { Gives seen result (read (lexemes tokens.now) rows.an_expression (rows.expression [] depth 0) at) }
+    ensures ends { IfOk result (λ r. (at < r.next) × (r.next ≤ length tokens.now)) }
+{
+    expression(bump, tokens, at, depth, 0)
+}
+
+/// Expressions separated by commas, at the end of a list, and the parenthesis that closes them.
+pub fn read_series<'a>(
+    bump: &'a Bump,
+    tokens: &[Token<'_>],
+    at: u32,
+    depth: u32,
+    list: &mut Vec<Expr<'a>, &'a Bump>,
+) -> Result<u32, SyntaxRefusal>
+    requires room { length tokens.now ≤ INPUT_LIMIT }
+    requires within { at ≤ length tokens.now }
+    requires shallow { depth ≤ NESTING_LIMIT }
+    ensures gives { Gives (λ next. (shapes list.new.items, next)) result (after (shapes list.old.items) (read (lexemes tokens.now) rows.some_arguments (rows.series [] depth) at)) }
+    ensures ends { IfOk result (λ next. (at < next) × (next ≤ length tokens.now)) }
+{
+    let extent = arguments(bump, tokens, at, depth, list)?;
+    Ok(extent.next)
 }

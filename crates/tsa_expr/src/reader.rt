@@ -215,7 +215,7 @@ fn name_or_call<'a>(
 /// Expressions separated by commas, at the end of a list, and the parenthesis that closes them.
 #[cycle(reader)]
 #[tactic(auto, using(crate::proofs::Listing::lists))]
-fn arguments<'a>(
+pub fn arguments<'a>(
     bump: &'a Bump,
     tokens: &[Token<'_>],
     at: u32,

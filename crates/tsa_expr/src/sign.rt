@@ -1,8 +1,8 @@
 //! What the grammar of expressions sees of a token, where no names of types are known.
-ghost use Rattle.std.specs.Prelude.{◌≡◌, [], ◌∷◌, codes};
-ghost use Rattle.std.specs.Str.{bytes_eq};
-ghost use Rattle.tsa_tree.specs.Signs.{sign_of as spec_sign, word_sign as spec_word, sign_listed, punctuator_signs};
+ghost use Rattle.std.specs.Prelude.{◌≡◌, [], ◌∷◌};
+ghost use Rattle.tsa_tree.specs.Signs.{sign_of as spec_sign, word_sign as spec_word, punctuator_sign};
 
+use crate::words::reserved_sign;
 use tsa_base::{Token, TokenKind};
 use tsa_lex::is_reserved;
 use tsa_tree::expr::BinaryOp;
@@ -16,33 +16,29 @@ pub fn sign_of(token: &Token<'_>) -> Sign
     match token.kind {
         TokenKind::Word => word_sign(token.text),
         TokenKind::Number { .. } => Sign::Number,
-        TokenKind::Text => Sign::Other,
+        TokenKind::Text => Sign::Text,
         TokenKind::Punct => punct_sign(token.text),
     }
 }
 
-#[tactic(auto, unfolding(tsa_tree::specs::Signs::word_sign))]
+// Most words are names.
+#[tactic(auto, unfolding(tsa_tree::specs::Signs::word_sign), using(tsa_tree::proofs::ReservedWords::not_listed))]
 fn word_sign(text: &[u8]) -> Sign
     ensures { result ≡ spec_word [] text.now }
 {
-    if is(text, b"NULL") {
-        Sign::Null
-    } else if is_reserved(text) {
-        Sign::Other
+    if is_reserved(text) {
+        match reserved_sign(text) {
+            Some(sign) => sign,
+            None => Sign::Other,
+        }
     } else {
         Sign::Name
     }
 }
 
-fn is(text: &[u8], word: &[u8]) -> bool
-    ensures { result ≡ bytes_eq text.now word.now }
-{
-    text == word
-}
-
-#[tactic(auto, unfolding(tsa_tree::specs::Signs::sign_listed, tsa_tree::specs::Signs::punctuator_signs))]
+#[tactic(auto, unfolding(tsa_tree::specs::Signs::punctuator_sign, tsa_tree::specs::Signs::punctuator_signs))]
 fn punct_sign(text: &[u8]) -> Sign
-    ensures { result ≡ sign_listed punctuator_signs text.now }
+    ensures { result ≡ punctuator_sign text.now }
 {
     match text {
         [first] => single_sign(*first),
@@ -51,15 +47,19 @@ fn punct_sign(text: &[u8]) -> Sign
     }
 }
 
-#[tactic(auto, unfolding(tsa_tree::specs::Signs::sign_listed, tsa_tree::specs::Signs::punctuator_signs))]
+#[tactic(auto, unfolding(tsa_tree::specs::Signs::punctuator_sign, tsa_tree::specs::Signs::punctuator_signs))]
 fn single_sign(first: u8) -> Sign
-    ensures { result ≡ sign_listed punctuator_signs (first ∷ []) }
+    ensures { result ≡ punctuator_sign (first ∷ []) }
 {
     match first {
         b'(' => Sign::Open,
         b')' => Sign::Close,
         b'[' => Sign::OpenBracket,
         b']' => Sign::CloseBracket,
+        b'{' => Sign::OpenBrace,
+        b'}' => Sign::CloseBrace,
+        b';' => Sign::Semicolon,
+        b':' => Sign::Colon,
         b',' => Sign::Comma,
         b'.' => Sign::Dot,
         b'!' => Sign::Not,
@@ -74,13 +74,14 @@ fn single_sign(first: u8) -> Sign
         b'*' => Sign::Operator(BinaryOp::Times),
         b'/' => Sign::Operator(BinaryOp::Divide),
         b'%' => Sign::Operator(BinaryOp::Remainder),
+        b'=' => Sign::Equals,
         _ => Sign::Other,
     }
 }
 
-#[tactic(auto, unfolding(tsa_tree::specs::Signs::sign_listed, tsa_tree::specs::Signs::punctuator_signs))]
+#[tactic(auto, unfolding(tsa_tree::specs::Signs::punctuator_sign, tsa_tree::specs::Signs::punctuator_signs))]
 fn pair_sign(first: u8, second: u8) -> Sign
-    ensures { result ≡ sign_listed punctuator_signs (first ∷ second ∷ []) }
+    ensures { result ≡ punctuator_sign (first ∷ second ∷ []) }
 {
     match (first, second) {
         (b'-', b'>') => Sign::Arrow,
@@ -90,6 +91,16 @@ fn pair_sign(first: u8, second: u8) -> Sign
         (b'!', b'=') => Sign::Operator(BinaryOp::Unequal),
         (b'<', b'=') => Sign::Operator(BinaryOp::LessEqual),
         (b'>', b'=') => Sign::Operator(BinaryOp::MoreEqual),
+        (b'+', b'=') => Sign::Assign(BinaryOp::Plus),
+        (b'-', b'=') => Sign::Assign(BinaryOp::Minus),
+        (b'*', b'=') => Sign::Assign(BinaryOp::Times),
+        (b'/', b'=') => Sign::Assign(BinaryOp::Divide),
+        (b'%', b'=') => Sign::Assign(BinaryOp::Remainder),
+        (b'&', b'=') => Sign::Assign(BinaryOp::BitAnd),
+        (b'|', b'=') => Sign::Assign(BinaryOp::BitOr),
+        (b'^', b'=') => Sign::Assign(BinaryOp::BitXor),
+        (b'+', b'+') => Sign::Step(BinaryOp::Plus),
+        (b'-', b'-') => Sign::Step(BinaryOp::Minus),
         _ => Sign::Other,
     }
 }

@@ -2,13 +2,17 @@
 ghost use Rattle.std.specs.Prelude.{◌≤◌, length};
 ghost use Rattle.tsa_base.specs.declared.limits.TheConstants.{INPUT_LIMIT};
 
-use crate::{SyntaxCode, SyntaxRefusal, read_expr, read_operand, read_rest, read_unary};
+use crate::{
+    SyntaxCode, SyntaxRefusal, meaning_of, read_expr, read_operand, read_rest, read_unary,
+};
 use bumpalo::Bump;
 use std::alloc::Global;
 use std::test::Fail;
 use tsa_base::{NESTING_LIMIT, Span, Token, TokenKind};
 use tsa_lex::lex;
+use tsa_tree::attr::AttrKind;
 use tsa_tree::expr::{BinaryOp, Expr, ExprKind, UnaryOp};
+use tsa_tree::sign::Meaning;
 
 fn put(out: &mut Vec<u8>, piece: &[u8]) -> Result<(), Fail> {
     out.extend_from_slice(piece)?;
@@ -162,7 +166,7 @@ fn postfix_operators_stand_behind_a_primary(rt: HostRuntime) -> Result<(), Fail>
 
 #[test]
 fn an_expression_has_its_span(rt: HostRuntime) -> Result<(), Fail> {
-    let rows: [(&[u8], &[u8], u32); 8] = [
+    let rows: [(&[u8], &[u8], u32); 9] = [
         (b" a ", b"a", 1),
         (b"(a)", b"a", 3),
         (b"(a)-(b) c", b"(a)-(b)", 7),
@@ -170,6 +174,7 @@ fn an_expression_has_its_span(rt: HostRuntime) -> Result<(), Fail> {
         (b"f( a, b ) ;", b"f( a, b )", 6),
         (b"f ( )", b"f ( )", 3),
         (b"(a)[ 1 ]=", b"(a)[ 1 ]", 6),
+        (b"a = b", b"a", 1),
         (b"(a) . b + 1", b"(a) . b + 1", 7),
     ];
     for (text, spanned, behind) in rows {
@@ -217,7 +222,7 @@ fn a_unary_ends_before_a_binary_operator(rt: HostRuntime) -> Result<(), Fail> {
 
 #[test]
 fn a_token_is_refused(rt: HostRuntime) -> Result<(), Fail> {
-    let rows: [(&[u8], u32); 17] = [
+    let rows: [(&[u8], u32); 18] = [
         (b"", 0),
         (b"1+", 2),
         (b"1+;", 2),
@@ -232,6 +237,7 @@ fn a_token_is_refused(rt: HostRuntime) -> Result<(), Fail> {
         (b"a[", 2),
         (b"a[1)", 3),
         (b"int", 0),
+        (b"const", 0),
         (b"sizeof a", 0),
         (b"\"a\"", 0),
         (b"++a", 0),
@@ -248,6 +254,24 @@ fn a_token_is_refused(rt: HostRuntime) -> Result<(), Fail> {
                 assert!(rt; false);
             }
         }
+    }
+    Ok(())
+}
+
+#[test]
+fn a_word_of_attributes_has_its_meaning(rt: HostRuntime) -> Result<(), Fail> {
+    let rows: [(&[u8], Meaning); 8] = [
+        (b"guarded_by", Meaning::Known(AttrKind::GuardedBy)),
+        (b"__capability__", Meaning::Known(AttrKind::Capability)),
+        (b"locks_excluded", Meaning::Known(AttrKind::Excludes)),
+        (b"__lockable__", Meaning::LeftOut),
+        (b"_guarded_by__", Meaning::Ignored),
+        (b"__guarded_by", Meaning::Ignored),
+        (b"____", Meaning::Ignored),
+        (b"packed", Meaning::Ignored),
+    ];
+    for (text, meaning) in rows {
+        assert_eq!(rt; meaning_of(text), meaning);
     }
     Ok(())
 }
@@ -325,6 +349,33 @@ fn a_left_operand_is_less_than_a_hundred_high(rt: HostRuntime) -> Result<(), Fai
         }
         Ok(_) => {
             assert!(rt; false);
+        }
+    }
+    Ok(())
+}
+
+#[test]
+fn each_construct_counts_as_open(rt: HostRuntime) -> Result<(), Fail> {
+    let rows: [(&[u8], u32); 6] = [
+        (b"(1)", 0),
+        (b"-1", 0),
+        (b"f()", 1),
+        (b"f(1)", 1),
+        (b"a[1]", 1),
+        (b"1+!a", 2),
+    ];
+    let code = SyntaxCode::LM2;
+    for (text, token) in rows {
+        let bump = Bump::new(rt.alloc());
+        let tokens = lex(rt.alloc(), text)?;
+        assert!(rt; read_expr(&bump, &tokens, 0, NESTING_LIMIT - 1).is_ok());
+        match read_expr(&bump, &tokens, 0, NESTING_LIMIT) {
+            Err(refusal) => {
+                assert!(rt; refusal == SyntaxRefusal::At { code, token });
+            }
+            Ok(_) => {
+                assert!(rt; false);
+            }
         }
     }
     Ok(())

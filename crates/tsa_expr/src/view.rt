@@ -1,14 +1,15 @@
 //! What stands at a place of the tokens.
 ghost use Rattle.std.specs.Prelude.{◌≡◌, ◌≢◌, ◌<◌, length, slice_get, [], IfOk};
 ghost use Rattle.tsa_tree.specs.Shapes.{name_shape};
-ghost use Rattle.tsa_tree.specs.Signs.{lexemes, sign_at as spec_sign, span_at as spec_span, span_over as spec_over, identifier_at, kind_in, value_at, unsigned_at, prefix as spec_prefix};
+ghost use Rattle.tsa_tree.specs.Signs.{lexemes, sign_at as spec_sign, span_at as spec_span, span_over as spec_over, identifier_at, kind_in, value_at, unsigned_at, meaning_at as spec_meaning, is_word_at as spec_word, prefix as spec_prefix};
 
+use crate::meaning::meaning_of;
 use crate::sign::sign_of;
 use bumpalo::Bump;
 use std::alloc::AllocError;
 use tsa_base::{Span, Token, TokenKind};
 use tsa_tree::expr::{BinaryOp, Name, UnaryOp};
-use tsa_tree::sign::Sign;
+use tsa_tree::sign::{Meaning, Sign};
 
 /// The sign at a place, past the last token the end's.
 #[tactic(auto, unfolding(tsa_tree::specs::Signs::sign_at))]
@@ -72,6 +73,28 @@ fn kind_at(tokens: &[Token<'_>], at: u32) -> TokenKind
     match tokens.get(at as usize) {
         Some(token) => token.kind,
         None => TokenKind::Punct,
+    }
+}
+
+/// Whether the token at a place is a word, whatever it means.
+#[tactic(auto, unfolding(tsa_tree::specs::Signs::is_word_at))]
+pub fn is_word_at(tokens: &[Token<'_>], at: u32) -> bool
+    ensures { result ≡ spec_word (lexemes tokens.now) at }
+{
+    match kind_at(tokens, at) {
+        TokenKind::Word => true,
+        _ => false,
+    }
+}
+
+/// What the text at a place means in a list of attributes.
+#[tactic(auto, unfolding(tsa_tree::specs::Signs::meaning_at))]
+pub fn meaning_at(tokens: &[Token<'_>], at: u32) -> Meaning
+    ensures { result ≡ spec_meaning (lexemes tokens.now) at }
+{
+    match tokens.get(at as usize) {
+        Some(token) => meaning_of(token.text),
+        None => Meaning::Ignored,
     }
 }
 

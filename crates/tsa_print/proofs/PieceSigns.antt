@@ -1,22 +1,22 @@
 -- What the grammar sees at a token that is a piece of a canonical text.
-use Rattle.std.proofs.Common.{ℕ, suc, ◌+◌, ◌≡◌, ◌∙◌, ap, sym, subst, refl, arith, List, [], ◌∷◌, ◌++◌, Bool, true, false, ◌&&◌, ◌||◌, not, Some, length, slice_get, codes, add-zero}
+use Rattle.std.proofs.Common.{ℕ, suc, ◌+◌, ◌≡◌, ◌∙◌, ap, subst, refl, arith, List, [], ◌∷◌, ◌++◌, Bool, true, false, ◌&&◌, not, Some, length, slice_get, codes, add-zero}
 use Rattle.std.proofs.lemmas.Bool.{and_parts, not-true}
-use Rattle.std.proofs.lemmas.List.Folds.{list_any-append}
 use Rattle.std.specs.List.{list_all, list_any}
 use Rattle.std.specs.Str.{bytes_eq}
 use Rattle.tsa_base.specs.Bytes.{is_letter, is_word_byte}
 use Rattle.tsa_base.specs.Tokens.{Lexeme}
-use Rattle.tsa_base.specs.Words.{keywords, macro_words, reserved, is_reserved}
+use Rattle.tsa_base.specs.Words.{is_reserved}
 use Rattle.tsa_tree.specs.declared.expr.UnaryOp.{UnaryOp}
 use Rattle.tsa_tree.specs.declared.expr.UnaryOp.TheVariants as prefix_op
 use Rattle.tsa_tree.specs.declared.expr.BinaryOp.TheVariants as op
 use Rattle.tsa_tree.specs.declared.sign.Sign.{Sign}
 use Rattle.tsa_tree.specs.declared.sign.Sign.TheVariants as sign
 use Rattle.tsa_tree.specs.Expressions.{Identifier, plain_name, nowhere}
-use Rattle.tsa_tree.specs.Signs.{Aliases, punctuator_signs, sign_listed, word_sign, sign_of, sign_in, sign_at, identifier_in, identifier_at, value_of, unsigned_of, kind_in, value_at, unsigned_at}
+use Rattle.tsa_tree.specs.Signs.{Aliases, punctuator_signs, punctuator_sign, word_signs, word_sign, sign_of, sign_in, sign_at, identifier_in, identifier_at, value_of, unsigned_of, kind_in, value_at, unsigned_at}
 use Rattle.tsa_tree.specs.Signs as signs
 use Rattle.tsa_print.specs.Canonical.{Piece, word, numeral, operator, prefix, access, comma, open_parenthesis, open_call, close_parenthesis, open_bracket, close_bracket, piece_text}
 use Rattle.tsa_print.specs.Writable.{is_name}
+use Rattle.tsa_tree.proofs.ReservedWords.{not_listed}
 use Rattle.tsa_print.proofs.Apart.{piece_kind, AreTokens}
 
 -- the token at this place is this piece
@@ -53,26 +53,11 @@ split ts a (p ∷ ps) qs h =
     let s = split ts (a + 1) ps qs h.1 in
     ((h.0, s.0), subst (λ n. Shows ts n qs) (omega arith) s.1)
 
--- A name is neither `NULL`, nor another reserved word, nor the name of a type.
-no_null : (text : List ℕ) → is_reserved text ≡ false → bytes_eq text (codes "NULL") ≡ false
-unfolding is_reserved reserved keywords
-no_null text e =
-    let f = bytes_eq text in
-    let others = codes "NULL" ∷ codes "__attribute__" ∷ [] in
-    let apart : list_any f (keywords ++ (macro_words ++ others)) ≡ (list_any f keywords || (list_any f macro_words || list_any f others)) =
-    list_any-append f keywords (macro_words ++ others) ∙ ap (λ b. list_any f keywords || b) (list_any-append f macro_words others) in
-    last (list_any f keywords) (list_any f macro_words) _ _ (sym apart ∙ e)
-  where
-    last : (a b c d : Bool) → (a || (b || (c || d))) ≡ false → c ≡ false
-    last false false false d e = refl
-    last false false true d e = cc
-    last false true c d e = cc
-    last true b c d e = cc
-
+-- A name is neither a word with a meaning of its own, nor another reserved word, nor the name of a type.
 named_sign : (aliases : Aliases) (text : List ℕ) → is_reserved text ≡ false → list_any (bytes_eq text) aliases ≡ false
     → word_sign aliases text ≡ sign.Name
 unfolding word_sign
-named_sign aliases text r l = let n = no_null text r in rw (n, r, l) refl
+named_sign aliases text r l = let n = not_listed text r in rw (n, r, l) refl
 
 pub name_sign : (aliases : Aliases) (text : List ℕ) → is_name aliases text ≡ true → word_sign aliases text ≡ sign.Name
 name_sign aliases [] e = cc
@@ -107,7 +92,7 @@ piece_sign aliases open_bracket = sign.OpenBracket
 piece_sign aliases close_bracket = sign.CloseBracket
 
 of_piece : (aliases : Aliases) (p : Piece) → sign_of aliases (piece_kind p) (piece_text p) ≡ piece_sign aliases p
-unfolding sign_of sign_listed punctuator_signs
+unfolding sign_of punctuator_sign punctuator_signs
 of_piece aliases (word text) = refl
 of_piece aliases (numeral value unsigned) = refl
 of_piece aliases (operator op.Or) = refl
@@ -151,7 +136,7 @@ pub name_seen : (aliases : Aliases) (ts : List Lexeme) (i : ℕ) (text : List �
 name_seen aliases ts i text e h = seen aliases ts i (word text) h ∙ name_sign aliases text e
 
 pub null_seen : (aliases : Aliases) (ts : List Lexeme) (i : ℕ) → Looks ts i (word (codes "NULL")) → sign_at ts aliases i ≡ sign.Null
-unfolding word_sign
+unfolding word_sign word_signs
 null_seen aliases ts i h = seen aliases ts i (word (codes "NULL")) h
 
 pub prefix_seen : (aliases : Aliases) (ts : List Lexeme) (i : ℕ) (o : UnaryOp) → Looks ts i (prefix o)

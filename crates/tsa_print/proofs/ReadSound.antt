@@ -17,7 +17,7 @@ use Rattle.tsa_base.proofs.TokenPlaces.{texts_fall_into_pieces}
 use Rattle.tsa_tree.specs.declared.sign.Sign.{Sign}
 use Rattle.tsa_tree.specs.declared.sign.Sign.TheVariants as sign
 use Rattle.tsa_tree.specs.Expressions.{Expression, Arguments}
-use Rattle.tsa_tree.specs.Signs.{Aliases, punctuator_signs, sign_listed, word_sign, sign_of, sign_in, sign_at, identifier_in, identifier_at, value_of, unsigned_of, kind_in, value_at, unsigned_at}
+use Rattle.tsa_tree.specs.Signs.{Aliases, punctuator_signs, punctuator_sign, word_signs, word_sign, listed, sign_or, sign_of, sign_in, sign_at, identifier_in, identifier_at, value_of, unsigned_of, kind_in, value_at, unsigned_at}
 use Rattle.tsa_tree.specs.Spelling.{IsExpression, of_unary, of_binary, IsUnary, of_postfix, of_prefix, IsPostfix, of_primary, of_field, of_index, IsPrimary, of_number, of_null, of_name, of_call, of_parentheses, IsArguments, of_none, of_some, IsSeries, of_last, of_further}
 use Rattle.tsa_tree.specs.Answers.{Part, an_expression, a_unary, Spells}
 use Rattle.tsa_forms.specs.Reading.{all}
@@ -136,7 +136,8 @@ is_listed sign.Name = false
 is_listed sign.Number = false
 is_listed _ = true
 
-listed-step : (b : Bool) (s later : Sign) → is_listed s ≡ true → is_listed later ≡ true → is_listed (if b then s else later) ≡ true
+listed-step : (b : Bool) (s : Sign) (later : Option Sign) → is_listed s ≡ true → is_listed (sign_or sign.Other later) ≡ true
+    → is_listed (sign_or sign.Other (if b then Some s else later)) ≡ true
 listed-step true s later e f = e
 listed-step false s later e f = f
 
@@ -144,47 +145,50 @@ abbrev all_listed : List (List ℕ × Sign) → Type 0
 all_listed [] = Unit {0}
 all_listed (row ∷ rows) = (is_listed row.1 ≡ true) × all_listed rows
 
-listed : (rows : List (List ℕ × Sign)) (text : List ℕ) → all_listed rows → is_listed (sign_listed rows text) ≡ true
-unfolding sign_listed
-listed [] text h = refl
-listed (row ∷ rows) text h = listed-step (bytes_eq text row.0) row.1 (sign_listed rows text) h.0 (listed rows text h.1)
+sign_listed : (rows : List (List ℕ × Sign)) (text : List ℕ) → all_listed rows → is_listed (sign_or sign.Other (listed rows text)) ≡ true
+sign_listed [] text h = refl
+sign_listed (row ∷ rows) text h = listed-step (bytes_eq text row.0) row.1 (listed rows text) h.0 (sign_listed rows text h.1)
 
-punctuators_listed : all_listed punctuator_signs
-unfolding punctuator_signs
-punctuators_listed = search
+punctuators_listed : (text : List ℕ) → is_listed (punctuator_sign text) ≡ true
+unfolding punctuator_sign punctuator_signs
+punctuators_listed text = let all : all_listed punctuator_signs = search in sign_listed punctuator_signs text all
 
-word_is_name : (null reserved alias : Bool)
-    → (if null then sign.Null else (if reserved then sign.Other else (if alias then sign.TypeName else sign.Name))) ≡ sign.Name
+words_listed : (text : List ℕ) → is_listed (sign_or sign.Other (listed word_signs text)) ≡ true
+unfolding word_signs
+words_listed text = let all : all_listed word_signs = search in sign_listed word_signs text all
+
+word_is_name : (o : Option Sign) (reserved alias : Bool) → is_listed (sign_or sign.Other o) ≡ true
+    → sign_or (if reserved then sign.Other else (if alias then sign.TypeName else sign.Name)) o ≡ sign.Name
     → (reserved ≡ false) × (alias ≡ false)
-word_is_name true reserved alias e = cc
-word_is_name false true alias e = cc
-word_is_name false false true e = cc
-word_is_name false false false e = (refl, refl)
+word_is_name (Some s) reserved alias h e = absurd (let never : true ≡ false = sym h ∙ ap is_listed e in cc)
+word_is_name None true alias h e = cc
+word_is_name None false true h e = cc
+word_is_name None false false h e = (refl, refl)
 
-word_no_number : (null reserved alias : Bool)
-    → (if null then sign.Null else (if reserved then sign.Other else (if alias then sign.TypeName else sign.Name))) ≢ sign.Number
-word_no_number true reserved alias e = cc
-word_no_number false true alias e = cc
-word_no_number false false true e = cc
-word_no_number false false false e = cc
+word_no_number : (o : Option Sign) (reserved alias : Bool) → is_listed (sign_or sign.Other o) ≡ true
+    → sign_or (if reserved then sign.Other else (if alias then sign.TypeName else sign.Name)) o ≢ sign.Number
+word_no_number (Some s) reserved alias h e = absurd (let never : true ≡ false = sym h ∙ ap is_listed e in cc)
+word_no_number None true alias h e = cc
+word_no_number None false true h e = cc
+word_no_number None false false h e = cc
 
 of_name_sign : (aliases : Aliases) (kind : TokenKind) (text : List ℕ) → is_token text ≡ true → kind_of text ≡ Some kind
     → sign_of aliases kind text ≡ sign.Name → is_name aliases text ≡ true
 unfolding sign_of word_sign
-of_name_sign aliases Word text t k e = let w = word_is_name _ _ _ e in word_of_token aliases text t k w.0 w.1
+of_name_sign aliases Word text t k e = let w = word_is_name (listed word_signs text) (is_reserved text) (list_any (bytes_eq text) aliases) (words_listed text) e in word_of_token aliases text t k w.0 w.1
 of_name_sign aliases (Number value unsigned) text t k e = cc
 of_name_sign aliases Text text t k e = cc
 of_name_sign aliases Punct text t k e =
-    let never : true ≡ false = sym (listed punctuator_signs text punctuators_listed) ∙ ap is_listed e in cc
+    let never : true ≡ false = sym (punctuators_listed text) ∙ ap is_listed e in cc
 
 of_number_sign : (aliases : Aliases) (kind : TokenKind) (text : List ℕ) → kind_of text ≡ Some kind
     → sign_of aliases kind text ≡ sign.Number → is_value (value_of kind) (unsigned_of kind) ≡ true
 unfolding sign_of word_sign
-of_number_sign aliases Word text k e = absurd (word_no_number _ _ _ e)
+of_number_sign aliases Word text k e = absurd (word_no_number (listed word_signs text) (is_reserved text) (list_any (bytes_eq text) aliases) (words_listed text) e)
 of_number_sign aliases (Number value unsigned) text k e = number_of_token text value unsigned k
 of_number_sign aliases Text text k e = cc
 of_number_sign aliases Punct text k e =
-    let never : true ≡ false = sym (listed punctuator_signs text punctuators_listed) ∙ ap is_listed e in cc
+    let never : true ≡ false = sym (punctuators_listed text) ∙ ap is_listed e in cc
 
 module _ (aliases : Aliases) (tokens : List Lexeme) (real : AreTokensOfKinds tokens) where
   name-in : (i : ℕ) (o : Option Lexeme) → slice_get tokens i ≡ o → sign_in aliases o ≡ sign.Name → is_name aliases (identifier_in o).text ≡ true

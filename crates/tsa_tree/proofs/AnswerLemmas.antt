@@ -114,7 +114,7 @@ module _ (tokens : List Lexeme) (aliases : Aliases) where
     first = λ b q. x.within b (to_rows below_limit p d a b q);
     goes_on = (x.goes_on.0, x.goes_on.1, from_rows all p d a x.goes_on.0 x.goes_on.2);
   }
-  refused p d a (barred q) i h x = no_bar tokens below_limit rows.an_expression (call_of aliases p d) a i q x.begins
+  refused p d a (barred q) i h x = no_bar tokens below_limit rows.an_expression tt (call_of aliases p d) a i q x.begins
 
   answered : (p : Part) (d a : ℕ) (r : Outcome Expression) → reading tokens below_limit rows.an_expression (call_of aliases p d) a ≡ r
       → forms.Exact (rule tokens) (sees tokens) below_limit rows.an_expression (call_of aliases p d) a r → IsAnswer tokens aliases p d a r

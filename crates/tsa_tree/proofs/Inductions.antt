@@ -1,5 +1,5 @@
 -- What holds of every text that the parts of a grammar spell, or that begins them: what each row keeps.
-use Rattle.std.proofs.Common.{ℕ, ◌+◌, ◌≡◌, Bool, true, Option, None}
+use Rattle.std.proofs.Common.{ℕ, ◌+◌, ◌≡◌, Bool, true, Option, Some, None}
 use Rattle.tsa_forms.specs.Form.{Form, done, bar, token, part, limit, only, either}
 use Rattle.tsa_forms.specs.Spelling.{Spells, by_rule, Goes, goes_done, goes_token, goes_part, goes_bar, goes_limit, goes_only, goes_left, goes_right, Begins, begins_rule, Starts, starts_here, starts_barred, starts_bar, starts_token, starts_in, starts_over, starts_limit, starts_only, starts_left, starts_right}
 
@@ -34,45 +34,54 @@ module _ {S : Type 0} {C N : S → Type 0} {K : Type 0}
       kept c start (goes_left g) h = kept c start g h.0
       kept c start (goes_right g) h = kept c start g h.1
 
-    module _ (Begun : (s : S) → C s → (a b : ℕ) → Type 0) where
-      -- Whatever begins what the form asks for, from here on, ends where B holds. No token is barred in it.
-      abbrev pub Opens : (s : S) → (ℕ → Type 0) → Form S C N K s → ℕ → Type 0
-      Opens s B (done x) a = B a
-      Opens s B (bar p q f) a = ⊥
-      Opens s B (token t f) a = B a × (sees t a ≡ true → Opens s B f (a + 1))
-      Opens s B (part u c k) a =
-          B a × Needs u c a × ((b : ℕ) → Begun u c a b → B b) × ((y : N u) (m : ℕ) → Means u c y a m → Opens s B (k y m) m)
-      Opens s B (limit n f) a = B a × (fits n ≡ true → Opens s B f a)
-      Opens s B (only p f) a = B a × (p ≡ true → Opens s B f a)
-      Opens s B (either p f g) a = Opens s B f a × Opens s B g a
+  -- Begun says what begins a part, and Refused where a token of one is refused, by which rule.
+  module _ (Begun : (s : S) → C s → (a b : ℕ) → Type 0) (Refused : (s : S) → C s → (a b q : ℕ) → Type 0) where
+    -- Whatever begins what the form asks for, from here on, ends where B holds, and what is refused in it is so where R holds.
+    abbrev pub Opens : (s : S) → (ℕ → Type 0) → (ℕ → ℕ → Type 0) → Form S C N K s → ℕ → Type 0
+    Opens s B R (done x) a = B a
+    Opens s B R (bar p q f) a = (p ≡ true → R a q) × Opens s B R f a
+    Opens s B R (token t f) a = B a × (sees t a ≡ true → Opens s B R f (a + 1))
+    Opens s B R (part u c k) a =
+        B a × Needs u c a × ((b : ℕ) → Begun u c a b → B b) × ((b q : ℕ) → Refused u c a b q → R b q)
+        × ((y : N u) (m : ℕ) → Means u c y a m → Opens s B R (k y m) m)
+    Opens s B R (limit n f) a = B a × (fits n ≡ true → Opens s B R f a)
+    Opens s B R (only p f) a = B a × (p ≡ true → Opens s B R f a)
+    Opens s B R (either p f g) a = Opens s B R f a × Opens s B R g a
 
-      here : (s : S) (B : ℕ → Type 0) (f : Form S C N K s) (a : ℕ) → Opens s B f a → B a
-      here s B (done x) a h = h
-      here s B (bar p q f) a h = absurd h
-      here s B (token t f) a h = h.0
-      here s B (part u c k) a h = h.0
-      here s B (limit n f) a h = h.0
-      here s B (only p f) a h = h.0
-      here s B (either p f g) a h = here s B f a h.0
+    here : (s : S) (B : ℕ → Type 0) (R : ℕ → ℕ → Type 0) (f : Form S C N K s) (a : ℕ) → Opens s B R f a → B a
+    here s B R (done x) a h = h
+    here s B R (bar p q f) a h = here s B R f a h.1
+    here s B R (token t f) a h = h.0
+    here s B R (part u c k) a h = h.0
+    here s B R (limit n f) a h = h.0
+    here s B R (only p f) a h = h.0
+    here s B R (either p f g) a h = here s B R f a h.0
 
-      module _ (opens : (s : S) (c : C s) (a : ℕ) → Needs s c a → Opens s (λ b. Begun s c a b) (rule s c a) a) where
-        mutual
-          -- Everything that begins a part is what its row keeps.
-          pub begun : {s : S} {c : C s} {a b : ℕ} {w : Option ℕ} → Begins rule sees fits s c a b w → Needs s c a → Begun s c a b
-          begun {c = c} {a = a} (begins_rule g) h = opened c a g (opens _ c a h)
+    -- What begins a part, and what is refused in it, by whether it is refused.
+    abbrev pub Reached : (s : S) → C s → (a b : ℕ) → Option ℕ → Type 0
+    Reached s c a b None = Begun s c a b
+    Reached s c a b (Some q) = Refused s c a b q
 
-          opened : {s : S} {f : Form S C N K s} {a b : ℕ} {w : Option ℕ} (c : C s) (start : ℕ) → Starts rule sees fits s f a b w
-              → Opens s (λ b. Begun s c start b) f a → Begun s c start b
-          opened {s = s} {f = f} {a = a} c start starts_here h = here s (λ b. Begun s c start b) f a h
-          opened c start (starts_barred e) h = absurd h
-          opened c start (starts_bar g) h = absurd h
-          opened c start (starts_token e g) h = opened c start g (h.1 e)
-          opened {b = b} c start (starts_in g) h = h.2 b (begun g h.1)
-          opened c start (starts_over {y = y} {m = m} sp g) h = opened c start g (h.3 y m (means sp h.1))
-          opened c start (starts_limit e g) h = opened c start g (h.1 e)
-          opened c start (starts_only e g) h = opened c start g (h.1 e)
-          opened c start (starts_left g) h = opened c start g h.0
-          opened c start (starts_right g) h = opened c start g h.1
+    module _ (rows : (s : S) (c : C s) (a : ℕ) → Needs s c a → Keeps s (λ x b. Means s c x a b) (rule s c a) a)
+        (opens : (s : S) (c : C s) (a : ℕ) → Needs s c a → Opens s (λ b. Begun s c a b) (λ b q. Refused s c a b q) (rule s c a) a) where
+      mutual
+        -- Everything that begins a part, and everything that is refused in it, is what its row keeps.
+        pub reached : {s : S} {c : C s} {a b : ℕ} {w : Option ℕ} → Begins rule sees fits s c a b w → Needs s c a → Reached s c a b w
+        reached {c = c} {a = a} (begins_rule g) h = opened c a g (opens _ c a h)
+
+        opened : {s : S} {f : Form S C N K s} {a b : ℕ} {w : Option ℕ} (c : C s) (start : ℕ) → Starts rule sees fits s f a b w
+            → Opens s (λ b. Begun s c start b) (λ b q. Refused s c start b q) f a → Reached s c start b w
+        opened {s = s} {f = f} {a = a} c start starts_here h = here s (λ b. Begun s c start b) (λ b q. Refused s c start b q) f a h
+        opened c start (starts_barred e) h = h.0 e
+        opened c start (starts_bar g) h = opened c start g h.1
+        opened c start (starts_token e g) h = opened c start g (h.1 e)
+        opened {b = b} {w = None} c start (starts_in g) h = h.2 b (reached g h.1)
+        opened {b = b} {w = Some q} c start (starts_in g) h = h.3 b q (reached g h.1)
+        opened c start (starts_over {y = y} {m = m} sp g) h = opened c start g (h.4 y m (means rows sp h.1))
+        opened c start (starts_limit e g) h = opened c start g (h.1 e)
+        opened c start (starts_only e g) h = opened c start g (h.1 e)
+        opened c start (starts_left g) h = opened c start g h.0
+        opened c start (starts_right g) h = opened c start g h.1
 
 -- A whole part begins itself.
 module _ {S : Type 0} {C N : S → Type 0} {K : Type 0}

@@ -51,45 +51,27 @@ marked sign.Dot n e lt = ap (slice_get signs) e
 marked sign.Arrow n e lt = ap (slice_get signs) e
 marked sign.Not n e lt = ap (slice_get signs) e
 marked sign.Flip n e lt = ap (slice_get signs) e
-marked (sign.Operator o) n e lt = absurd (omega (arith, e))
+marked _ n e lt = absurd (omega (arith, e))
+
+-- A text and a closing brace have numbers of their own.
+text_sign : (s : Sign) → mark s ≡ 16 → s ≡ sign.Text
+text_sign sign.Text e = refl
+text_sign _ e = absurd (omega (arith, e))
+
+brace_sign : (s : Sign) → mark s ≡ 18 → s ≡ sign.CloseBrace
+brace_sign sign.CloseBrace e = refl
+brace_sign _ e = absurd (omega (arith, e))
 
 -- What is an operator has an operator's sign.
 pub operator_sign : (s : Sign) (o : BinaryOp) → operator s ≡ Some o → s ≡ sign.Operator o
 operator_sign (sign.Operator p) o e = ap sign.Operator (let q : p ≡ o = cc in q)
-operator_sign sign.End o e = cc
-operator_sign sign.Other o e = cc
-operator_sign sign.TypeName o e = cc
-operator_sign sign.Name o e = cc
-operator_sign sign.Number o e = cc
-operator_sign sign.Null o e = cc
-operator_sign sign.Open o e = cc
-operator_sign sign.Close o e = cc
-operator_sign sign.OpenBracket o e = cc
-operator_sign sign.CloseBracket o e = cc
-operator_sign sign.Comma o e = cc
-operator_sign sign.Dot o e = cc
-operator_sign sign.Arrow o e = cc
-operator_sign sign.Not o e = cc
-operator_sign sign.Flip o e = cc
+operator_sign _ o e = cc
 
 -- What asks for a member is a dot or an arrow.
 pub access_sign : (s : Sign) (arrow : Bool) → access s ≡ Some arrow → ((s ≡ sign.Dot) × (false ≡ arrow)) ⊎ ((s ≡ sign.Arrow) × (true ≡ arrow))
 access_sign sign.Dot arrow e = inl (refl, (let q : false ≡ arrow = cc in q))
 access_sign sign.Arrow arrow e = inr (refl, (let q : true ≡ arrow = cc in q))
-access_sign sign.End arrow e = absurd cc
-access_sign sign.Other arrow e = absurd cc
-access_sign sign.TypeName arrow e = absurd cc
-access_sign sign.Name arrow e = absurd cc
-access_sign sign.Number arrow e = absurd cc
-access_sign sign.Null arrow e = absurd cc
-access_sign sign.Open arrow e = absurd cc
-access_sign sign.Close arrow e = absurd cc
-access_sign sign.OpenBracket arrow e = absurd cc
-access_sign sign.CloseBracket arrow e = absurd cc
-access_sign sign.Comma arrow e = absurd cc
-access_sign sign.Not arrow e = absurd cc
-access_sign sign.Flip arrow e = absurd cc
-access_sign (sign.Operator p) arrow e = absurd cc
+access_sign _ arrow e = absurd cc
 
 module _ (tokens : List Lexeme) (aliases : Aliases) where
   -- A kind of tokens is seen where its sign stands.
@@ -115,6 +97,12 @@ module _ (tokens : List Lexeme) (aliases : Aliases) where
   pub shows_comma : (at : ℕ) → sees tokens (kind aliases 9) at ≡ true → sign_at tokens aliases at ≡ sign.Comma
   shows_comma at e = let h : Some (sign_at tokens aliases at) ≡ Some sign.Comma = shown 9 at e (omega arith) in cc
 
+  pub shows_text : (at : ℕ) → sees tokens (kind aliases 15) at ≡ true → sign_at tokens aliases at ≡ sign.Text
+  shows_text at e = text_sign (sign_at tokens aliases at) (eqb-true (mark (sign_at tokens aliases at)) 16 e)
+
+  pub shows_close_brace : (at : ℕ) → sees tokens (kind aliases 17) at ≡ true → sign_at tokens aliases at ≡ sign.CloseBrace
+  shows_close_brace at e = brace_sign (sign_at tokens aliases at) (eqb-true (mark (sign_at tokens aliases at)) 18 e)
+
   -- The row of an operand that a prefix operator begins.
   abbrev pub prefix_form : (d m k : ℕ) → UnaryOp → Row an_expression
   prefix_form d m k op = prefix_row tokens aliases d m (kind aliases k) (Some op)
@@ -124,16 +112,4 @@ module _ (tokens : List Lexeme) (aliases : Aliases) where
   prefix_sign sign.Not o e = (12, refl, λ d m. ap (prefix_row tokens aliases d m (kind aliases 12)) e)
   prefix_sign sign.Flip o e = (13, refl, λ d m. ap (prefix_row tokens aliases d m (kind aliases 13)) e)
   prefix_sign (sign.Operator p) o e = (14, refl, λ d m. ap (prefix_row tokens aliases d m (kind aliases 14)) e)
-  prefix_sign sign.End o e = absurd cc
-  prefix_sign sign.Other o e = absurd cc
-  prefix_sign sign.TypeName o e = absurd cc
-  prefix_sign sign.Name o e = absurd cc
-  prefix_sign sign.Number o e = absurd cc
-  prefix_sign sign.Null o e = absurd cc
-  prefix_sign sign.Open o e = absurd cc
-  prefix_sign sign.Close o e = absurd cc
-  prefix_sign sign.OpenBracket o e = absurd cc
-  prefix_sign sign.CloseBracket o e = absurd cc
-  prefix_sign sign.Comma o e = absurd cc
-  prefix_sign sign.Dot o e = absurd cc
-  prefix_sign sign.Arrow o e = absurd cc
+  prefix_sign _ o e = absurd cc

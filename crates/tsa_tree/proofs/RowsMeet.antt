@@ -1,5 +1,5 @@
--- The rows of expressions meet what their reader needs.
-use Rattle.std.proofs.Common.{ℕ, ◌+◌, ◌<◌, ◌≤◌, ◌≡◌, ◌∙◌, ap, sym, subst, refl, Bool, true, false, Option, Some, None, List, arith, ◌⊎◌, inl, inr, nat_eq, nat_le}
+-- The rows meet what their reader needs.
+use Rattle.std.proofs.Common.{ℕ, ◌+◌, ◌<◌, ◌≤◌, ◌≡◌, ◌∙◌, ap, sym, subst, refl, true, false, Option, Some, None, List, arith, ◌⊎◌, inl, inr, nat_eq, nat_le}
 use Rattle.std.proofs.lemmas.Bool.{leb-true, leb-false, le-leb, lt-leb}
 use Rattle.tsa_base.specs.Tokens.{Lexeme}
 use Rattle.tsa_tree.specs.declared.expr.UnaryOp.{UnaryOp}
@@ -7,12 +7,13 @@ use Rattle.tsa_tree.specs.declared.expr.BinaryOp.{BinaryOp}
 use Rattle.tsa_tree.specs.declared.sign.Sign.{Sign}
 use Rattle.tsa_tree.specs.declared.sign.Sign.TheVariants as sign
 use Rattle.tsa_tree.specs.Expressions.{Expression, number, null, named, call, binary, field, index, none}
-use Rattle.tsa_tree.specs.Signs.{Aliases, sign_at, span_at, span_over, identifier_at, value_at, unsigned_at, operator, prefix, prefix_of, level}
-use Rattle.tsa_tree.specs.Rows.{Sort, an_expression, some_arguments, Node, Call, expression, operation, operand, postfix, series, rank, mark, Kind, nothing, a_name, an_open, a_close, a_comma, a_not, a_flip, an_operator, sees, is_postfix, Row, tightest, climb_on, operation_row, post, postfix_row, prefix_row, call_row, operand_row, rule}
+use Rattle.tsa_tree.specs.Signs.{Aliases, sign_at, span_at, span_over, identifier_at, value_at, unsigned_at, operator, prefix, prefix_of, level, entry_meaning}
+use Rattle.tsa_tree.specs.Rows.{Sort, an_expression, some_arguments, Call, expression, operation, operand, postfix, series, attributes, group, entries, balanced, rank, mark, Kind, a_name, an_open, a_close, a_comma, a_not, a_flip, an_operator, sees, is_postfix, Row, tightest, climb_on, operation_row, post, postfix_row, prefix_row, call_row, operand_row, rule}
 use Rattle.tsa_forms.specs.Form.{done}
 use Rattle.tsa_forms.proofs.Good as g
 use Rattle.tsa_tree.proofs.SignFacts.{is_plain, operator_mark, operator_no_postfix, operator_no_open, postfix_no_open, close_plain, bracket_plain, comma_plain, plain_no_name, close_no_comma, level_low}
-use Rattle.tsa_tree.proofs.RowFacts.{given, begins_operand, begins_no_close, lone, Ended, Loose, First, Ends, Moves, ended, no_callee, is_lone}
+use Rattle.tsa_tree.proofs.RowFacts.{given, begins_operand, begins_no_close, lone, Ended, Loose, First, Ends, Moves, Next, Start, Good, never, ended, no_callee, is_lone}
+use Rattle.tsa_tree.proofs.AttributesMeet.{good_attributes, good_group, good_entry, good_balanced, first_group, first_entry}
 
 some_same : (o p : BinaryOp) → Some o ≡ Some p → o ≡ p
 some_same o p e = cc
@@ -25,15 +26,6 @@ low _ (series aliases d) = omega arith
 low _ c = omega arith
 
 module _ (tokens : List Lexeme) where
-  abbrev pub Next : (s : Sort) → (Node s → ℕ → Type 0) → Row s → ℕ → Type 0
-  Next s E f m = g.Next (sees tokens) (First tokens) (Ends tokens) (Moves tokens) rank s E f m
-
-  abbrev pub Good : (s : Sort) (c : Call s) (fresh : Bool) → Row s → ℕ → Type 0
-  Good s c w f m = g.Good (sees tokens) (First tokens) (Ends tokens) (Moves tokens) rank s c w f m
-
-  never : {A : Type 0} (m : ℕ) → sees tokens nothing m ≡ true → A
-  never m e = cc
-
   same_op : (aliases : Aliases) (m : ℕ) (o p : BinaryOp) → operator (sign_at tokens aliases m) ≡ Some o
       → operator (sign_at tokens aliases m) ≡ Some p → o ≡ p
   same_op aliases m o p e q = some_same o p (sym e ∙ q)
@@ -51,7 +43,7 @@ module _ (tokens : List Lexeme) where
   -- An operand ends where more of the expression or its end stands.
   next_climb : (aliases : Aliases) (d k top start : ℕ) (l : Expression) (m : ℕ) (o : Option BinaryOp)
       → operator (sign_at tokens aliases m) ≡ o
-      → Next an_expression (λ x e. Ended tokens aliases x e × Loose tokens aliases k e)
+      → Next tokens an_expression (λ x e. Ended tokens aliases x e × Loose tokens aliases k e)
       (climb_on tokens aliases d k top start l m (λ x e. done x) o) m
       → Ended tokens aliases l m
   next_climb aliases d k top start l m None e h = h.0
@@ -61,7 +53,7 @@ module _ (tokens : List Lexeme) where
   -- No operator that belongs to a right operand stands behind it.
   ends_right : (aliases : Aliases) (d k top start : ℕ) (l : Expression) (m : ℕ) (o : Option BinaryOp)
       → operator (sign_at tokens aliases m) ≡ o → k ≤ top
-      → Next an_expression (λ x e. Ended tokens aliases x e × Loose tokens aliases k e)
+      → Next tokens an_expression (λ x e. Ended tokens aliases x e × Loose tokens aliases k e)
       (climb_on tokens aliases d k top start l m (λ x e. done x) o) m
       → Loose tokens aliases (top + 1) m
   ends_right aliases d k top start l m None e le h = λ o q. absurd (no_op aliases m o e q)
@@ -77,7 +69,7 @@ module _ (tokens : List Lexeme) where
       → ((x : Expression) (n : ℕ) → Ends tokens an_expression c x n → Ended tokens aliases x n × Loose tokens aliases k n)
       → Ended tokens aliases l m
       → ((o : BinaryOp) → operator (sign_at tokens aliases m) ≡ Some o → nat_le (level o) top ≡ true)
-      → Good an_expression c false (climb_on tokens aliases d k top start l m (λ x e. done x) o) m
+      → Good tokens an_expression c false (climb_on tokens aliases d k top start l m (λ x e. done x) o) m
   good_climb c aliases d k top start l m None e to from en low = to l m (en, λ o q. absurd (no_op aliases m o e q))
   good_climb c aliases d k top start l m (Some o) e to from en low = (
     (λ h. subst (λ o. nat_le k (level o) ≡ true) (same_op aliases m h.1.0 o h.1.1 e) h.1.2),
@@ -87,7 +79,7 @@ module _ (tokens : List Lexeme) where
   )
 
   good_expression : (aliases : Aliases) (d k m : ℕ)
-      → Good an_expression (expression aliases d k) true (rule tokens an_expression (expression aliases d k) m) m
+      → Good tokens an_expression (expression aliases d k) true (rule tokens an_expression (expression aliases d k) m) m
   good_expression aliases d k m = (
     omega arith,
     λ x n. (
@@ -99,11 +91,11 @@ module _ (tokens : List Lexeme) where
 
   good_operation : (aliases : Aliases) (d k start : ℕ) (l : Expression) (m : ℕ) (o : Option BinaryOp)
       → operator (sign_at tokens aliases m) ≡ o
-      → Good an_expression (operation aliases d k start l) true (operation_row tokens aliases d k start l m o) m
-  good_operation aliases d k start l m None e = λ q. never m q
+      → Good tokens an_expression (operation aliases d k start l) true (operation_row tokens aliases d k start l m o) m
+  good_operation aliases d k start l m None e = λ q. never tokens m q
   good_operation aliases d k start l m (Some o) e = (
     (λ h. h.0),
-    (λ h. never m h),
+    (λ h. never tokens m h),
     (λ p. (
       p,
       (
@@ -124,7 +116,7 @@ module _ (tokens : List Lexeme) where
         ),
       ),
     )),
-    (λ p q. never m q),
+    (λ p q. never tokens m q),
   )
 
   -- behind a primary or a postfix operator
@@ -132,24 +124,24 @@ module _ (tokens : List Lexeme) where
       → ((x : Expression) (n : ℕ) → Ended tokens aliases x n → Ends tokens an_expression c x n)
       → ((x : Expression) (n : ℕ) → Ends tokens an_expression c x n → Ended tokens aliases x n)
       → (lone tokens aliases base m ≡ true → sees tokens (an_open aliases) m ≡ false)
-      → Good an_expression c false (post tokens aliases d start base m (λ x e. done x)) m
+      → Good tokens an_expression c false (post tokens aliases d start base m (λ x e. done x)) m
   good_post c aliases d start base m to from callee =
       ((λ h. h), (λ h. (from base m h).0), (λ q. (tt, λ y n. ((λ h. from y n h), (λ h. to y n h)))), (λ q. to base m (q, callee)))
 
   post_operand : (aliases : Aliases) (d start : ℕ) (base : Expression) (n : ℕ)
       → (lone tokens aliases base n ≡ true → sees tokens (an_open aliases) n ≡ false)
-      → Good an_expression (operand aliases d) false (post tokens aliases d start base n (λ x e. done x)) n
+      → Good tokens an_expression (operand aliases d) false (post tokens aliases d start base n (λ x e. done x)) n
   post_operand aliases d start base n callee =
       good_post (operand aliases d) aliases d start base n (λ x n h. h) (λ x n h. h) callee
 
   post_postfix : (aliases : Aliases) (d start : ℕ) (left base : Expression) (n : ℕ)
       → (lone tokens aliases base n ≡ true → sees tokens (an_open aliases) n ≡ false)
-      → Good an_expression (postfix aliases d start left) false (post tokens aliases d start base n (λ x e. done x)) n
+      → Good tokens an_expression (postfix aliases d start left) false (post tokens aliases d start base n (λ x e. done x)) n
   post_postfix aliases d start left base n callee =
       good_post (postfix aliases d start left) aliases d start base n (λ x n h. h) (λ x n h. h) callee
 
   good_postfix : (aliases : Aliases) (d start : ℕ) (base : Expression) (m : ℕ) (s : Sign) → sign_at tokens aliases m ≡ s
-      → Good an_expression (postfix aliases d start base) true (postfix_row tokens aliases d start base m s) m
+      → Good tokens an_expression (postfix aliases d start base) true (postfix_row tokens aliases d start base m s) m
   good_postfix aliases d start base m sign.Dot e = (
     ap (λ s. nat_eq (mark s) 11) e,
     λ q q'.
@@ -175,15 +167,15 @@ module _ (tokens : List Lexeme) where
       ),
     ),
   )
-  good_postfix aliases d start base m _ e = λ q. never m q
+  good_postfix aliases d start base m _ e = λ q. never tokens m q
 
   good_prefix : (aliases : Aliases) (d m : ℕ) (q : Kind) (o : Option UnaryOp) → sees tokens q m ≡ true
-      → Good an_expression (operand aliases d) true (prefix_row tokens aliases d m q o) m
-  good_prefix aliases d m q None e = λ z. never m z
+      → Good tokens an_expression (operand aliases d) true (prefix_row tokens aliases d m q o) m
+  good_prefix aliases d m q None e = λ z. never tokens m z
   good_prefix aliases d m q (Some o) e = (e, λ z. (tt, λ x n. ((λ h. h), (λ h. h))))
 
   -- behind a callee and its parenthesis
-  good_call : (aliases : Aliases) (d m : ℕ) → Good an_expression (operand aliases d) false (call_row tokens aliases d m) (m + 1 + 1)
+  good_call : (aliases : Aliases) (d m : ℕ) → Good tokens an_expression (operand aliases d) false (call_row tokens aliases d m) (m + 1 + 1)
   good_call aliases d m = (
     (λ h. h),
     (λ h. begins_no_close (sign_at tokens aliases (m + 1 + 1)) h),
@@ -207,7 +199,7 @@ module _ (tokens : List Lexeme) where
   no_open aliases d m q (inr h) = h.1 (is_lone tokens aliases m q)
 
   good_operand : (aliases : Aliases) (d m : ℕ) (s : Sign) → sign_at tokens aliases m ≡ s
-      → Good an_expression (operand aliases d) true (operand_row tokens aliases d m s) m
+      → Good tokens an_expression (operand aliases d) true (operand_row tokens aliases d m s) m
   good_operand aliases d m sign.Not e = good_prefix aliases d m (a_not aliases) (prefix sign.Not) (ap (λ s. nat_eq (mark s) 13) e)
   good_operand aliases d m sign.Flip e = good_prefix aliases d m (a_flip aliases) (prefix sign.Flip) (ap (λ s. nat_eq (mark s) 14) e)
   good_operand aliases d m (sign.Operator o) e =
@@ -233,10 +225,10 @@ module _ (tokens : List Lexeme) where
       ),
     ),
   )
-  good_operand aliases d m _ e = λ q. never m q
+  good_operand aliases d m _ e = λ q. never tokens m q
 
   good_series : (aliases : Aliases) (d m : ℕ)
-      → Good some_arguments (series aliases d) true (rule tokens some_arguments (series aliases d) m) m
+      → Good tokens some_arguments (series aliases d) true (rule tokens some_arguments (series aliases d) m) m
   good_series aliases d m = (
     omega arith,
     λ x n. (
@@ -256,22 +248,23 @@ module _ (tokens : List Lexeme) where
       closes n (inr h) = close_plain (sign_at tokens aliases n) h
 
   -- Each choice is decided by the token in sight, and each part ends where the rest may go on.
-  pub good : (s : Sort) (c : Call s) (m : ℕ) → Good s c true (rule tokens s c m) m
+  pub good : (s : Sort) (c : Call s) (m : ℕ) → Good tokens s c true (rule tokens s c m) m
   good _ (expression aliases d k) m = good_expression aliases d k m
   good _ (operation aliases d k start l) m = good_operation aliases d k start l m (operator (sign_at tokens aliases m)) refl
   good _ (operand aliases d) m = good_operand aliases d m (sign_at tokens aliases m) refl
   good _ (postfix aliases d start base) m = good_postfix aliases d start base m (sign_at tokens aliases m) refl
   good _ (series aliases d) m = good_series aliases d m
-
-  abbrev Start : (s : Sort) → Row s → ℕ → Type 0
-  Start s f m = Next s (λ x b. Unit {0}) f m
+  good _ (attributes aliases d) m = good_attributes tokens aliases d m
+  good _ (group aliases d) m = good_group tokens aliases d m (sign_at tokens aliases m)
+  good _ (entries aliases d) m = good_entry tokens aliases d m (entry_meaning tokens aliases m)
+  good _ (balanced aliases d closer) m = good_balanced tokens aliases d closer m
 
   first_prefix : (aliases : Aliases) (d m : ℕ) (q : Kind) (o : Option UnaryOp)
-      → Start an_expression (prefix_row tokens aliases d m q o) m → given o ≡ true
-  first_prefix aliases d m q None h = never m h
+      → Start tokens an_expression (prefix_row tokens aliases d m q o) m → given o ≡ true
+  first_prefix aliases d m q None h = never tokens m h
   first_prefix aliases d m q (Some o) h = refl
 
-  first_operand : (aliases : Aliases) (d m : ℕ) (s : Sign) → Start an_expression (operand_row tokens aliases d m s) m
+  first_operand : (aliases : Aliases) (d m : ℕ) (s : Sign) → Start tokens an_expression (operand_row tokens aliases d m s) m
       → begins_operand s ≡ true
   first_operand aliases d m sign.Not h = refl
   first_operand aliases d m sign.Flip h = refl
@@ -280,30 +273,34 @@ module _ (tokens : List Lexeme) where
   first_operand aliases d m sign.Null h = refl
   first_operand aliases d m sign.Name h = refl
   first_operand aliases d m sign.Open h = refl
-  first_operand aliases d m _ h = never m h
+  first_operand aliases d m _ h = never tokens m h
 
   first_postfix : (aliases : Aliases) (d start : ℕ) (base : Expression) (m : ℕ) (s : Sign)
-      → Start an_expression (postfix_row tokens aliases d start base m s) m → is_postfix s ≡ true
+      → Start tokens an_expression (postfix_row tokens aliases d start base m s) m → is_postfix s ≡ true
   first_postfix aliases d start base m sign.Dot h = refl
   first_postfix aliases d start base m sign.Arrow h = refl
   first_postfix aliases d start base m sign.OpenBracket h = refl
-  first_postfix aliases d start base m _ h = never m h
+  first_postfix aliases d start base m _ h = never tokens m h
 
   first_operation : (aliases : Aliases) (d k start : ℕ) (l : Expression) (m : ℕ) (o : Option BinaryOp)
       → operator (sign_at tokens aliases m) ≡ o
-      → Start an_expression (operation_row tokens aliases d k start l m o) m
+      → Start tokens an_expression (operation_row tokens aliases d k start l m o) m
       → First tokens an_expression (operation aliases d k start l) m
-  first_operation aliases d k start l m None e h = never m h
+  first_operation aliases d k start l m None e h = never tokens m h
   first_operation aliases d k start l m (Some o) e (inl h) = (o, e, h.0)
-  first_operation aliases d k start l m (Some o) e (inr h) = never m h
+  first_operation aliases d k start l m (Some o) e (inr h) = never tokens m h
 
   -- What stands where a part begins.
-  pub firsts : (s : Sort) (c : Call s) (m : ℕ) → Start s (rule tokens s c m) m → First tokens s c m
+  pub firsts : (s : Sort) (c : Call s) (m : ℕ) → Start tokens s (rule tokens s c m) m → First tokens s c m
   firsts _ (expression aliases d k) m h = h
   firsts _ (operation aliases d k start l) m h = first_operation aliases d k start l m (operator (sign_at tokens aliases m)) refl h
   firsts _ (operand aliases d) m h = first_operand aliases d m (sign_at tokens aliases m) h
   firsts _ (postfix aliases d start base) m h = first_postfix aliases d start base m (sign_at tokens aliases m) h
   firsts _ (series aliases d) m h = h
+  firsts _ (attributes aliases d) m h = h
+  firsts _ (group aliases d) m h = first_group tokens aliases d m (sign_at tokens aliases m) h
+  firsts _ (entries aliases d) m h = first_entry tokens aliases d m (entry_meaning tokens aliases m) h
+  firsts _ (balanced aliases d closer) m h = tt
 
   abbrev Past : (s : Sort) → Row s → ℕ → Type 0
   Past s f m = g.Past (sees tokens) (First tokens) (Ends tokens) (Moves tokens) rank s f m

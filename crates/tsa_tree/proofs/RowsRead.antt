@@ -1,4 +1,4 @@
--- What readers that go by the rows of expressions answer.
+-- What readers that go by the rows answer.
 use Rattle.std.proofs.Common.{ℕ, ◌≤◌, ◌≡◌, refl, List, length, Bool, Option, Some, None, Ok, Err}
 use Rattle.tsa_base.specs.Tokens.{Lexeme}
 use Rattle.tsa_tree.specs.declared.expr.UnaryOp.{UnaryOp}
@@ -7,7 +7,7 @@ use Rattle.tsa_tree.specs.declared.sign.Sign.{Sign}
 use Rattle.tsa_tree.specs.declared.sign.Sign.TheVariants as sign
 use Rattle.tsa_tree.specs.Expressions.{Expression}
 use Rattle.tsa_tree.specs.Signs.{Aliases, sign_at, operator, prefix, prefix_of}
-use Rattle.tsa_tree.specs.Rows.{Sort, an_expression, Node, Call, expression, operation, operand, postfix, series, rank, Kind, a_not, a_flip, an_operator, sees, Row, tightest, climb_on, operation_row, postfix_row, prefix_row, operand_row, rule}
+use Rattle.tsa_tree.specs.Rows.{Sort, an_expression, some_arguments, some_attributes, a_skip, Node, Call, expression, operation, operand, postfix, series, rank, Kind, a_not, a_flip, an_operator, sees, Row, tightest, climb_on, operation_row, postfix_row, prefix_row, operand_row, rule}
 use Rattle.tsa_tree.specs.Answers.{below_limit}
 use Rattle.tsa_tree.specs.Reads.{read}
 use Rattle.tsa_forms.specs.Form.{done, bar, token, part, limit, only, either}
@@ -21,12 +21,19 @@ use Rattle.tsa_forms.proofs.Exactly as answers
 use Rattle.tsa_tree.proofs.RowFacts.{First, Ends, Moves, inside}
 use Rattle.tsa_tree.proofs.RowsMeet.{good, firsts, low, moves}
 
--- No bar stands in the form.
+-- In the grammar of expressions there are no bars.
+abbrev pub IsClear : Sort → Type 0
+IsClear an_expression = Unit {0}
+IsClear some_arguments = Unit {0}
+IsClear some_attributes = ⊥
+IsClear a_skip = ⊥
+
+-- No bar stands in the form or in its parts.
 abbrev pub Clear : (s : Sort) → Row s → Type 0
 Clear s (done x) = Unit {0}
 Clear s (bar p q f) = ⊥
 Clear s (token t f) = Clear s f
-Clear s (part u c k) = (y : Node u) (m : ℕ) → Clear s (k y m)
+Clear s (part u c k) = IsClear u × ((y : Node u) (m : ℕ) → Clear s (k y m))
 Clear s (limit n f) = Clear s f
 Clear s (only p f) = Clear s f
 Clear s (either p f g) = Clear s f × Clear s g
@@ -35,46 +42,48 @@ module _ (tokens : List Lexeme) where
   clear_climb : (aliases : Aliases) (d k top start : ℕ) (l : Expression) (m : ℕ) (o : Option BinaryOp)
       → Clear an_expression (climb_on tokens aliases d k top start l m (λ x e. done x) o)
   clear_climb aliases d k top start l m None = tt
-  clear_climb aliases d k top start l m (Some o) = ((λ y m. tt), tt)
+  clear_climb aliases d k top start l m (Some o) = ((tt, λ y m. tt), tt)
 
   clear_operation : (aliases : Aliases) (d k start : ℕ) (l : Expression) (m : ℕ) (o : Option BinaryOp)
       → Clear an_expression (operation_row tokens aliases d k start l m o)
   clear_operation aliases d k start l m None = tt
-  clear_operation aliases d k start l m (Some o) = ((λ r n. clear_climb aliases d k _ start _ n (operator (sign_at tokens aliases n))), tt)
+  clear_operation aliases d k start l m (Some o) = ((tt, λ r n. clear_climb aliases d k _ start _ n (operator (sign_at tokens aliases n))), tt)
 
   clear_prefix : (aliases : Aliases) (d m : ℕ) (q : Kind) (o : Option UnaryOp) → Clear an_expression (prefix_row tokens aliases d m q o)
   clear_prefix aliases d m q None = tt
-  clear_prefix aliases d m q (Some o) = λ x n. tt
+  clear_prefix aliases d m q (Some o) = (tt, λ x n. tt)
 
   clear_operand : (aliases : Aliases) (d m : ℕ) (s : Sign) → Clear an_expression (operand_row tokens aliases d m s)
   clear_operand aliases d m sign.Not = clear_prefix aliases d m (a_not aliases) (prefix sign.Not)
   clear_operand aliases d m sign.Flip = clear_prefix aliases d m (a_flip aliases) (prefix sign.Flip)
   clear_operand aliases d m (sign.Operator o) = clear_prefix aliases d m (an_operator aliases) (prefix_of o)
-  clear_operand aliases d m sign.Number = ((λ y n. tt), tt)
-  clear_operand aliases d m sign.Null = ((λ y n. tt), tt)
-  clear_operand aliases d m sign.Name = ((((λ y n. tt), tt), (λ xs n. ((λ y n. tt), tt))), ((λ y n. tt), tt))
-  clear_operand aliases d m sign.Open = λ x n. ((λ y n. tt), tt)
+  clear_operand aliases d m sign.Number = ((tt, λ y n. tt), tt)
+  clear_operand aliases d m sign.Null = ((tt, λ y n. tt), tt)
+  clear_operand aliases d m sign.Name = ((((tt, λ y n. tt), tt), (tt, λ xs n. ((tt, λ y n. tt), tt))), ((tt, λ y n. tt), tt))
+  clear_operand aliases d m sign.Open = (tt, λ x n. ((tt, λ y n. tt), tt))
   clear_operand aliases d m _ = tt
 
   clear_postfix : (aliases : Aliases) (d start : ℕ) (base : Expression) (m : ℕ) (s : Sign)
       → Clear an_expression (postfix_row tokens aliases d start base m s)
-  clear_postfix aliases d start base m sign.Dot = ((λ y n. tt), tt)
-  clear_postfix aliases d start base m sign.Arrow = ((λ y n. tt), tt)
-  clear_postfix aliases d start base m sign.OpenBracket = λ i n. ((λ y n. tt), tt)
+  clear_postfix aliases d start base m sign.Dot = ((tt, λ y n. tt), tt)
+  clear_postfix aliases d start base m sign.Arrow = ((tt, λ y n. tt), tt)
+  clear_postfix aliases d start base m sign.OpenBracket = (tt, λ i n. ((tt, λ y n. tt), tt))
   clear_postfix aliases d start base m _ = tt
 
-  clear : (s : Sort) (c : Call s) (m : ℕ) → Clear s (rule tokens s c m)
-  clear _ (expression aliases d k) m = λ x n. clear_climb aliases d k tightest m x n (operator (sign_at tokens aliases n))
-  clear _ (operation aliases d k start l) m = clear_operation aliases d k start l m (operator (sign_at tokens aliases m))
-  clear _ (operand aliases d) m = clear_operand aliases d m (sign_at tokens aliases m)
-  clear _ (postfix aliases d start base) m = clear_postfix aliases d start base m (sign_at tokens aliases m)
-  clear _ (series aliases d) m = λ x n. ((λ xs e. tt), tt)
+  clear : (s : Sort) → IsClear s → (c : Call s) (m : ℕ) → Clear s (rule tokens s c m)
+  clear _ free (expression aliases d k) m = (tt, λ x n. clear_climb aliases d k tightest m x n (operator (sign_at tokens aliases n)))
+  clear _ free (operation aliases d k start l) m = clear_operation aliases d k start l m (operator (sign_at tokens aliases m))
+  clear _ free (operand aliases d) m = clear_operand aliases d m (sign_at tokens aliases m)
+  clear _ free (postfix aliases d start base) m = clear_postfix aliases d start base m (sign_at tokens aliases m)
+  clear _ free (series aliases d) m = (tt, λ x n. ((tt, λ xs e. tt), tt))
+  clear some_attributes free c m = absurd free
+  clear a_skip free c m = absurd free
 
 module _ (tokens : List Lexeme) (fits : ℕ → Bool) where
   mutual
     no_bar_in : {s : Sort} {c : Call s} {a b : ℕ} {w : Option ℕ} (q : ℕ)
-        → Begins (rule tokens) (sees tokens) fits s c a b w → w ≡ Some q → ⊥
-    no_bar_in {s = s} {c = c} {a = a} q (begins_rule h) e = no_bar_starts q h (clear tokens s c a) e
+        → Begins (rule tokens) (sees tokens) fits s c a b w → IsClear s → w ≡ Some q → ⊥
+    no_bar_in {s = s} {c = c} {a = a} q (begins_rule h) free e = no_bar_starts q h (clear tokens s free c a) e
 
     no_bar_starts : {s : Sort} {f : Row s} {a b : ℕ} {w : Option ℕ} (q : ℕ)
         → Starts (rule tokens) (sees tokens) fits s f a b w → Clear s f → w ≡ Some q → ⊥
@@ -82,16 +91,16 @@ module _ (tokens : List Lexeme) (fits : ℕ → Bool) where
     no_bar_starts q (starts_barred p) k e = k
     no_bar_starts q (starts_bar h) k e = k
     no_bar_starts q (starts_token p h) k e = no_bar_starts q h k e
-    no_bar_starts q (starts_in h) k e = no_bar_in q h e
-    no_bar_starts q (starts_over {y = y} {m = m} sp h) k e = no_bar_starts q h (k y m) e
+    no_bar_starts q (starts_in h) k e = no_bar_in q h k.0 e
+    no_bar_starts q (starts_over {y = y} {m = m} sp h) k e = no_bar_starts q h (k.1 y m) e
     no_bar_starts q (starts_limit p h) k e = no_bar_starts q h k e
     no_bar_starts q (starts_only p h) k e = no_bar_starts q h k e
     no_bar_starts q (starts_left h) k e = no_bar_starts q h k.0 e
     no_bar_starts q (starts_right h) k e = no_bar_starts q h k.1 e
 
-  -- No token is refused by a bar.
-  pub no_bar : (s : Sort) (c : Call s) (a b q : ℕ) → Begins (rule tokens) (sees tokens) fits s c a b (Some q) → ⊥
-  no_bar s c a b q h = no_bar_in q h refl
+  -- No token of an expression is refused by a bar.
+  pub no_bar : (s : Sort) → IsClear s → (c : Call s) (a b q : ℕ) → Begins (rule tokens) (sees tokens) fits s c a b (Some q) → ⊥
+  no_bar s free c a b q h = no_bar_in q h free refl
 
   -- This reads a part from a place on, within these limits.
   abbrev pub reading : (s : Sort) → Call s → ℕ → Outcome (Node s)
@@ -166,20 +175,21 @@ module _ (tokens : List Lexeme) where
       answers.whole_to (sees tokens) all (rule tokens) (First tokens) (Ends tokens) (Moves tokens) rank (length tokens)
       (inside tokens) (firsts tokens) (good tokens) low (moves tokens) s c x a b h
 
-  far : (s : Sort) (c : Call s) (a b : ℕ) (k : Code) (i : ℕ) → ExactAt (rule tokens) (sees tokens) all s c a k i → Far b k i
-      → b ≤ i
-  far s c a b syntax i h f = f
-  far s c a b deep i h f = f
-  far s c a b (barred q) i h f = absurd (no_bar tokens all s c a i q h.begins)
+  far : (s : Sort) → IsClear s → (c : Call s) (a b : ℕ) (k : Code) (i : ℕ) → ExactAt (rule tokens) (sees tokens) all s c a k i
+      → Far b k i → b ≤ i
+  far s clear c a b syntax i h f = f
+  far s clear c a b deep i h f = f
+  far s clear c a b (barred q) i h f = absurd (no_bar tokens all s clear c a i q h.begins)
 
-  stops : (s : Sort) (c : Call s) (a b : ℕ) (r : Outcome (Node s)) → Exact (rule tokens) (sees tokens) all s c a r
+  stops : (s : Sort) → IsClear s → (c : Call s) (a b : ℕ) (r : Outcome (Node s)) → Exact (rule tokens) (sees tokens) all s c a r
       → Reached b None r → b ≤ stop r
-  stops s c a b (Ok p) h f = f
-  stops s c a b (Err e) h f = far s c a b e.code e.token h f
+  stops s clear c a b (Ok p) h f = f
+  stops s clear c a b (Err e) h f = far s clear c a b e.code e.token h f
 
-  -- A reader without limits stops behind all that begins its part.
-  pub reached_free : (s : Sort) (c : Call s) (a b : ℕ) → Begins (rule tokens) (sees tokens) all s c a b None → b ≤ stop (free s c a)
-  reached_free s c a b h =
-      stops s c a b (free s c a) (reading_exact tokens all s c a)
+  -- A reader without limits stops behind all that begins an expression or a series.
+  pub reached_free : (s : Sort) → IsClear s → (c : Call s) (a b : ℕ) → Begins (rule tokens) (sees tokens) all s c a b None
+      → b ≤ stop (free s c a)
+  reached_free s clear c a b h =
+      stops s clear c a b (free s c a) (reading_exact tokens all s c a)
       (answers.reached (sees tokens) all (rule tokens) (First tokens) (Ends tokens) (Moves tokens) rank (length tokens)
       (inside tokens) (firsts tokens) (good tokens) low (moves tokens) s c a b None h)

@@ -1,5 +1,5 @@
 -- Whatever begins a part by the rows begins it by the productions.
-use Rattle.std.proofs.Common.{ℕ, ◌+◌, ◌≤◌, ◌≡◌, ◌⊎◌, ap, sym, subst, refl, List, Bool, true, false, Some, None, arith, inl, inr}
+use Rattle.std.proofs.Common.{ℕ, ◌+◌, ◌≤◌, ◌≡◌, ap, sym, subst, refl, List, Bool, true, false, Some, None, arith, inl, inr}
 use Rattle.std.proofs.lemmas.Bool.{leb-true}
 use Rattle.std.specs.declared.option.Option.{Option}
 use Rattle.tsa_base.specs.Tokens.{Lexeme}
@@ -10,11 +10,15 @@ use Rattle.tsa_tree.specs.declared.sign.Sign.TheVariants as sign
 use Rattle.tsa_tree.specs.Expressions.{Expression, Arguments, call, binary, none, more}
 use Rattle.tsa_tree.specs.Signs.{Aliases, sign_at, span_over, identifier_at, operator, prefix, prefix_of, level, access}
 use Rattle.tsa_tree.specs.Spelling.{IsExpression, of_unary, of_binary, IsUnary, of_postfix, of_prefix, IsPostfix, of_primary, of_field, of_index, of_number, of_null, of_name, of_call, of_parentheses, of_none, of_some, of_last, of_further}
-use Rattle.tsa_tree.specs.Beginnings.{BeginsExpression, begins_unary, begins_left, begins_right, BeginsUnary, begins_nothing, begins_operand, begins_call, begins_parentheses, begins_base, begins_member, begins_index, BeginsArguments, begins_item, begins_next}
-use Rattle.tsa_tree.specs.Rows.{Sort, an_expression, some_arguments, Call, expression, operation, operand, postfix, series, Kind, kind, sees, Row, tightest, climb, climb_on, operation_row, post, postfix_row, prefix_row, call_row, operand_row, series_end, rule}
+use Rattle.tsa_tree.specs.Beginnings.{BeginsExpression, begins_unary, begins_left, begins_right, BeginsUnary, begins_nothing, begins_operand, begins_call, begins_parentheses, begins_base, begins_member, begins_index, begins_item, begins_next}
+use Rattle.tsa_tree.specs.Rows.{Sort, an_expression, some_arguments, Call, expression, operation, operand, postfix, series, attributes, group, entries, balanced, Kind, kind, sees, tightest, climb, climb_on, operation_row, post, postfix_row, prefix_row, call_row, operand_row, series_end, rule}
 use Rattle.tsa_tree.proofs.ProductionSigns.{shows_name, shows_open, shows_close, shows_close_bracket, shows_comma}
 use Rattle.tsa_tree.proofs.Inductions as all
-use Rattle.tsa_tree.proofs.RowsToProductions.{weaken, Needs, Closed, Means, keeps}
+use Rattle.tsa_tree.proofs.AttributeMeanings.{Needs, Closed, Means, Begun, Refused, Opens}
+use Rattle.tsa_tree.proofs.AttributesKept.{never}
+use Rattle.tsa_tree.proofs.AttributesOpened.{opens_attributes, opens_one_group, opens_entries}
+use Rattle.tsa_tree.proofs.AttributeSkips.{opens_skip}
+use Rattle.tsa_tree.proofs.RowsToProductions.{weaken, keeps}
 use Rattle.tsa_forms.specs.Form.{done}
 use Rattle.tsa_forms.specs.Spelling as forms
 
@@ -24,34 +28,23 @@ pub whole_unary : {tokens : List Lexeme} {aliases : Aliases} {fits : ℕ → Boo
 whole_unary (of_postfix p) = begins_base p
 whole_unary (of_prefix q fit u) = begins_operand q fit (whole_unary u)
 
-never : {A : Type 0} → false ≡ true → A
-never e = absurd cc
+-- nothing of an expression is refused by a rule of the grammar's own
+abbrev Nowhere : ℕ → ℕ → Type 0
+Nowhere b q = ⊥
 
 module _ (tokens : List Lexeme) (fits : ℕ → Bool) where
-  -- What a beginning of a part is, with what it goes on with. A series of the rows may already be closed.
-  abbrev pub Begun : (s : Sort) → Call s → (a b : ℕ) → Type 0
-  Begun _ (expression aliases d k) a b = BeginsExpression tokens aliases fits d k a b
-  Begun _ (operation aliases d k start l) a b = BeginsExpression tokens aliases fits d k start b
-  Begun _ (operand aliases d) a b = BeginsUnary tokens aliases fits d a b
-  Begun _ (postfix aliases d start base) a b = BeginsUnary tokens aliases fits d start b
-  Begun _ (series aliases d) a b =
-      BeginsArguments tokens aliases fits d a b ⊎ ((xs : Arguments) × Closed tokens fits aliases d xs a b)
-
-  abbrev pub Opens : (s : Sort) → (ℕ → Type 0) → Row s → ℕ → Type 0
-  Opens s B f a = all.Opens (rule tokens) (sees tokens) fits (Needs tokens fits) (Means tokens fits) (keeps tokens fits) Begun s B f a
-
   module _ (aliases : Aliases) where
     nothing_yet : {d k a : ℕ} → BeginsExpression tokens aliases fits d k a a
     nothing_yet = begins_unary begins_nothing
 
     opens_behind : (d k top start : ℕ) (l : Expression) (m : ℕ)
         → IsExpression tokens aliases fits d top l start m → IsExpression tokens aliases fits d k l start m
-        → Opens an_expression (λ b. BeginsExpression tokens aliases fits d k start b)
+        → Opens tokens fits an_expression (λ b. BeginsExpression tokens aliases fits d k start b) Nowhere
         (climb tokens aliases d k top start l m (λ x e. done x)) m
     opens_behind d k top start l m i j = go (operator (sign_at tokens aliases m)) refl
       where
         go : (o : Option BinaryOp) → operator (sign_at tokens aliases m) ≡ o
-            → Opens an_expression (λ b. BeginsExpression tokens aliases fits d k start b)
+            → Opens tokens fits an_expression (λ b. BeginsExpression tokens aliases fits d k start b) Nowhere
             (climb_on tokens aliases d k top start l m (λ x e. done x) o) m
         go None q = begins_left j
         go (Some o) q = (
@@ -61,6 +54,7 @@ module _ (tokens : List Lexeme) (fits : ℕ → Bool) where
               begins_left j,
               (top, (λ p e. let same : o ≡ p = cc in subst (λ p. level p ≤ top) same (leb-true (level o) top le)), i, j),
               (λ b h. h),
+              (λ b q h. h),
               (λ y n h. begins_left h),
             ),
           ),
@@ -68,12 +62,13 @@ module _ (tokens : List Lexeme) (fits : ℕ → Bool) where
         )
 
     opens_operation : (d k start : ℕ) (l : Expression) (m : ℕ) → Needs tokens fits an_expression (operation aliases d k start l) m
-        → Opens an_expression (λ b. BeginsExpression tokens aliases fits d k start b)
+        → Opens tokens fits an_expression (λ b. BeginsExpression tokens aliases fits d k start b) Nowhere
         (operation_row tokens aliases d k start l m (operator (sign_at tokens aliases m))) m
     opens_operation d k start l m need = go (operator (sign_at tokens aliases m)) refl
       where
         go : (o : Option BinaryOp) → operator (sign_at tokens aliases m) ≡ o
-            → Opens an_expression (λ b. BeginsExpression tokens aliases fits d k start b) (operation_row tokens aliases d k start l m o) m
+            → Opens tokens fits an_expression (λ b. BeginsExpression tokens aliases fits d k start b) Nowhere
+            (operation_row tokens aliases d k start l m o) m
         go None q = (begins_left need.3, λ e. absurd (let no : false ≡ true = e in cc))
         go (Some o) q =
             let left = weaken need.2 (need.1 o q) in (
@@ -87,6 +82,7 @@ module _ (tokens : List Lexeme) (fits : ℕ → Bool) where
                       begins_right left q (leb-true k (level o) le) fit nothing_yet,
                       tt,
                       (λ b h. begins_right left q (leb-true k (level o) le) fit h),
+                      (λ b q h. h),
                       (λ r n ir. opens_behind d k (level o) start (binary o l r (span_over tokens start n)) n
                           (of_binary left q (omega arith) fit ir) (of_binary left q (leb-true k (level o) le) fit ir)),
                     ),
@@ -97,12 +93,14 @@ module _ (tokens : List Lexeme) (fits : ℕ → Bool) where
             )
 
     opens_after : (d start : ℕ) (base : Expression) (m : ℕ) → IsPostfix tokens aliases fits d base start m
-        → Opens an_expression (λ b. BeginsUnary tokens aliases fits d start b) (post tokens aliases d start base m (λ x e. done x)) m
-    opens_after d start base m i = ((begins_base i, i, (λ b h. h), (λ y n h. begins_base h)), begins_base i)
+        → Opens tokens fits an_expression (λ b. BeginsUnary tokens aliases fits d start b) Nowhere
+        (post tokens aliases d start base m (λ x e. done x)) m
+    opens_after d start base m i = ((begins_base i, i, (λ b h. h), (λ b q h. h), (λ y n h. begins_base h)), begins_base i)
 
     opens_postfix : (d start : ℕ) (base : Expression) (m : ℕ) → IsPostfix tokens aliases fits d base start m → (s : Sign)
         → sign_at tokens aliases m ≡ s
-        → Opens an_expression (λ b. BeginsUnary tokens aliases fits d start b) (postfix_row tokens aliases d start base m s) m
+        → Opens tokens fits an_expression (λ b. BeginsUnary tokens aliases fits d start b) Nowhere
+        (postfix_row tokens aliases d start base m s) m
     opens_postfix d start base m i sign.Dot q = (
       begins_base i,
       λ fit. (
@@ -135,6 +133,7 @@ module _ (tokens : List Lexeme) (fits : ℕ → Bool) where
             begins_index i q fit fit' nothing_yet,
             tt,
             (λ b h. begins_index i q fit fit' h),
+            (λ b q h. h),
             (λ x n ix. (
               begins_index i q fit fit' (begins_left ix),
               λ close.
@@ -144,22 +143,10 @@ module _ (tokens : List Lexeme) (fits : ℕ → Bool) where
         ),
       ),
     )
-    opens_postfix d start base m i sign.End q = (begins_base i, never)
-    opens_postfix d start base m i sign.Other q = (begins_base i, never)
-    opens_postfix d start base m i sign.TypeName q = (begins_base i, never)
-    opens_postfix d start base m i sign.Name q = (begins_base i, never)
-    opens_postfix d start base m i sign.Number q = (begins_base i, never)
-    opens_postfix d start base m i sign.Null q = (begins_base i, never)
-    opens_postfix d start base m i sign.Open q = (begins_base i, never)
-    opens_postfix d start base m i sign.Close q = (begins_base i, never)
-    opens_postfix d start base m i sign.CloseBracket q = (begins_base i, never)
-    opens_postfix d start base m i sign.Comma q = (begins_base i, never)
-    opens_postfix d start base m i sign.Not q = (begins_base i, never)
-    opens_postfix d start base m i sign.Flip q = (begins_base i, never)
-    opens_postfix d start base m i (sign.Operator o) q = (begins_base i, never)
+    opens_postfix d start base m i _ q = (begins_base i, never)
 
     opens_prefix : (d m : ℕ) (k : Kind) (o : Option UnaryOp) → prefix (sign_at tokens aliases m) ≡ o
-        → Opens an_expression (λ b. BeginsUnary tokens aliases fits d m b) (prefix_row tokens aliases d m k o) m
+        → Opens tokens fits an_expression (λ b. BeginsUnary tokens aliases fits d m b) Nowhere (prefix_row tokens aliases d m k o) m
     opens_prefix d m k None q = (begins_nothing, never)
     opens_prefix d m k (Some o) q = (
       begins_nothing,
@@ -169,6 +156,7 @@ module _ (tokens : List Lexeme) (fits : ℕ → Bool) where
           begins_operand q fit begins_nothing,
           tt,
           (λ b h. begins_operand q fit h),
+          (λ b q h. h),
           (λ x n u. begins_operand q fit (whole_unary u)),
         ),
       ),
@@ -183,7 +171,7 @@ module _ (tokens : List Lexeme) (fits : ℕ → Bool) where
         (of_primary (of_call q open_ fit (of_some closed.1) closed.2))
 
     opens_call : (d m : ℕ) → sign_at tokens aliases m ≡ sign.Name → sign_at tokens aliases (m + 1) ≡ sign.Open → fits d ≡ true
-        → Opens an_expression (λ b. BeginsUnary tokens aliases fits d m b) (call_row tokens aliases d m) (m + 1 + 1)
+        → Opens tokens fits an_expression (λ b. BeginsUnary tokens aliases fits d m b) Nowhere (call_row tokens aliases d m) (m + 1 + 1)
     opens_call d m q open_ fit =
         let no_argument = begins_call q open_ fit (begins_item nothing_yet) in (
           (
@@ -195,12 +183,13 @@ module _ (tokens : List Lexeme) (fits : ℕ → Bool) where
             no_argument,
             tt,
             (λ b h. elim h [ inl h ↦ begins_call q open_ fit h | inr h ↦ begins_base (closed_call d m b h.0 q open_ fit h.1) ]),
+            (λ b q h. h),
             (λ xs n closed. opens_after d m _ n (closed_call d m n xs q open_ fit closed)),
           ),
         )
 
     opens_operand : (d m : ℕ) (s : Sign) → sign_at tokens aliases m ≡ s
-        → Opens an_expression (λ b. BeginsUnary tokens aliases fits d m b) (operand_row tokens aliases d m s) m
+        → Opens tokens fits an_expression (λ b. BeginsUnary tokens aliases fits d m b) Nowhere (operand_row tokens aliases d m s) m
     opens_operand d m sign.Not q = opens_prefix d m (kind aliases 12) (prefix sign.Not) (ap prefix q)
     opens_operand d m sign.Flip q = opens_prefix d m (kind aliases 13) (prefix sign.Flip) (ap prefix q)
     opens_operand d m (sign.Operator o) q = opens_prefix d m (kind aliases 14) (prefix_of o) (ap prefix q)
@@ -222,6 +211,7 @@ module _ (tokens : List Lexeme) (fits : ℕ → Bool) where
           begins_parentheses q fit nothing_yet,
           tt,
           (λ b h. begins_parentheses q fit h),
+          (λ b q h. h),
           (λ x n ix. (
             begins_parentheses q fit (begins_left ix),
             λ close.
@@ -230,18 +220,11 @@ module _ (tokens : List Lexeme) (fits : ℕ → Bool) where
         ),
       ),
     )
-    opens_operand d m sign.End q = (begins_nothing, never)
-    opens_operand d m sign.Other q = (begins_nothing, never)
-    opens_operand d m sign.TypeName q = (begins_nothing, never)
-    opens_operand d m sign.Close q = (begins_nothing, never)
-    opens_operand d m sign.OpenBracket q = (begins_nothing, never)
-    opens_operand d m sign.CloseBracket q = (begins_nothing, never)
-    opens_operand d m sign.Comma q = (begins_nothing, never)
-    opens_operand d m sign.Dot q = (begins_nothing, never)
-    opens_operand d m sign.Arrow q = (begins_nothing, never)
+    opens_operand d m _ q = (begins_nothing, never)
 
     opens_series : (d a : ℕ) (x : Expression) (n : ℕ) → IsExpression tokens aliases fits d 0 x a n
-        → Opens some_arguments (λ b. Begun some_arguments (series aliases d) a b) (series_end tokens aliases d x n) n
+        → Opens tokens fits some_arguments (λ b. Begun tokens fits some_arguments (series aliases d) a b) Nowhere
+        (series_end tokens aliases d x n) n
     opens_series d a x n i = (
       (
         inl (begins_item (begins_left i)),
@@ -252,6 +235,7 @@ module _ (tokens : List Lexeme) (fits : ℕ → Bool) where
             | inl h ↦ inl (begins_next i (shows_comma tokens aliases n comma) h)
             | inr h ↦ inr (more x h.0, (h.1.0, of_further i (shows_comma tokens aliases n comma) h.1.1, h.1.2, h.1.3))
           ]),
+          (λ b q h. h),
           (λ xs b h. inr (more x xs, (h.0, of_further i (shows_comma tokens aliases n comma) h.1, h.2, h.3))),
         ),
       ),
@@ -259,21 +243,40 @@ module _ (tokens : List Lexeme) (fits : ℕ → Bool) where
     )
 
   -- Every row begins as its production does.
-  opens : (s : Sort) (c : Call s) (a : ℕ) → Needs tokens fits s c a → Opens s (λ b. Begun s c a b) (rule tokens s c a) a
+  opens : (s : Sort) (c : Call s) (a : ℕ) → Needs tokens fits s c a
+      → Opens tokens fits s (λ b. Begun tokens fits s c a b) (λ b q. Refused tokens fits s c a b q) (rule tokens s c a) a
   opens _ (expression aliases d k) a need = (
     nothing_yet aliases,
     tt,
     (λ b h. begins_unary h),
+    (λ b q h. h),
     (λ x n u. opens_behind aliases d k tightest a x n (of_unary u) (of_unary u)),
   )
   opens _ (operation aliases d k start l) a need = opens_operation aliases d k start l a need
   opens _ (operand aliases d) a need = opens_operand aliases d a (sign_at tokens aliases a) refl
   opens _ (postfix aliases d start base) a need = opens_postfix aliases d start base a need (sign_at tokens aliases a) refl
-  opens _ (series aliases d) a need =
-      (inl (begins_item (nothing_yet aliases)), tt, (λ b h. inl (begins_item h)), (λ x n i. opens_series aliases d a x n i))
+  opens _ (series aliases d) a need = (
+    inl (begins_item (nothing_yet aliases)),
+    tt,
+    (λ b h. inl (begins_item h)),
+    (λ b q h. h),
+    (λ x n i. opens_series aliases d a x n i),
+  )
+  opens _ (attributes aliases d) a need = opens_attributes tokens aliases fits d a
+  opens _ (group aliases d) a need = opens_one_group tokens aliases fits d a
+  opens _ (entries aliases d) a need = opens_entries tokens aliases fits d a
+  opens _ (balanced aliases d closer) a need = opens_skip tokens aliases fits d closer a
 
   -- What begins a part by the rows begins it by the productions.
   pub beginning_of : {s : Sort} {c : Call s} {a b : ℕ} → forms.Begins (rule tokens) (sees tokens) fits s c a b None
-      → Needs tokens fits s c a → Begun s c a b
+      → Needs tokens fits s c a → Begun tokens fits s c a b
   beginning_of g need =
-      all.begun (rule tokens) (sees tokens) fits (Needs tokens fits) (Means tokens fits) (keeps tokens fits) Begun opens g need
+      all.reached (rule tokens) (sees tokens) fits (Needs tokens fits) (Means tokens fits) (Begun tokens fits) (Refused tokens fits)
+      (keeps tokens fits) opens g need
+
+  -- What the rows refuse in a part by a rule of their own, the productions refuse there by the same rule.
+  pub refusal_of : {s : Sort} {c : Call s} {a b q : ℕ} → forms.Begins (rule tokens) (sees tokens) fits s c a b (Some q)
+      → Needs tokens fits s c a → Refused tokens fits s c a b q
+  refusal_of g need =
+      all.reached (rule tokens) (sees tokens) fits (Needs tokens fits) (Means tokens fits) (Begun tokens fits) (Refused tokens fits)
+      (keeps tokens fits) opens g need

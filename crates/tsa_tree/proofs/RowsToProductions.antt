@@ -7,12 +7,14 @@ use Rattle.tsa_tree.specs.declared.expr.UnaryOp.{UnaryOp}
 use Rattle.tsa_tree.specs.declared.expr.BinaryOp.{BinaryOp}
 use Rattle.tsa_tree.specs.declared.sign.Sign.{Sign}
 use Rattle.tsa_tree.specs.declared.sign.Sign.TheVariants as sign
-use Rattle.tsa_tree.specs.Expressions.{Expression, Arguments, call, binary}
+use Rattle.tsa_tree.specs.Expressions.{Expression, call, binary}
 use Rattle.tsa_tree.specs.Signs.{Aliases, sign_at, span_over, identifier_at, operator, prefix, prefix_of, level, access}
-use Rattle.tsa_tree.specs.Spelling.{IsExpression, of_unary, of_binary, IsUnary, of_postfix, of_prefix, IsPostfix, of_primary, of_field, of_index, of_number, of_null, of_name, of_call, of_parentheses, of_none, of_some, IsSeries, of_last, of_further}
-use Rattle.tsa_tree.specs.Rows.{Sort, an_expression, some_arguments, Node, Call, expression, operation, operand, postfix, series, Kind, kind, sees, Row, tightest, climb, climb_on, operation_row, post, postfix_row, prefix_row, call_row, operand_row, series_end, rule}
+use Rattle.tsa_tree.specs.Spelling.{IsExpression, of_unary, of_binary, IsUnary, of_postfix, of_prefix, IsPostfix, of_primary, of_field, of_index, of_number, of_null, of_name, of_call, of_parentheses, of_none, of_some, of_last, of_further}
+use Rattle.tsa_tree.specs.Rows.{Sort, an_expression, some_arguments, Node, Call, expression, operation, operand, postfix, series, attributes, group, entries, balanced, Kind, kind, sees, tightest, climb, climb_on, operation_row, post, postfix_row, prefix_row, call_row, operand_row, series_end, rule}
 use Rattle.tsa_tree.proofs.ProductionSigns.{shows_name, shows_open, shows_close, shows_close_bracket, shows_comma}
 use Rattle.tsa_tree.proofs.Inductions as all
+pub use Rattle.tsa_tree.proofs.AttributeMeanings.{Needs, Closed, Means, Keeps}
+use Rattle.tsa_tree.proofs.AttributesKept.{keeps_attributes, keeps_one_group, keeps_entries, keeps_skip}
 use Rattle.tsa_forms.specs.Form.{done}
 use Rattle.tsa_forms.specs.Spelling as forms
 
@@ -23,32 +25,6 @@ weaken (of_unary u) le = of_unary u
 weaken (of_binary il q k_le fit ir) le = of_binary il q (omega arith) fit ir
 
 module _ (tokens : List Lexeme) (fits : ℕ → Bool) where
-  -- What holds where a part is asked for: that what it goes on with stands before it.
-  abbrev pub Needs : (s : Sort) → Call s → ℕ → Type 0
-  Needs _ (expression aliases d k) a = Unit {0}
-  Needs _ (operation aliases d k start l) a =
-      (top : ℕ) × ((o : BinaryOp) → operator (sign_at tokens aliases a) ≡ Some o → level o ≤ top)
-      × IsExpression tokens aliases fits d top l start a × IsExpression tokens aliases fits d k l start a
-  Needs _ (operand aliases d) a = Unit {0}
-  Needs _ (postfix aliases d start base) a = IsPostfix tokens aliases fits d base start a
-  Needs _ (series aliases d) a = Unit {0}
-
-  -- a series and the parenthesis that closes it
-  abbrev pub Closed : (aliases : Aliases) (d : ℕ) (xs : Arguments) (a b : ℕ) → Type 0
-  Closed aliases d xs a b =
-      (n : ℕ) × IsSeries tokens aliases fits d xs a n × (sign_at tokens aliases n ≡ sign.Close) × (b ≡ n + 1)
-
-  -- What a text of a part is, with what it goes on with.
-  abbrev pub Means : (s : Sort) → Call s → Node s → (a b : ℕ) → Type 0
-  Means _ (expression aliases d k) x a b = IsExpression tokens aliases fits d k x a b
-  Means _ (operation aliases d k start l) x a b = IsExpression tokens aliases fits d k x start b
-  Means _ (operand aliases d) x a b = IsUnary tokens aliases fits d x a b
-  Means _ (postfix aliases d start base) x a b = IsPostfix tokens aliases fits d x start b
-  Means _ (series aliases d) xs a b = Closed aliases d xs a b
-
-  abbrev pub Keeps : (s : Sort) → (Node s → ℕ → Type 0) → Row s → ℕ → Type 0
-  Keeps s P f a = all.Keeps (rule tokens) (sees tokens) fits Needs Means s P f a
-
   module _ (aliases : Aliases) where
     abbrev Unaries : (d a : ℕ) → Expression → ℕ → Type 0
     Unaries d a x b = IsUnary tokens aliases fits d x a b
@@ -62,21 +38,21 @@ module _ (tokens : List Lexeme) (fits : ℕ → Bool) where
     -- Behind an operand, more of the expression keeps to it.
     keeps_behind : (d k top start : ℕ) (l : Expression) (m : ℕ)
         → IsExpression tokens aliases fits d top l start m → IsExpression tokens aliases fits d k l start m
-        → Keeps an_expression (Expressions d k start) (climb tokens aliases d k top start l m (λ x e. done x)) m
+        → Keeps tokens fits an_expression (Expressions d k start) (climb tokens aliases d k top start l m (λ x e. done x)) m
     keeps_behind d k top start l m i j = go (operator (sign_at tokens aliases m)) refl
       where
         go : (o : Option BinaryOp) → operator (sign_at tokens aliases m) ≡ o
-            → Keeps an_expression (Expressions d k start) (climb_on tokens aliases d k top start l m (λ x e. done x) o) m
+            → Keeps tokens fits an_expression (Expressions d k start) (climb_on tokens aliases d k top start l m (λ x e. done x) o) m
         go None q = j
         go (Some o) q =
             ((λ le. ((top, (λ p e. let same : o ≡ p = cc in subst (λ p. level p ≤ top) same (leb-true (level o) top le)), i, j), λ y n h. h)), j)
 
-    keeps_operation : (d k start : ℕ) (l : Expression) (m : ℕ) → Needs an_expression (operation aliases d k start l) m
-        → Keeps an_expression (Expressions d k start) (operation_row tokens aliases d k start l m (operator (sign_at tokens aliases m))) m
+    keeps_operation : (d k start : ℕ) (l : Expression) (m : ℕ) → Needs tokens fits an_expression (operation aliases d k start l) m
+        → Keeps tokens fits an_expression (Expressions d k start) (operation_row tokens aliases d k start l m (operator (sign_at tokens aliases m))) m
     keeps_operation d k start l m need = go (operator (sign_at tokens aliases m)) refl
       where
         go : (o : Option BinaryOp) → operator (sign_at tokens aliases m) ≡ o
-            → Keeps an_expression (Expressions d k start) (operation_row tokens aliases d k start l m o) m
+            → Keeps tokens fits an_expression (Expressions d k start) (operation_row tokens aliases d k start l m o) m
         go None q = λ e. absurd (let never : false ≡ true = e in cc)
         go (Some o) q = (
           (λ le fit seen. (
@@ -91,18 +67,18 @@ module _ (tokens : List Lexeme) (fits : ℕ → Bool) where
 
     -- Behind an operand, postfix operators keep to it.
     keeps_after : (d start : ℕ) (base : Expression) (m : ℕ) → IsPostfix tokens aliases fits d base start m
-        → Keeps an_expression (Postfixes d start) (post tokens aliases d start base m (λ x e. done x)) m
+        → Keeps tokens fits an_expression (Postfixes d start) (post tokens aliases d start base m (λ x e. done x)) m
     keeps_after d start base m i = ((i, λ y n h. h), i)
 
     keeps_unary : (d start : ℕ) (base : Expression) (m : ℕ) → IsPostfix tokens aliases fits d base start m
-        → Keeps an_expression (Unaries d start) (post tokens aliases d start base m (λ x e. done x)) m
+        → Keeps tokens fits an_expression (Unaries d start) (post tokens aliases d start base m (λ x e. done x)) m
     keeps_unary d start base m i = ((i, λ y n h. of_postfix h), of_postfix i)
 
     never : {A : Type 0} → false ≡ true → A
     never e = absurd cc
 
     keeps_postfix : (d start : ℕ) (base : Expression) (m : ℕ) → IsPostfix tokens aliases fits d base start m → (s : Sign)
-        → sign_at tokens aliases m ≡ s → Keeps an_expression (Postfixes d start) (postfix_row tokens aliases d start base m s) m
+        → sign_at tokens aliases m ≡ s → Keeps tokens fits an_expression (Postfixes d start) (postfix_row tokens aliases d start base m s) m
     keeps_postfix d start base m i sign.Dot q =
         λ fit seen name. keeps_after d start _ (m + 1 + 1) (of_field i (ap access q) fit (shows_name tokens aliases (m + 1) name))
     keeps_postfix d start base m i sign.Arrow q =
@@ -113,27 +89,15 @@ module _ (tokens : List Lexeme) (fits : ℕ → Bool) where
           λ x n ix close. keeps_after d start _ (n + 1)
               (of_index i q fit fit' ix (shows_close_bracket tokens aliases n close)),
         )
-    keeps_postfix d start base m i sign.End q = never
-    keeps_postfix d start base m i sign.Other q = never
-    keeps_postfix d start base m i sign.TypeName q = never
-    keeps_postfix d start base m i sign.Name q = never
-    keeps_postfix d start base m i sign.Number q = never
-    keeps_postfix d start base m i sign.Null q = never
-    keeps_postfix d start base m i sign.Open q = never
-    keeps_postfix d start base m i sign.Close q = never
-    keeps_postfix d start base m i sign.CloseBracket q = never
-    keeps_postfix d start base m i sign.Comma q = never
-    keeps_postfix d start base m i sign.Not q = never
-    keeps_postfix d start base m i sign.Flip q = never
-    keeps_postfix d start base m i (sign.Operator o) q = never
+    keeps_postfix d start base m i _ q = never
 
     keeps_prefix : (d m : ℕ) (k : Kind) (o : Option UnaryOp) → prefix (sign_at tokens aliases m) ≡ o
-        → Keeps an_expression (Unaries d m) (prefix_row tokens aliases d m k o) m
+        → Keeps tokens fits an_expression (Unaries d m) (prefix_row tokens aliases d m k o) m
     keeps_prefix d m k None q = never
     keeps_prefix d m k (Some o) q = λ fit seen. (tt, λ x n u. of_prefix q fit u)
 
     keeps_call : (d m : ℕ) → sign_at tokens aliases m ≡ sign.Name → sign_at tokens aliases (m + 1) ≡ sign.Open → fits d ≡ true
-        → Keeps an_expression (Unaries d m) (call_row tokens aliases d m) (m + 1 + 1)
+        → Keeps tokens fits an_expression (Unaries d m) (call_row tokens aliases d m) (m + 1 + 1)
     keeps_call d m q open_ fit = (
       (λ close. keeps_unary d m _ (m + 1 + 1 + 1) (of_primary (of_call q open_ fit of_none (shows_close tokens aliases (m + 1 + 1) close)))),
       (
@@ -145,7 +109,7 @@ module _ (tokens : List Lexeme) (fits : ℕ → Bool) where
     )
 
     keeps_operand : (d m : ℕ) (s : Sign) → sign_at tokens aliases m ≡ s
-        → Keeps an_expression (Unaries d m) (operand_row tokens aliases d m s) m
+        → Keeps tokens fits an_expression (Unaries d m) (operand_row tokens aliases d m s) m
     keeps_operand d m sign.Not q = keeps_prefix d m (kind aliases 12) (prefix sign.Not) (ap prefix q)
     keeps_operand d m sign.Flip q = keeps_prefix d m (kind aliases 13) (prefix sign.Flip) (ap prefix q)
     keeps_operand d m (sign.Operator o) q = keeps_prefix d m (kind aliases 14) (prefix_of o) (ap prefix q)
@@ -159,18 +123,10 @@ module _ (tokens : List Lexeme) (fits : ℕ → Bool) where
           λ x n ix close. keeps_unary d m x (n + 1)
               (of_primary (of_parentheses q fit ix (shows_close tokens aliases n close))),
         )
-    keeps_operand d m sign.End q = never
-    keeps_operand d m sign.Other q = never
-    keeps_operand d m sign.TypeName q = never
-    keeps_operand d m sign.Close q = never
-    keeps_operand d m sign.OpenBracket q = never
-    keeps_operand d m sign.CloseBracket q = never
-    keeps_operand d m sign.Comma q = never
-    keeps_operand d m sign.Dot q = never
-    keeps_operand d m sign.Arrow q = never
+    keeps_operand d m _ q = never
 
     keeps_series : (d a : ℕ) (x : Expression) (n : ℕ) → IsExpression tokens aliases fits d 0 x a n
-        → Keeps some_arguments (λ xs b. Closed aliases d xs a b) (series_end tokens aliases d x n) n
+        → Keeps tokens fits some_arguments (λ xs b. Closed tokens fits aliases d xs a b) (series_end tokens aliases d x n) n
     keeps_series d a x n i = (
       (λ comma. (
         tt,
@@ -181,14 +137,19 @@ module _ (tokens : List Lexeme) (fits : ℕ → Bool) where
     )
 
   -- Every row keeps to its production.
-  pub keeps : (s : Sort) (c : Call s) (a : ℕ) → Needs s c a → Keeps s (λ x b. Means s c x a b) (rule tokens s c a) a
+  pub keeps : (s : Sort) (c : Call s) (a : ℕ) → Needs tokens fits s c a
+      → Keeps tokens fits s (λ x b. Means tokens fits s c x a b) (rule tokens s c a) a
   keeps _ (expression aliases d k) a need = (tt, λ x n u. keeps_behind aliases d k tightest a x n (of_unary u) (of_unary u))
   keeps _ (operation aliases d k start l) a need = keeps_operation aliases d k start l a need
   keeps _ (operand aliases d) a need = keeps_operand aliases d a (sign_at tokens aliases a) refl
   keeps _ (postfix aliases d start base) a need = keeps_postfix aliases d start base a need (sign_at tokens aliases a) refl
   keeps _ (series aliases d) a need = (tt, λ x n i. keeps_series aliases d a x n i)
+  keeps _ (attributes aliases d) a need = keeps_attributes tokens aliases fits d a
+  keeps _ (group aliases d) a need = keeps_one_group tokens aliases fits d a
+  keeps _ (entries aliases d) a need = keeps_entries tokens aliases fits d a
+  keeps _ (balanced aliases d closer) a need = keeps_skip tokens aliases fits d closer a
 
   -- What the rows spell is what the productions spell.
   pub production_of : {s : Sort} {c : Call s} {x : Node s} {a b : ℕ} → forms.Spells (rule tokens) (sees tokens) fits s c x a b
-      → Needs s c a → Means s c x a b
-  production_of sp need = all.means (rule tokens) (sees tokens) fits Needs Means keeps sp need
+      → Needs tokens fits s c a → Means tokens fits s c x a b
+  production_of sp need = all.means (rule tokens) (sees tokens) fits (Needs tokens fits) (Means tokens fits) keeps sp need

@@ -2,6 +2,8 @@
 
 ghost use Rattle.tsa_tree.specs.SyntaxLaws.{SpellTheSame, BeginTheSame, OneTree, PiecesBegin, OneAnswer};
 ghost use Rattle.tsa_tree.specs.Examples.{ProductionsAreRead};
+ghost use Rattle.tsa_tree.specs.AttributeAnswers as attributes;
+ghost use Rattle.tsa_tree.specs.AttributeExamples.{AttributesAreRead};
 
 /// The rows that readers go by spell the same trees as the productions of the grammar, and the same lists begin them.
 pub fn rows_are_productions()
@@ -28,4 +30,37 @@ pub fn one_answer_is_right()
 /// Expressions are read as they are written: a text for each production, and one for each kind of refusal.
 pub fn expressions_are_as_written()
     ensures { ProductionsAreRead }
+{}
+
+/// The rows of attributes spell the same lists as the productions, the same tokens begin them, and the same attributes are
+/// refused where they stand.
+#[tactic(auto, using(crate::proofs::AttributeLaws::spell_the_same, crate::proofs::AttributeLaws::begin_the_same, crate::proofs::AttributeLaws::refuse_the_same))]
+pub fn rows_of_attributes_are_productions()
+    ensures spelled { attributes.SpellTheSame }
+    ensures begun { attributes.BeginTheSame }
+    ensures refused { attributes.RefuseTheSame }
+{}
+
+/// Two lists of attributes that the same tokens spell are equal.
+#[tactic(auto, using(crate::proofs::AttributeLaws::one_list))]
+pub fn one_list_of_attributes_is_spelled()
+    ensures { attributes.OneList }
+{}
+
+/// Every first piece of the tokens that spell attributes begins them.
+#[tactic(auto, using(crate::proofs::AttributeLaws::pieces_begin))]
+pub fn first_pieces_begin_attributes()
+    ensures { attributes.PiecesBegin }
+{}
+
+/// For every list of tokens and place there is a right answer of a reader of attributes.
+#[tactic(auto, using(crate::proofs::AttributeLaws::an_answer))]
+pub fn attributes_have_an_answer()
+    ensures { attributes.AnAnswer }
+{}
+
+/// Attributes are read as they are written: texts of each form, and of each kind of refusal.
+#[tactic(auto, using(crate::proofs::AttributeExamples::attributes_are_read))]
+pub fn attributes_are_as_written()
+    ensures { AttributesAreRead }
 {}

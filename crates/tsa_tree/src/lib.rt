@@ -2,13 +2,19 @@
 //! name.
 #![tactic(auto)]
 
+pub mod attr;
+pub mod decl;
 pub mod expr;
+pub mod item;
 mod laws;
 pub mod sign;
+pub mod stmt;
 
 pub use laws::{
-    expressions_are_as_written, first_pieces_begin, one_answer_is_right, one_tree_is_spelled,
-    rows_are_productions,
+    attributes_are_as_written, attributes_have_an_answer, expressions_are_as_written,
+    first_pieces_begin, first_pieces_begin_attributes, one_answer_is_right,
+    one_list_of_attributes_is_spelled, one_tree_is_spelled, rows_are_productions,
+    rows_of_attributes_are_productions,
 };
 use tsa_base::Span;
 
