@@ -1,0 +1,15 @@
+//! Reading of attributes of thread safety: from tokens to the arena, one token ahead.
+#![tactic(auto)]
+
+mod balance;
+mod lists;
+mod nodes;
+mod read;
+mod reader;
+mod takes;
+mod view;
+
+pub use read::read_attributes;
+
+#[cfg(test)]
+mod tests;

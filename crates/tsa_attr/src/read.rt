@@ -1,0 +1,63 @@
+//! Attributes, as the parts of a unit ask for them.
+ghost use Rattle.std.specs.Prelude.{◌≡◌, ◌≤◌, ◌<◌, ℕ, length, [], IfOk, IsErrOf};
+ghost use Rattle.tsa_base.specs.declared.limits.TheConstants.{INPUT_LIMIT, NESTING_LIMIT};
+ghost use Rattle.tsa_tree.specs.AttributeAnswers.{IsLongest, IsBroken, IsRefused, IsTooDeep, read_any};
+ghost use Rattle.tsa_tree.specs.AttributeRefusals as reason;
+ghost use Rattle.tsa_tree.specs.Attributes.{attr_shapes};
+ghost use Rattle.tsa_tree.specs.Signs.{lexemes};
+ghost use Rattle.tsa_expr.specs.Gives.{Gives};
+ghost use Rattle.tsa_attr.specs.Outcomes.{IsOfAttributes};
+
+use crate::nodes::kept;
+use crate::reader::attributes;
+use crate::view::begins_group;
+use bumpalo::Bump;
+use tsa_base::Token;
+use tsa_expr::{SyntaxCode, SyntaxRefusal, sign_at};
+use tsa_tree::attr::Attr;
+
+/// All attributes that begin at a token, where `depth` constructs are open, and the token after them; none where no group
+/// begins there. Of the tokens from `at` on the longest list that begins attributes decides: SY1 stands at the token after it
+/// where it spells none; AT1 and AT2 at the first attribute, up to that token, that is left out or has no argument; LM2 at the
+/// first token of the list that passes the limit, where no attribute up to there is refused.
+pub fn read_attributes<'a>(
+    bump: &'a Bump,
+    tokens: &[Token<'_>],
+    at: u32,
+    depth: u32,
+) -> Result<(&'a [Attr<'a>], u32), SyntaxRefusal>
+    requires room { length tokens.now ≤ INPUT_LIMIT }
+    requires within { at ≤ length tokens.now }
+    requires shallow { depth ≤ NESTING_LIMIT }
+    ensures found { IfOk result (λ found. IsLongest (lexemes tokens.now) [] depth at (attr_shapes found.0.now) found.1) }
+    ensures broken { (token : ℕ) → IsErrOf result (SyntaxRefusal.At SyntaxCode.SY1 token) → IsBroken (lexemes tokens.now) [] depth at token }
+    ensures left_out { (token : ℕ) → IsErrOf result (SyntaxRefusal.At SyntaxCode.AT1 token) → IsRefused (lexemes tokens.now) [] depth at reason.left_out token }
+    ensures lacking { (token : ℕ) → IsErrOf result (SyntaxRefusal.At SyntaxCode.AT2 token) → IsRefused (lexemes tokens.now) [] depth at reason.lacking token }
+    ensures too_deep { (token : ℕ) → IsErrOf result (SyntaxRefusal.At SyntaxCode.LM2 token) → IsTooDeep (lexemes tokens.now) [] depth at token }
+    ensures no_other { (refusal : _) → IsErrOf result refusal → IsOfAttributes refusal }
+    ensures next { IfOk result (λ found. (at ≤ found.1) × (found.1 ≤ length tokens.now)) }
+{
+    read_groups(bump, tokens, at, depth)
+}
+
+/// The same, as reading by the rows gives it.
+#[tactic(auto, using(crate::proofs::Groups::any))]
+fn read_groups<'a>(
+    bump: &'a Bump,
+    tokens: &[Token<'_>],
+    at: u32,
+    depth: u32,
+) -> Result<(&'a [Attr<'a>], u32), SyntaxRefusal>
+    requires room { length tokens.now ≤ INPUT_LIMIT }
+    requires within { at ≤ length tokens.now }
+    requires shallow { depth ≤ NESTING_LIMIT }
+    ensures gives { Gives (λ found. (attr_shapes found.0.now, found.1)) result (read_any (lexemes tokens.now) [] depth at) }
+    ensures ends { IfOk result (λ found. (at ≤ found.1) × (found.1 ≤ length tokens.now)) }
+{
+    if !begins_group(sign_at(tokens, at)) {
+        return Ok((&[], at));
+    }
+    let mut items = Vec::new(bump);
+    let next = attributes(bump, tokens, at, depth, &mut items)?;
+    Ok((kept(items), next))
+}

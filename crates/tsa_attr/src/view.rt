@@ -1,0 +1,204 @@
+//! What attributes see at a place of the tokens.
+ghost use Rattle.std.specs.Prelude.{◌≡◌, ◌+◌, ◌≤◌, ◌<◌, length, [], Some, None, IfOk, OnOk};
+ghost use Rattle.std.specs.Str.{bytes_eq};
+ghost use Rattle.tsa_base.specs.declared.limits.TheConstants.{INPUT_LIMIT, NESTING_LIMIT};
+ghost use Rattle.tsa_tree.specs.Attributes.{try_value as spec_try, taking as spec_taking};
+ghost use Rattle.tsa_tree.specs.Rows.{sees, a_close, is_attribute_sign as spec_begins, lacks as spec_lacks, lacking_at, takes_result as spec_takes};
+ghost use Rattle.tsa_tree.specs.Signs.{lexemes, identifier_at, is_plain_sign as spec_plain, entry_meaning as spec_meaning};
+ghost use Rattle.tsa_expr.specs.Gives.{Gives};
+ghost use Rattle.tsa_attr.specs.Outcomes.{opening, one_token};
+ghost use Rattle.tsa_attr.specs.Seen.{passed, taking_of};
+
+use tsa_base::{NESTING_LIMIT, Token};
+use tsa_expr::{SyntaxCode, SyntaxRefusal, meaning_at, sign_at};
+use tsa_tree::attr::AttrKind;
+use tsa_tree::sign::{Meaning, Sign};
+
+/// What an attribute takes in its parentheses.
+#[derive(Clone, Copy)]
+pub enum Content {
+    /// One text.
+    Text,
+    /// One expression.
+    Expression,
+    /// One expression or more.
+    Expressions,
+    /// The result of a try that took its locks, and then one expression or more.
+    Try,
+}
+
+/// What an attribute of a kind takes.
+pub fn taking(kind: AttrKind) -> Content
+    ensures { spec_taking kind ≡ taking_of result }
+{
+    match kind {
+        AttrKind::Capability => Content::Text,
+        AttrKind::GuardedBy => Content::Expression,
+        AttrKind::TryAcquire | AttrKind::TryAcquireShared => Content::Try,
+        AttrKind::Requires
+        | AttrKind::RequiresShared
+        | AttrKind::Acquire
+        | AttrKind::AcquireShared
+        | AttrKind::Release
+        | AttrKind::ReleaseShared
+        | AttrKind::ReleaseGeneric
+        | AttrKind::Excludes => Content::Expressions,
+    }
+}
+
+pub fn refuse(code: SyntaxCode, token: u32) -> SyntaxRefusal
+    ensures { result ≡ SyntaxRefusal.At code token }
+{
+    SyntaxRefusal::At { code, token }
+}
+
+/// Whether a group of attributes can begin with a sign.
+pub fn begins_group(sign: Sign) -> bool
+    ensures { result ≡ spec_begins sign }
+{
+    match sign {
+        Sign::Attribute | Sign::Macro(_) | Sign::LeftOutMacro => true,
+        _ => false,
+    }
+}
+
+/// Whether a token opens and closes nothing.
+pub fn is_plain(sign: Sign) -> bool
+    ensures { result ≡ spec_plain sign }
+{
+    match sign {
+        Sign::End
+        | Sign::Open
+        | Sign::Close
+        | Sign::OpenBracket
+        | Sign::CloseBracket
+        | Sign::OpenBrace
+        | Sign::CloseBrace => false,
+        _ => true,
+    }
+}
+
+/// Whether a closing parenthesis stands at a place.
+pub fn is_close_at(tokens: &[Token<'_>], at: u32) -> bool
+    ensures { result ≡ sees (lexemes tokens.now) (a_close []) at }
+{
+    match sign_at(tokens, at) {
+        Sign::Close => true,
+        _ => false,
+    }
+}
+
+/// What the word at a place means in a list of attributes.
+pub fn entry_meaning(tokens: &[Token<'_>], at: u32) -> Meaning
+    ensures { result ≡ spec_meaning (lexemes tokens.now) [] at }
+{
+    match sign_at(tokens, at) {
+        Sign::LeftOutMacro => Meaning::LeftOut,
+        _ => meaning_at(tokens, at),
+    }
+}
+
+fn is(text: &[u8], word: &[u8]) -> bool
+    ensures { result ≡ bytes_eq text.now word.now }
+{
+    text == word
+}
+
+/// The result that a text names for a try.
+#[tactic(auto, unfolding(tsa_tree::specs::Attributes::try_value))]
+fn try_value(text: &[u8]) -> Option<bool>
+    ensures { result ≡ spec_try text.now }
+{
+    if is(text, b"0") {
+        Some(false)
+    } else if is(text, b"1") {
+        Some(true)
+    } else if is(text, b"false") {
+        Some(false)
+    } else if is(text, b"true") {
+        Some(true)
+    } else {
+        None
+    }
+}
+
+/// The result that the token at a place names for a try.
+#[tactic(auto, unfolding(tsa_tree::specs::Signs::identifier_at, tsa_tree::specs::Attributes::try_value))]
+pub fn try_value_at(tokens: &[Token<'_>], at: u32) -> Option<bool>
+    ensures { result ≡ spec_try (identifier_at (lexemes tokens.now) at).text }
+{
+    match tokens.get(at as usize) {
+        Some(token) => try_value(token.text),
+        None => None,
+    }
+}
+
+fn takes_result(kind: AttrKind) -> bool
+    ensures { result ≡ spec_takes (spec_taking kind) }
+{
+    match taking(kind) {
+        Content::Try => true,
+        _ => false,
+    }
+}
+
+/// Whether the parenthesis of the attribute at a place has nothing in it, or the result of a try alone.
+fn lacks_inside(tokens: &[Token<'_>], at: u32, kind: AttrKind) -> bool
+    requires room { length tokens.now ≤ INPUT_LIMIT }
+    requires within { at ≤ length tokens.now }
+    ensures { result ≡ lacking_at (lexemes tokens.now) [] kind at Sign.Open }
+{
+    if is_close_at(tokens, at + 1 + 1) {
+        return true;
+    }
+    if !takes_result(kind) {
+        return false;
+    }
+    match try_value_at(tokens, at + 1 + 1) {
+        Some(_) => is_close_at(tokens, at + 1 + 1 + 1),
+        None => false,
+    }
+}
+
+/// Whether the attribute whose name stands at a place has no argument.
+pub fn lacks(tokens: &[Token<'_>], at: u32, kind: AttrKind) -> bool
+    requires room { length tokens.now ≤ INPUT_LIMIT }
+    requires within { at ≤ length tokens.now }
+    ensures { result ≡ spec_lacks (lexemes tokens.now) [] kind at }
+{
+    match sign_at(tokens, at + 1) {
+        Sign::End => false,
+        Sign::Open => lacks_inside(tokens, at, kind),
+        _ => true,
+    }
+}
+
+/// The place behind a parenthesis that opens a construct.
+#[tactic(auto, using(crate::proofs::Openings::openings))]
+pub fn open(tokens: &[Token<'_>], at: u32, depth: u32) -> Result<u32, SyntaxRefusal>
+    requires room { length tokens.now ≤ INPUT_LIMIT }
+    ensures gives { Gives passed result (opening (lexemes tokens.now) depth at) }
+    ensures ends { IfOk result (λ next. (next ≡ at + 1) × (at < length tokens.now)) }
+    ensures low { OnOk result (depth < NESTING_LIMIT) }
+{
+    let Sign::Open = sign_at(tokens, at) else {
+        return Err(refuse(SyntaxCode::SY1, at));
+    };
+    if depth >= NESTING_LIMIT {
+        return Err(refuse(SyntaxCode::LM2, at));
+    }
+    Ok(at + 1)
+}
+
+/// The place behind a closing parenthesis.
+#[tactic(auto, using(crate::proofs::Openings::closings))]
+pub fn close(tokens: &[Token<'_>], at: u32) -> Result<u32, SyntaxRefusal>
+    requires room { length tokens.now ≤ INPUT_LIMIT }
+    ensures gives { Gives passed result (one_token (lexemes tokens.now) (a_close []) at) }
+    ensures ends { IfOk result (λ next. (next ≡ at + 1) × (at < length tokens.now)) }
+{
+    let Sign::Close = sign_at(tokens, at) else {
+        return Err(refuse(SyntaxCode::SY1, at));
+    };
+    Ok(at + 1)
+}
