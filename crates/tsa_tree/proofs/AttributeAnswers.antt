@@ -62,7 +62,7 @@ module _ (tokens : List Lexeme) (aliases : Aliases) (fits : ℕ → Bool) where
   whole h = group_behind h begins_no_group
 
   -- where a group can begin behind a list, it begins more of the list, or it is one that is left out
-  on_sign : {d : ℕ} {xs : List Attribute} {a : ℕ} (i : ℕ) (s : Sign) → sign_at tokens aliases i ≡ s → is_attribute_sign s ≡ true
+  pub on_sign : {d : ℕ} {xs : List Attribute} {a : ℕ} (i : ℕ) (s : Sign) → sign_at tokens aliases i ≡ s → is_attribute_sign s ≡ true
       → IsAttributes tokens aliases fits d xs a i → BeginsAttributes tokens aliases fits d a (i + 1) ⊎ RefusesAttributes tokens aliases fits d a i left_out
   on_sign i sign.Attribute e h sp = inl (group_behind sp (begins_word e))
   on_sign i (sign.Macro k) e h sp = inl (group_behind sp (begins_macro e begins_name))

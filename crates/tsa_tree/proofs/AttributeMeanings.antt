@@ -28,6 +28,8 @@ module _ (tokens : List Lexeme) (fits : ℕ → Bool) where
   Needs _ (group aliases d) a = Unit {0}
   Needs _ (entries aliases d) a = Unit {0}
   Needs _ (balanced aliases d closer) a = Unit {0}
+  -- neither expressions nor attributes have parts of declarations
+  Needs _ other a = ⊥
 
   -- a series and the parenthesis that closes it
   abbrev pub Closed : (aliases : Aliases) (d : ℕ) (xs : Arguments) (a b : ℕ) → Type 0
@@ -55,6 +57,7 @@ module _ (tokens : List Lexeme) (fits : ℕ → Bool) where
   Means _ (group aliases d) xs a b = IsGroup tokens aliases fits d xs a b
   Means _ (entries aliases d) xs a b = ClosedEntries aliases d xs a b
   Means _ (balanced aliases d closer) x a b = ClosedBalanced aliases d closer a b
+  Means _ other x a b = ⊥
 
   -- What a beginning of a part is, with what it goes on with. A part that ends with a closing token may already be closed.
   abbrev pub Begun : (s : Sort) → Call s → (a b : ℕ) → Type 0
@@ -69,6 +72,7 @@ module _ (tokens : List Lexeme) (fits : ℕ → Bool) where
   Begun _ (entries aliases d) a b =
       BeginsEntries tokens aliases fits d a b ⊎ ((xs : List Attribute) × ClosedEntries aliases d xs a b)
   Begun _ (balanced aliases d closer) a b = BeginsBalanced tokens aliases fits d a b ⊎ ClosedBalanced aliases d closer a b
+  Begun _ other a b = ⊥
 
   -- What is refused in a part, and by which rule: attributes alone.
   abbrev pub Refused : (s : Sort) → Call s → (a b q : ℕ) → Type 0
@@ -78,6 +82,7 @@ module _ (tokens : List Lexeme) (fits : ℕ → Bool) where
   Refused _ (attributes aliases d) a b q = RefusesAttributes tokens aliases fits d a b q
   Refused _ (group aliases d) a b q = RefusesGroup tokens aliases fits d a b q
   Refused _ (entries aliases d) a b q = RefusesEntries tokens aliases fits d a b q
+  Refused _ other a b q = ⊥
 
   abbrev pub Keeps : (s : Sort) → (Node s → ℕ → Type 0) → Row s → ℕ → Type 0
   Keeps s P f a = all.Keeps (rule tokens) (sees tokens) fits Needs Means s P f a

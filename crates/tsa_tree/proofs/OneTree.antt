@@ -17,7 +17,7 @@ use Rattle.tsa_tree.proofs.Truncated.{truncated-expression, truncated-unary}
 use Rattle.tsa_forms.specs.Reading.{all}
 
 module _ (tokens : List Lexeme) (aliases : Aliases) where
-  ends_there : (e : ℕ) → length tokens ≤ e → sign_at tokens aliases e ≡ sign.End
+  pub ends_there : (e : ℕ) → length tokens ≤ e → sign_at tokens aliases e ≡ sign.End
   unfolding sign_at
   ends_there e le = ap (sign_in aliases) (slice_get_past tokens e le)
 
@@ -26,7 +26,7 @@ module _ (tokens : List Lexeme) (aliases : Aliases) where
       (ap is_postfix (ends_there e le), λ l. ap (λ s. nat_eq (mark s) 6) (ends_there e le))
 
   -- no part goes on behind the last token
-  at_the_end : (p : Part) (d : ℕ) (t : Expression) (e : ℕ) → length tokens ≤ e → Ends tokens rows.an_expression (call_of aliases p d) t e
+  pub at_the_end : (p : Part) (d : ℕ) (t : Expression) (e : ℕ) → length tokens ≤ e → Ends tokens rows.an_expression (call_of aliases p d) t e
   at_the_end an_expression d t e le =
       (ended_there t e le, λ o q. let never : None ≡ Some o = sym (ap operator (ends_there e le)) ∙ q in cc)
   at_the_end a_unary d t e le = ended_there t e le

@@ -1,16 +1,18 @@
 -- What is known of the token where a part begins, and of the token behind a part.
-use Rattle.std.proofs.Common.{ℕ, suc, ◌+◌, ◌-◌, ◌<◌, ◌≡◌, ◌∙◌, ap, sym, subst, refl, Bool, true, false, ◌&&◌, Option, Some, None, List, length, slice_get, arith, inl, inr, nat_eq, nat_le}
+use Rattle.std.proofs.Common.{ℕ, suc, ◌+◌, ◌-◌, ◌<◌, ◌≡◌, ◌∙◌, ap, sym, subst, refl, Bool, true, false, ◌&&◌, Option, Some, None, List, [], ◌∷◌, length, slice_get, arith, inl, inr, nat_eq, nat_le}
 use Rattle.std.proofs.lemmas.Bool.{cases_lt, eqb-true}
 use Rattle.std.proofs.lemmas.Option.{slice_get_past}
 use Rattle.tsa_base.specs.Tokens.{Lexeme}
 use Rattle.tsa_tree.specs.declared.expr.UnaryOp.{UnaryOp}
 use Rattle.tsa_tree.specs.declared.expr.BinaryOp.{BinaryOp}
+use Rattle.tsa_tree.specs.declared.sign.Keyword.TheVariants as key
 use Rattle.tsa_tree.specs.declared.sign.Sign.{Sign}
 use Rattle.tsa_tree.specs.declared.sign.Sign.TheVariants as sign
 use Rattle.tsa_tree.specs.Expressions.{Expression, number, null, named, call, unary, binary, field, index}
-use Rattle.tsa_tree.specs.Signs.{Aliases, sign_in, sign_at, is_word_at, identifier_in, identifier_at, is_word, kind_in, is_plain_sign, operator, prefix_of, level}
+use Rattle.tsa_tree.specs.Signs.{Aliases, sign_in, sign_at, is_word_at, identifier_in, identifier_at, is_word, kind_in, is_plain_sign, is_tag, is_storage, is_star, operator, prefix_of, level}
 use Rattle.tsa_tree.specs.Attributes.{try_value}
-use Rattle.tsa_tree.specs.Rows.{Sort, Node, Call, expression, operation, operand, postfix, series, attributes, group, entries, balanced, rank, mark, Kind, kind, a_word, a_result, a_plain, nothing, an_open, is_given, sees, is_postfix, is_attribute_sign, Row}
+use Rattle.tsa_tree.specs.Declarations.{Initialiser, value, list, Declaration}
+use Rattle.tsa_tree.specs.Rows.{Sort, Node, Call, expression, operation, operand, postfix, series, attributes, group, entries, balanced, consts, storage, specifier, declarator, initialiser, initialisers, declared_rest, declarators, member_line, members, variable, variables, locals, parameter_list, parameters, signature, head, struct_body, constants, enum_body, declared, item, rank, mark, Kind, kind, a_word, a_result, a_plain, a_keyword, a_tag, a_storage_word, a_star, nothing, a_name, an_open, an_open_bracket, an_open_brace, an_equals, a_comma, is_keyword, is_given, sees, is_postfix, is_attribute_sign, Row}
 use Rattle.tsa_forms.proofs.Good as g
 use Rattle.tsa_tree.proofs.SignFacts.{is_plain, plain_no_postfix, plain_no_operator, plain_no_open}
 
@@ -33,12 +35,47 @@ pub begins_no_close : (s : Sign) → begins_operand s ≡ true → nat_eq (mark 
 begins_no_close sign.Close e = cc
 begins_no_close _ e = refl
 
+-- A type can begin with this token.
+abbrev pub begins_type : Sign → Bool
+begins_type (sign.Keyword key.Const) = true
+begins_type (sign.Keyword key.Int) = true
+begins_type (sign.Keyword key.Unsigned) = true
+begins_type (sign.Keyword key.Signed) = true
+begins_type (sign.Keyword key.Void) = true
+begins_type (sign.Keyword key.Struct) = true
+begins_type (sign.Keyword key.Enum) = true
+begins_type sign.TypeName = true
+begins_type _ = false
+
+-- `int` may follow this token.
+abbrev pub is_signing : Sign → Bool
+is_signing (sign.Keyword key.Unsigned) = true
+is_signing (sign.Keyword key.Signed) = true
+is_signing _ = false
+
+-- A declarator can begin with this token.
+abbrev pub begins_declarator : Sign → Bool
+begins_declarator sign.Name = true
+begins_declarator s = is_star s
+
+abbrev pub begins_initialiser : Sign → Bool
+begins_initialiser sign.OpenBrace = true
+begins_initialiser s = begins_operand s
+
+-- This can stand behind the name of a member or a global.
+abbrev pub begins_rest : Sign → Bool
+begins_rest sign.OpenBracket = true
+begins_rest sign.Equals = true
+begins_rest sign.Comma = true
+begins_rest sign.Semicolon = true
+begins_rest s = is_attribute_sign s
+
 -- The last operand of an expression, which no parentheses end, is a name.
 abbrev pub last_named : Expression → Bool
 last_named (named name span) = true
 last_named (unary op inner span) = last_named inner
 last_named (binary op left right span) = last_named right
-last_named (number value unsigned span) = false
+last_named (number worth unsigned span) = false
 last_named (null span) = false
 last_named (call callee args span) = false
 last_named (field base name arrow span) = false
@@ -70,19 +107,81 @@ module _ (tokens : List Lexeme) where
   First _ (group aliases d) m = is_attribute_sign (sign_at tokens aliases m) ≡ true
   First _ (entries aliases d) m = is_word_at tokens m ≡ true
   First _ (balanced aliases d closer) m = Unit {0}
+  First _ (consts aliases) m = is_keyword key.Const (sign_at tokens aliases m) ≡ true
+  First _ (storage aliases) m = is_storage (sign_at tokens aliases m) ≡ true
+  First _ (specifier aliases) m = begins_type (sign_at tokens aliases m) ≡ true
+  First _ (declarator aliases) m = begins_declarator (sign_at tokens aliases m) ≡ true
+  First _ (initialiser aliases d) m = begins_initialiser (sign_at tokens aliases m) ≡ true
+  First _ (initialisers aliases d) m = begins_initialiser (sign_at tokens aliases m) ≡ true
+  First _ (declared_rest aliases r d t c) m = begins_rest (sign_at tokens aliases m) ≡ true
+  First _ (declarators aliases r d t) m = begins_declarator (sign_at tokens aliases m) ≡ true
+  First _ (member_line aliases d) m = begins_type (sign_at tokens aliases m) ≡ true
+  First _ (members aliases d) m = Unit {0}
+  First _ (variable aliases d t) m = begins_declarator (sign_at tokens aliases m) ≡ true
+  First _ (variables aliases d t) m = begins_declarator (sign_at tokens aliases m) ≡ true
+  First _ (locals aliases single d) m = Unit {0}
+  First _ (parameter_list aliases) m = begins_type (sign_at tokens aliases m) ≡ true
+  First _ (parameters aliases) m = Unit {0}
+  First _ (signature aliases) m = sees tokens (an_open aliases) m ≡ true
+  First _ (head aliases) m = Unit {0}
+  First _ (struct_body aliases) m = sees tokens (an_open_brace aliases) m ≡ true
+  First _ (constants aliases) m = sees tokens (a_name aliases) m ≡ true
+  First _ (enum_body aliases) m = sees tokens (an_open_brace aliases) m ≡ true
+  First _ (declared aliases t) m = begins_declarator (sign_at tokens aliases m) ≡ true
+  First _ (item aliases) m = Unit {0}
 
-  -- This is known of the place behind a part that is as long as it can be. Series, groups, entries and balanced tokens end
-  -- with a token of their own.
+  -- A type is over where no `const` stands, nor `int` right behind `unsigned` or `signed`.
+  abbrev pub Settled : Aliases → ℕ → Type 0
+  Settled aliases m =
+      (is_keyword key.Const (sign_at tokens aliases m) ≡ false)
+      × (is_signing (sign_at tokens aliases (m - 1)) ≡ true → is_keyword key.Int (sign_at tokens aliases m) ≡ false)
+
+  -- An initialiser is over where its expression is. A list has its brace.
+  abbrev pub EndsValue : Aliases → Initialiser → ℕ → Type 0
+  EndsValue aliases (value x) m = Ended aliases x m × Loose aliases 0 m
+  EndsValue aliases (list xs span) m = Unit {0}
+
+  -- A local is over where its initialiser is, or where neither one nor a length follows.
+  abbrev pub EndsLocal : Aliases → Option Expression → Option Initialiser → ℕ → Type 0
+  EndsLocal aliases None None m = (sees tokens (an_equals aliases) m ≡ false) × (sees tokens (an_open_bracket aliases) m ≡ false)
+  EndsLocal aliases (Some l) None m = sees tokens (an_equals aliases) m ≡ false
+  EndsLocal aliases l (Some x) m = EndsValue aliases x m
+
+  abbrev pub EndsVariable : Aliases → Declaration → ℕ → Type 0
+  EndsVariable aliases x m = EndsLocal aliases x.ctype.length x.init m
+
+  -- Several of them are over where the last one is and no comma follows.
+  abbrev pub EndsVariables : Aliases → Declaration → List Declaration → ℕ → Type 0
+  EndsVariables aliases x [] m = EndsVariable aliases x m × (sees tokens (a_comma aliases) m ≡ false)
+  EndsVariables aliases x (y ∷ ys) m = EndsVariables aliases y ys m
+
+  abbrev pub EndsLocals : Aliases → (single : Bool) → List Declaration → ℕ → Type 0
+  EndsLocals aliases single [] m = Unit {0}
+  EndsLocals aliases false (x ∷ xs) m = EndsVariables aliases x xs m
+  EndsLocals aliases true (x ∷ xs) m = EndsVariable aliases x m
+
+  -- No attribute follows.
+  abbrev pub Bare : Aliases → ℕ → Type 0
+  Bare aliases m = is_attribute_sign (sign_at tokens aliases m) ≡ false
+
+  -- This is known of the place behind a part that is as long as it can be. Every other part ends with a token of its own.
   abbrev pub Ends : (s : Sort) → Call s → Node s → ℕ → Type 0
   Ends _ (expression aliases d k) x m = Ended aliases x m × Loose aliases k m
   Ends _ (operation aliases d k start l) x m = Ended aliases x m × Loose aliases k m
   Ends _ (operand aliases d) x m = Ended aliases x m
   Ends _ (postfix aliases d start base) x m = Ended aliases x m
-  Ends _ (series aliases d) x m = Unit {0}
   Ends _ (attributes aliases d) x m = is_attribute_sign (sign_at tokens aliases m) ≡ false
-  Ends _ (group aliases d) x m = Unit {0}
-  Ends _ (entries aliases d) x m = Unit {0}
-  Ends _ (balanced aliases d closer) x m = Unit {0}
+  Ends _ (consts aliases) x m = Settled aliases m
+  Ends _ (storage aliases) x m = is_storage (sign_at tokens aliases m) ≡ false
+  Ends _ (specifier aliases) x m = Settled aliases m
+  Ends _ (initialiser aliases d) x m = EndsValue aliases x m
+  Ends _ (variable aliases d t) x m = EndsVariable aliases x m
+  Ends _ (variables aliases d t) x m = EndsVariables aliases x.0 x.1 m
+  Ends _ (locals aliases single d) xs m = EndsLocals aliases single xs m
+  Ends _ (signature aliases) x m = Bare aliases m
+  Ends _ (head aliases) x m = Bare aliases m
+  Ends _ (struct_body aliases) x m = Bare aliases m
+  Ends _ other x m = Unit {0}
 
   -- No limit stands right before a part.
   abbrev pub Moves : (s : Sort) → Call s → ℕ → Type 0
@@ -115,6 +214,10 @@ module _ (tokens : List Lexeme) where
           let z : 0 ≡ suc k = eqb-true 0 (suc k) q in omega arith
       go a_word past e = let q : false ≡ true = sym (ap (λ o. is_word (kind_in o)) past) ∙ e in cc
       go a_result past e = let q : false ≡ true = sym (ap (λ o. is_given (try_value (identifier_in o).text)) past) ∙ e in cc
+      go (a_keyword aliases word) past e = let q : false ≡ true = sym (ap (λ o. is_keyword word (sign_in aliases o)) past) ∙ e in cc
+      go (a_tag aliases) past e = let q : false ≡ true = sym (ap (λ o. is_tag (sign_in aliases o)) past) ∙ e in cc
+      go (a_storage_word aliases) past e = let q : false ≡ true = sym (ap (λ o. is_storage (sign_in aliases o)) past) ∙ e in cc
+      go (a_star aliases) past e = let q : false ≡ true = sym (ap (λ o. is_star (sign_in aliases o)) past) ∙ e in cc
       go (a_plain aliases) past e = let q : false ≡ true = sym (ap (λ o. is_plain_sign (sign_in aliases o)) past) ∙ e in cc
       go nothing past e = cc
 

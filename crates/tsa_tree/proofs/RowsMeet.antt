@@ -8,11 +8,15 @@ use Rattle.tsa_tree.specs.declared.sign.Sign.{Sign}
 use Rattle.tsa_tree.specs.declared.sign.Sign.TheVariants as sign
 use Rattle.tsa_tree.specs.Expressions.{Expression, number, null, named, call, binary, field, index, none}
 use Rattle.tsa_tree.specs.Signs.{Aliases, sign_at, span_at, span_over, identifier_at, value_at, unsigned_at, operator, prefix, prefix_of, level, entry_meaning}
-use Rattle.tsa_tree.specs.Rows.{Sort, an_expression, some_arguments, Call, expression, operation, operand, postfix, series, attributes, group, entries, balanced, rank, mark, Kind, a_name, an_open, a_close, a_comma, a_not, a_flip, an_operator, sees, is_postfix, Row, tightest, climb_on, operation_row, post, postfix_row, prefix_row, call_row, operand_row, rule}
+use Rattle.tsa_tree.specs.Rows.{Sort, an_expression, some_arguments, Call, expression, operation, operand, postfix, series, attributes, group, entries, balanced, consts, storage, specifier, declarator, initialiser, initialisers, declared_rest, declarators, member_line, members, variable, variables, locals, parameter_list, parameters, signature, head, struct_body, constants, enum_body, declared, item, rank, mark, Kind, a_name, an_open, a_close, a_comma, a_not, a_flip, an_operator, sees, is_postfix, Row, tightest, climb_on, operation_row, post, postfix_row, prefix_row, call_row, operand_row, rule}
 use Rattle.tsa_forms.specs.Form.{done}
 use Rattle.tsa_forms.proofs.Good as g
 use Rattle.tsa_tree.proofs.SignFacts.{is_plain, operator_mark, operator_no_postfix, operator_no_open, postfix_no_open, close_plain, bracket_plain, comma_plain, plain_no_name, close_no_comma, level_low}
 use Rattle.tsa_tree.proofs.RowFacts.{given, begins_operand, begins_no_close, lone, Ended, Loose, First, Ends, Moves, Next, Start, Good, never, ended, no_callee, is_lone}
+use Rattle.tsa_tree.proofs.DeclarationsMeet.{good_consts, good_specifier, first_specifier, good_declarator, first_declarator, good_initialiser, first_initialiser, good_initialisers}
+use Rattle.tsa_tree.proofs.DeclaratorsMeet.{good_rest, first_rest, good_declarators, good_member_line, good_members, good_variable, good_variables, good_locals}
+use Rattle.tsa_tree.proofs.ItemsMeet.{good_storage, good_parameter_list, good_parameters, good_signature, first_signature, good_head, good_struct_body, first_struct_body, good_constants, good_enum_body, first_enum_body, good_declared}
+use Rattle.tsa_tree.proofs.ItemRowsMeet.{good_item}
 use Rattle.tsa_tree.proofs.AttributesMeet.{good_attributes, good_group, good_entry, good_balanced, first_group, first_entry}
 
 some_same : (o p : BinaryOp) → Some o ≡ Some p → o ≡ p
@@ -258,6 +262,28 @@ module _ (tokens : List Lexeme) where
   good _ (group aliases d) m = good_group tokens aliases d m (sign_at tokens aliases m)
   good _ (entries aliases d) m = good_entry tokens aliases d m (entry_meaning tokens aliases m)
   good _ (balanced aliases d closer) m = good_balanced tokens aliases d closer m
+  good _ (consts aliases) m = good_consts tokens aliases m
+  good _ (storage aliases) m = good_storage tokens aliases m
+  good _ (specifier aliases) m = good_specifier tokens aliases m
+  good _ (declarator aliases) m = good_declarator tokens aliases m
+  good _ (initialiser aliases d) m = good_initialiser tokens aliases d m
+  good _ (initialisers aliases d) m = good_initialisers tokens aliases d m
+  good _ (declared_rest aliases r d t c) m = good_rest tokens aliases r d t c m
+  good _ (declarators aliases r d t) m = good_declarators tokens aliases r d t m
+  good _ (member_line aliases d) m = good_member_line tokens aliases d m
+  good _ (members aliases d) m = good_members tokens aliases d m
+  good _ (variable aliases d t) m = good_variable tokens aliases d t m
+  good _ (variables aliases d t) m = good_variables tokens aliases d t m
+  good _ (locals aliases single d) m = good_locals tokens aliases single d m
+  good _ (parameter_list aliases) m = good_parameter_list tokens aliases m
+  good _ (parameters aliases) m = good_parameters tokens aliases m
+  good _ (signature aliases) m = good_signature tokens aliases m
+  good _ (head aliases) m = good_head tokens aliases m
+  good _ (struct_body aliases) m = good_struct_body tokens aliases m
+  good _ (constants aliases) m = good_constants tokens aliases m
+  good _ (enum_body aliases) m = good_enum_body tokens aliases m
+  good _ (declared aliases t) m = good_declared tokens aliases t m
+  good _ (item aliases) m = good_item tokens aliases m
 
   first_prefix : (aliases : Aliases) (d m : ℕ) (q : Kind) (o : Option UnaryOp)
       → Start tokens an_expression (prefix_row tokens aliases d m q o) m → given o ≡ true
@@ -300,7 +326,24 @@ module _ (tokens : List Lexeme) where
   firsts _ (attributes aliases d) m h = h
   firsts _ (group aliases d) m h = first_group tokens aliases d m (sign_at tokens aliases m) h
   firsts _ (entries aliases d) m h = first_entry tokens aliases d m (entry_meaning tokens aliases m) h
-  firsts _ (balanced aliases d closer) m h = tt
+  firsts _ (specifier aliases) m h = first_specifier tokens aliases m (sign_at tokens aliases m) refl h
+  firsts _ (declarator aliases) m h = first_declarator tokens aliases m h
+  firsts _ (initialiser aliases d) m h = first_initialiser tokens aliases d m h
+  firsts _ (declared_rest aliases r d t c) m h = first_rest tokens aliases r d t c m h
+  firsts _ (signature aliases) m h = first_signature tokens aliases m h
+  firsts _ (struct_body aliases) m h = first_struct_body tokens aliases m h
+  firsts _ (enum_body aliases) m h = first_enum_body tokens aliases m h
+  firsts _ (consts aliases) m h = h
+  firsts _ (storage aliases) m h = h
+  firsts _ (initialisers aliases d) m h = h
+  firsts _ (declarators aliases r d t) m h = h
+  firsts _ (member_line aliases d) m h = h
+  firsts _ (variable aliases d t) m h = h
+  firsts _ (variables aliases d t) m h = h
+  firsts _ (parameter_list aliases) m h = h
+  firsts _ (constants aliases) m h = h
+  firsts _ (declared aliases t) m h = h
+  firsts _ other m h = tt
 
   abbrev Past : (s : Sort) → Row s → ℕ → Type 0
   Past s f m = g.Past (sees tokens) (First tokens) (Ends tokens) (Moves tokens) rank s f m

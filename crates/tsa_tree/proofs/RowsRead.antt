@@ -7,7 +7,7 @@ use Rattle.tsa_tree.specs.declared.sign.Sign.{Sign}
 use Rattle.tsa_tree.specs.declared.sign.Sign.TheVariants as sign
 use Rattle.tsa_tree.specs.Expressions.{Expression}
 use Rattle.tsa_tree.specs.Signs.{Aliases, sign_at, operator, prefix, prefix_of}
-use Rattle.tsa_tree.specs.Rows.{Sort, an_expression, some_arguments, some_attributes, a_skip, Node, Call, expression, operation, operand, postfix, series, rank, Kind, a_not, a_flip, an_operator, sees, Row, tightest, climb_on, operation_row, postfix_row, prefix_row, operand_row, rule}
+use Rattle.tsa_tree.specs.Rows.{Sort, an_expression, some_arguments, Node, Call, expression, operation, operand, postfix, series, rank, Kind, a_not, a_flip, an_operator, sees, Row, tightest, climb_on, operation_row, postfix_row, prefix_row, operand_row, rule}
 use Rattle.tsa_tree.specs.Answers.{below_limit}
 use Rattle.tsa_tree.specs.Reads.{read}
 use Rattle.tsa_forms.specs.Form.{done, bar, token, part, limit, only, either}
@@ -21,12 +21,11 @@ use Rattle.tsa_forms.proofs.Exactly as answers
 use Rattle.tsa_tree.proofs.RowFacts.{First, Ends, Moves, inside}
 use Rattle.tsa_tree.proofs.RowsMeet.{good, firsts, low, moves}
 
--- In the grammar of expressions there are no bars.
+-- In the grammar of expressions there are no bars. (Elsewhere there may be.)
 abbrev pub IsClear : Sort → Type 0
 IsClear an_expression = Unit {0}
 IsClear some_arguments = Unit {0}
-IsClear some_attributes = ⊥
-IsClear a_skip = ⊥
+IsClear _ = ⊥
 
 -- No bar stands in the form or in its parts.
 abbrev pub Clear : (s : Sort) → Row s → Type 0
@@ -76,8 +75,7 @@ module _ (tokens : List Lexeme) where
   clear _ free (operand aliases d) m = clear_operand aliases d m (sign_at tokens aliases m)
   clear _ free (postfix aliases d start base) m = clear_postfix aliases d start base m (sign_at tokens aliases m)
   clear _ free (series aliases d) m = (tt, λ x n. ((tt, λ xs e. tt), tt))
-  clear some_attributes free c m = absurd free
-  clear a_skip free c m = absurd free
+  clear _ free c m = absurd free
 
 module _ (tokens : List Lexeme) (fits : ℕ → Bool) where
   mutual

@@ -266,6 +266,7 @@ module _ (tokens : List Lexeme) (fits : ℕ → Bool) where
   opens _ (group aliases d) a need = opens_one_group tokens aliases fits d a
   opens _ (entries aliases d) a need = opens_entries tokens aliases fits d a
   opens _ (balanced aliases d closer) a need = opens_skip tokens aliases fits d closer a
+  opens _ other a need = absurd need
 
   -- What begins a part by the rows begins it by the productions.
   pub beginning_of : {s : Sort} {c : Call s} {a b : ℕ} → forms.Begins (rule tokens) (sees tokens) fits s c a b None

@@ -148,6 +148,7 @@ module _ (tokens : List Lexeme) (fits : ℕ → Bool) where
   keeps _ (group aliases d) a need = keeps_one_group tokens aliases fits d a
   keeps _ (entries aliases d) a need = keeps_entries tokens aliases fits d a
   keeps _ (balanced aliases d closer) a need = keeps_skip tokens aliases fits d closer a
+  keeps _ other a need = absurd need
 
   -- What the rows spell is what the productions spell.
   pub production_of : {s : Sort} {c : Call s} {x : Node s} {a b : ℕ} → forms.Spells (rule tokens) (sees tokens) fits s c x a b

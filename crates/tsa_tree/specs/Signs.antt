@@ -1,5 +1,5 @@
 -- What the grammar sees at a place of a list of tokens. Past the last token it sees the end.
-use Rattle.std.specs.Prelude.{ℕ, ◌-◌, List, [], ◌∷◌, Bool, true, false, ◌&&◌, Some, None, length, slice_get, take, drop, codes, map, nat_eq, nat_le, if◌then◌else◌}
+use Rattle.std.specs.Prelude.{ℕ, ◌+◌, ◌-◌, List, [], ◌∷◌, Bool, true, false, ◌&&◌, Some, None, length, slice_get, take, drop, codes, map, nat_eq, nat_le, if◌then◌else◌}
 use Rattle.std.specs.List.{list_any, starts_with, ends_with}
 use Rattle.std.specs.Str.{bytes_eq}
 use Rattle.std.specs.declared.option.Option.{Option}
@@ -253,3 +253,32 @@ is_plain_sign sign.CloseBracket = false
 is_plain_sign sign.OpenBrace = false
 is_plain_sign sign.CloseBrace = false
 is_plain_sign _ = true
+
+-- a word that can be the tag of a struct or an enum (C11 6.2.3): the name of a type can be one too
+abbrev pub is_tag : Sign → Bool
+is_tag sign.Name = true
+is_tag sign.TypeName = true
+is_tag _ = false
+
+-- a word before a type that says where a function or a global is known, which leaves no node
+abbrev pub is_storage : Sign → Bool
+is_storage (sign.Keyword key.Static) = true
+is_storage (sign.Keyword key.Extern) = true
+is_storage (sign.Keyword key.Inline) = true
+is_storage _ = false
+
+abbrev pub is_star : Sign → Bool
+is_star (sign.Operator op.Times) = true
+is_star _ = false
+
+abbrev pub is_void : Sign → Bool
+is_void (sign.Keyword key.Void) = true
+is_void _ = false
+
+abbrev pub is_close : Sign → Bool
+is_close sign.Close = true
+is_close _ = false
+
+-- `void` alone between parentheses, behind the first one
+abbrev pub is_lone_void : List Lexeme → Aliases → ℕ → Bool
+is_lone_void tokens aliases at = is_void (sign_at tokens aliases at) && is_close (sign_at tokens aliases (at + 1))

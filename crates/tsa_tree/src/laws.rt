@@ -4,6 +4,7 @@ ghost use Rattle.tsa_tree.specs.SyntaxLaws.{SpellTheSame, BeginTheSame, OneTree,
 ghost use Rattle.tsa_tree.specs.Examples.{ProductionsAreRead};
 ghost use Rattle.tsa_tree.specs.AttributeAnswers as attributes;
 ghost use Rattle.tsa_tree.specs.AttributeExamples.{AttributesAreRead};
+ghost use Rattle.tsa_tree.specs.DeclarationAnswers as declarations;
 
 /// The rows that readers go by spell the same trees as the productions of the grammar, and the same lists begin them.
 pub fn rows_are_productions()
@@ -63,4 +64,28 @@ pub fn attributes_have_an_answer()
 #[tactic(auto, using(crate::proofs::AttributeExamples::attributes_are_read))]
 pub fn attributes_are_as_written()
     ensures { AttributesAreRead }
+{}
+
+/// The rows of items, heads and locals spell what the productions spell, and so do the rows of types.
+pub fn rows_of_declarations_are_productions()
+    ensures spelled { declarations.SpellTheSame }
+    ensures types { declarations.TypesSpellTheSame }
+{}
+
+/// Two items, heads or locals that the same tokens spell are equal: items wherever they end, the others to the last token.
+#[tactic(auto, using(crate::proofs::DeclarationLaws::one_spelled, crate::proofs::DeclarationLaws::one_item))]
+pub fn one_declaration_is_spelled()
+    ensures one { declarations.OneSpelled }
+    ensures items { declarations.OneItem }
+{}
+
+/// Every first piece of the tokens that spell an item, a head or locals begins them.
+pub fn first_pieces_begin_declarations()
+    ensures { declarations.PiecesBegin }
+{}
+
+/// For every list of tokens and place there is a right answer of a reader of an item, a head or locals.
+#[tactic(auto, using(crate::proofs::DeclarationLaws::an_answer))]
+pub fn declarations_have_an_answer()
+    ensures { declarations.AnAnswer }
 {}
