@@ -8,3 +8,4 @@ pub mod Operands
 pub mod Accesses
 pub mod Listing
 pub mod Exact
+pub mod Names

@@ -11,7 +11,7 @@ use Rattle.tsa_tree.specs.Expressions.{Expression, Arguments, none, more, height
 use Rattle.tsa_tree.specs.Reads.{read}
 use Rattle.tsa_tree.specs.Rows.{an_expression, some_arguments, expression, series, sees, mark, Row, series_end}
 use Rattle.tsa_tree.specs.Shapes.{shape, shapes}
-use Rattle.tsa_tree.specs.Signs.{sign_at}
+use Rattle.tsa_tree.specs.Signs.{Aliases, sign_at}
 use Rattle.tsa_expr.specs.declared.refusal.SyntaxRefusal.{SyntaxRefusal}
 use Rattle.tsa_expr.specs.Gives.{Fails}
 use Rattle.tsa_expr.specs.Seen.{joined, after}
@@ -39,33 +39,33 @@ unfolding then
 after-more front x (Ok p) = ap (λ xs. Ok (xs, p.1)) (sym (joined-one front x p.0))
 after-more front x (Err e) = refl
 
-module _ (ts : List Lexeme) where
+module _ (ts : List Lexeme) (aliases : Aliases) where
   abbrev going : Row some_arguments → ℕ → Outcome Arguments
   going f m = follow (sees ts) below_limit (read ts) some_arguments f m
 
-  pub list_fails : (front : Arguments) (d m : ℕ) (e : SyntaxRefusal) → Fails e (read ts an_expression (expression [] d 0) m)
-      → Fails e (after front (read ts some_arguments (series [] d) m))
-  list_fails front d m e h = fails_then e _ _ (fails_same e _ _ (read_steps ts some_arguments (series [] d) m) (fails_then e _ _ h))
+  pub list_fails : (front : Arguments) (d m : ℕ) (e : SyntaxRefusal) → Fails e (read ts an_expression (expression aliases d 0) m)
+      → Fails e (after front (read ts some_arguments (series aliases d) m))
+  list_fails front d m e h = fails_then e _ _ (fails_same e _ _ (read_steps ts some_arguments (series aliases d) m) (fails_then e _ _ h))
 
-  list_at : (d m : ℕ) (x : Expression) (n : ℕ) → read ts an_expression (expression [] d 0) m ≡ Ok (x, n)
-      → read ts some_arguments (series [] d) m ≡ going (series_end ts [] d x n) n
-  list_at d m x n e = read_steps ts some_arguments (series [] d) m ∙ goes _ _ x n e
+  list_at : (d m : ℕ) (x : Expression) (n : ℕ) → read ts an_expression (expression aliases d 0) m ≡ Ok (x, n)
+      → read ts some_arguments (series aliases d) m ≡ going (series_end ts aliases d x n) n
+  list_at d m x n e = read_steps ts some_arguments (series aliases d) m ∙ goes _ _ x n e
 
-  pub list_wrong : (front : Arguments) (d m : ℕ) (x : Expression) (n : ℕ) → read ts an_expression (expression [] d 0) m ≡ Ok (x, n)
-      → sign_at ts [] n ≢ sign.Comma → sign_at ts [] n ≢ sign.Close → after front (read ts some_arguments (series [] d) m) ≡ Err (refuse syntax n)
+  pub list_wrong : (front : Arguments) (d m : ℕ) (x : Expression) (n : ℕ) → read ts an_expression (expression aliases d 0) m ≡ Ok (x, n)
+      → sign_at ts aliases n ≢ sign.Comma → sign_at ts aliases n ≢ sign.Close → after front (read ts some_arguments (series aliases d) m) ≡ Err (refuse syntax n)
   unfolding then
   list_wrong front d m x n e a b =
-      ap (after front) (list_at d m x n e ∙ other _ _ _ (not_comma (sign_at ts [] n) a) ∙ other _ _ _ (not_close (sign_at ts [] n) b))
+      ap (after front) (list_at d m x n e ∙ other _ _ _ (not_comma (sign_at ts aliases n) a) ∙ other _ _ _ (not_close (sign_at ts aliases n) b))
 
-  pub list_last : (front : Arguments) (d m : ℕ) (x : Expression) (n : ℕ) → read ts an_expression (expression [] d 0) m ≡ Ok (x, n)
-      → sign_at ts [] n ≡ sign.Close → after front (read ts some_arguments (series [] d) m) ≡ Ok (joined front (more x none), n + 1)
+  pub list_last : (front : Arguments) (d m : ℕ) (x : Expression) (n : ℕ) → read ts an_expression (expression aliases d 0) m ≡ Ok (x, n)
+      → sign_at ts aliases n ≡ sign.Close → after front (read ts some_arguments (series aliases d) m) ≡ Ok (joined front (more x none), n + 1)
   unfolding then
   list_last front d m x n e c =
       ap (after front) (list_at d m x n e ∙ other _ _ _ (ap (λ s. nat_eq (mark s) 10) c) ∙ chosen _ _ _ (ap (λ s. nat_eq (mark s) 7) c))
 
-  pub list_more : (front : Arguments) (d m : ℕ) (x : Expression) (n : ℕ) → read ts an_expression (expression [] d 0) m ≡ Ok (x, n)
-      → sign_at ts [] n ≡ sign.Comma
-      → after front (read ts some_arguments (series [] d) m) ≡ after (joined front (more x none)) (read ts some_arguments (series [] d) (n + 1))
+  pub list_more : (front : Arguments) (d m : ℕ) (x : Expression) (n : ℕ) → read ts an_expression (expression aliases d 0) m ≡ Ok (x, n)
+      → sign_at ts aliases n ≡ sign.Comma
+      → after front (read ts some_arguments (series aliases d) m) ≡ after (joined front (more x none)) (read ts some_arguments (series aliases d) (n + 1))
   list_more front d m x n e c =
       ap (after front) (list_at d m x n e ∙ chosen _ _ _ (ap (λ s. nat_eq (mark s) 10) c) ∙ chosen _ _ _ (ap (λ s. nat_eq (mark s) 10) c))
       ∙ after-more front x _

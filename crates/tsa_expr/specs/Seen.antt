@@ -4,7 +4,7 @@ use Rattle.tsa_forms.specs.Reading.{Outcome, then}
 use Rattle.tsa_tree.specs.declared.expr.Expr.{Expr}
 use Rattle.tsa_tree.specs.Expressions.{Expression, Arguments, none, more}
 use Rattle.tsa_tree.specs.Shapes.{shape}
-use Rattle.tsa_expr.specs.declared.reader.Reading.{Reading}
+use Rattle.tsa_expr.specs.declared.reading.Reading.{Reading}
 
 -- what was read, and the place after it
 abbrev pub seen : Reading → Expression × ℕ

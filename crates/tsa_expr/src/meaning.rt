@@ -107,6 +107,7 @@ pub fn meaning_of(text: &[u8]) -> Meaning
     }
 }
 
+/// What a name of an attribute means, where it is listed.
 #[tactic(auto, using(crate::proofs::AttributeRows::of_eight, crate::proofs::AttributeRows::of_ten, crate::proofs::AttributeRows::of_eleven, crate::proofs::AttributeRows::of_thirteen, crate::proofs::AttributeRows::of_fourteen, crate::proofs::AttributeRows::of_fifteen, crate::proofs::AttributeRows::of_seventeen, crate::proofs::AttributeRows::of_eighteen, crate::proofs::AttributeRows::of_nineteen, crate::proofs::AttributeRows::of_twenty, crate::proofs::AttributeRows::of_twenty_one, crate::proofs::AttributeRows::of_twenty_two, crate::proofs::AttributeRows::of_twenty_three, crate::proofs::AttributeRows::of_twenty_four, crate::proofs::AttributeRows::of_twenty_five, crate::proofs::AttributeRows::of_twenty_six, crate::proofs::AttributeRows::of_twenty_nine, crate::proofs::AttributeRows::of_no_length))]
 fn named_meaning(text: &[u8]) -> Option<Meaning>
     ensures { result ≡ spec_listed attribute_names text.now }

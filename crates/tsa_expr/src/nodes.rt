@@ -3,18 +3,12 @@ ghost use Rattle.std.specs.Prelude.{◌≡◌, ◌+◌, ◌<◌, ◌^◌, ◌++�
 ghost use Rattle.tsa_tree.specs.Expressions.{number as a_number, null as a_null, named as a_name, call, unary, binary, field, index, height as height_of, heights};
 ghost use Rattle.tsa_tree.specs.Shapes.{name_shape, shape, shapes};
 
-use crate::reader::{Extent, Reading};
-use crate::refusal::{SyntaxCode, SyntaxRefusal};
+use crate::reading::{Extent, Reading};
+use crate::refusal::SyntaxRefusal;
 use bumpalo::Bump;
 use bumpalo::collections::into_bump_slice;
 use tsa_base::Span;
 use tsa_tree::expr::{BinaryOp, Expr, ExprKind, Name, UnaryOp};
-
-pub fn refuse(code: SyntaxCode, token: u32) -> SyntaxRefusal
-    ensures { result ≡ SyntaxRefusal.At code token }
-{
-    SyntaxRefusal::At { code, token }
-}
 
 /// A number, before the token `next`.
 pub fn number<'a>(value: u32, unsigned: bool, span: Span, next: u32) -> Reading<'a>

@@ -8,17 +8,20 @@ ghost use Rattle.tsa_tree.specs.Rows as rows;
 ghost use Rattle.tsa_tree.specs.Shapes.{shape, shapes};
 ghost use Rattle.tsa_tree.specs.Signs.{lexemes};
 ghost use Rattle.tsa_expr.specs.Gives.{Gives, IsOfExpressions};
+ghost use Rattle.tsa_expr.specs.Known.{known};
 ghost use Rattle.tsa_expr.specs.Seen.{seen, after};
 
-use crate::reader::{Reading, arguments, expression, operand, operations};
+use crate::aliases::Aliases;
+use crate::reader::{arguments, expression, operand, operations};
+use crate::reading::Reading;
 use crate::refusal::{SyntaxCode, SyntaxRefusal};
 use bumpalo::Bump;
 use tsa_base::Token;
 use tsa_tree::expr::Expr;
 
-/// The longest expression at a token, where `depth` constructs are open, and the token after it. Of the tokens from `at` on
-/// the longest list that begins an expression decides: SY1 stands at the token after it where it spells none, and LM2 at the
-/// first of its tokens that passes the limit, whether it spells one or not (C11 6.5).
+/// The longest expression at a token, where `depth` constructs are open and no names of types are known, and the token
+/// after it. Of the tokens from `at` on the longest list that begins an expression decides: SY1 stands at the token after it
+/// where it spells none, and LM2 at the first of its tokens that passes the limit, whether it spells one or not (C11 6.5).
 #[tactic(auto, using(crate::proofs::Exact::expression_no_other))]
 pub fn read_expr<'a>(
     bump: &'a Bump,
@@ -35,7 +38,7 @@ pub fn read_expr<'a>(
     ensures no_other { (refusal : _) → IsErrOf result refusal → IsOfExpressions refusal }
     ensures next { IfOk result (λ found. (at < found.1) × (found.1 ≤ length tokens.now)) }
 {
-    match expression(bump, tokens, at, depth, 0) {
+    match expression(bump, tokens, at, depth, None, 0) {
         Ok(reading) => Ok((reading.tree, reading.next)),
         Err(refusal) => Err(refusal),
     }
@@ -59,7 +62,7 @@ pub fn read_unary<'a>(
     ensures no_other { (refusal : _) → IsErrOf result refusal → IsOfExpressions refusal }
     ensures next { IfOk result (λ found. (at < found.1) × (found.1 ≤ length tokens.now)) }
 {
-    match operand(bump, tokens, at, depth) {
+    match operand(bump, tokens, at, depth, None) {
         Ok(reading) => Ok((reading.tree, reading.next)),
         Err(refusal) => Err(refusal),
     }
@@ -71,16 +74,17 @@ pub fn read_operand<'a>(
     tokens: &[Token<'_>],
     at: u32,
     depth: u32,
+    aliases: Option<&Aliases>,
 ) -> Result<Reading<'a>, SyntaxRefusal>
     requires room { length tokens.now ≤ INPUT_LIMIT }
     requires within { at ≤ length tokens.now }
     requires shallow { depth ≤ NESTING_LIMIT }
-    ensures gives { Gives seen result (read (lexemes tokens.now) rows.an_expression (rows.operand [] depth) at) }
+    ensures gives { Gives seen result (read (lexemes tokens.now) rows.an_expression (rows.operand (known aliases.entry) depth) at) }
     ensures ends { IfOk result (λ r. (at < r.next) × (r.next ≤ length tokens.now)) }
     ensures low { IfOk result (λ r. r.height + at ≤ r.next) }
     ensures high { IfOk result (λ r. r.height ≡ height_of (shape r.tree)) }
 {
-    operand(bump, tokens, at, depth)
+    operand(bump, tokens, at, depth, aliases)
 }
 
 /// The expression that begins at `start` with a unary that was read.
@@ -90,20 +94,21 @@ pub fn read_rest<'a>(
     tokens: &[Token<'_>],
     start: u32,
     depth: u32,
+    aliases: Option<&Aliases>,
     left: Reading<'a>,
 ) -> Result<Reading<'a>, SyntaxRefusal>
     requires room { length tokens.now ≤ INPUT_LIMIT }
     requires shallow { depth ≤ NESTING_LIMIT }
-    requires begun { read (lexemes tokens.now) rows.an_expression (rows.operand [] depth) start ≡ Ok (shape left.tree, left.next) }
+    requires begun { read (lexemes tokens.now) rows.an_expression (rows.operand (known aliases) depth) start ≡ Ok (shape left.tree, left.next) }
     requires ends_in { (start < left.next) × (left.next ≤ length tokens.now) }
     requires low_in { left.height + start ≤ left.next }
     requires high_in { left.height ≡ height_of (shape left.tree) }
-    ensures gives { Gives seen result (read (lexemes tokens.now) rows.an_expression (rows.expression [] depth 0) start) }
+    ensures gives { Gives seen result (read (lexemes tokens.now) rows.an_expression (rows.expression (known aliases.entry) depth 0) start) }
     ensures ends { IfOk result (λ r. (start < r.next) × (r.next ≤ length tokens.now)) }
     ensures low { IfOk result (λ r. r.height + start ≤ r.next) }
     ensures high { IfOk result (λ r. r.height ≡ height_of (shape r.tree)) }
 {
-    operations(bump, tokens, start, depth, 0, left)
+    operations(bump, tokens, start, depth, aliases, 0, left)
 }
 
 /// A whole expression, as `read_expr` reads it, with its height.
@@ -112,14 +117,15 @@ pub fn read_expression<'a>(
     tokens: &[Token<'_>],
     at: u32,
     depth: u32,
+    aliases: Option<&Aliases>,
 ) -> Result<Reading<'a>, SyntaxRefusal>
     requires room { length tokens.now ≤ INPUT_LIMIT }
     requires within { at ≤ length tokens.now }
     requires shallow { depth ≤ NESTING_LIMIT }
-    ensures gives { Gives seen result (read (lexemes tokens.now) rows.an_expression (rows.expression [] depth 0) at) }
+    ensures gives { Gives seen result (read (lexemes tokens.now) rows.an_expression (rows.expression (known aliases.entry) depth 0) at) }
     ensures ends { IfOk result (λ r. (at < r.next) × (r.next ≤ length tokens.now)) }
 {
-    expression(bump, tokens, at, depth, 0)
+    expression(bump, tokens, at, depth, aliases, 0)
 }
 
 /// Expressions separated by commas, at the end of a list, and the parenthesis that closes them.
@@ -128,14 +134,15 @@ pub fn read_series<'a>(
     tokens: &[Token<'_>],
     at: u32,
     depth: u32,
+    aliases: Option<&Aliases>,
     list: &mut Vec<Expr<'a>, &'a Bump>,
 ) -> Result<u32, SyntaxRefusal>
     requires room { length tokens.now ≤ INPUT_LIMIT }
     requires within { at ≤ length tokens.now }
     requires shallow { depth ≤ NESTING_LIMIT }
-    ensures gives { Gives (λ next. (shapes list.new.items, next)) result (after (shapes list.old.items) (read (lexemes tokens.now) rows.some_arguments (rows.series [] depth) at)) }
+    ensures gives { Gives (λ next. (shapes list.new.items, next)) result (after (shapes list.old.items) (read (lexemes tokens.now) rows.some_arguments (rows.series (known aliases.entry) depth) at)) }
     ensures ends { IfOk result (λ next. (at < next) × (next ≤ length tokens.now)) }
 {
-    let extent = arguments(bump, tokens, at, depth, list)?;
+    let extent = arguments(bump, tokens, at, depth, aliases, list)?;
     Ok(extent.next)
 }

@@ -1,39 +1,26 @@
 //! Expressions are read, one token ahead. At most `NESTING_LIMIT` constructs are open at once, and the recursion is as
 //! deep as that: operators behind an operand are read by loops.
-ghost use Rattle.std.specs.Prelude.{◌≡◌, ◌≢◌, ◌+◌, ◌≤◌, ◌<◌, length, max, [], Some, None, Ok, IfOk};
+ghost use Rattle.std.specs.Prelude.{◌≡◌, ◌≢◌, ◌+◌, ◌≤◌, ◌<◌, length, max, None, IfOk};
 ghost use Rattle.tsa_base.specs.declared.limits.TheConstants.{INPUT_LIMIT, NESTING_LIMIT};
 ghost use Rattle.tsa_tree.specs.Expressions.{height as height_of, heights};
 ghost use Rattle.tsa_tree.specs.Reads.{read, read_on, read_behind};
 ghost use Rattle.tsa_tree.specs.Rows.{an_expression, some_arguments, expression as expression_call, operand as operand_call, series};
 ghost use Rattle.tsa_tree.specs.Shapes.{shape, shapes};
-ghost use Rattle.tsa_tree.specs.Signs.{lexemes, sign_at as spec_sign, prefix as spec_prefix, access};
+ghost use Rattle.tsa_tree.specs.Signs.{lexemes, sign_at as spec_sign, prefix as spec_prefix};
 ghost use Rattle.tsa_expr.specs.Gives.{Gives, Leads};
+ghost use Rattle.tsa_expr.specs.Known.{known};
 ghost use Rattle.tsa_expr.specs.Seen.{seen, after};
 
-use crate::nodes::{
-    called, indexed, join, keep, listed, membered, named, null, number, prefixed, refuse,
-};
-use crate::refusal::{SyntaxCode, SyntaxRefusal};
+use crate::aliases::Aliases;
+use crate::members::member;
+use crate::nodes::{called, indexed, join, keep, listed, named, null, number, prefixed};
+use crate::reading::{Extent, Reading};
+use crate::refusal::{SyntaxCode, SyntaxRefusal, refuse};
 use crate::view::{name_at, number_at, prefix, sign_at, span_at, span_over};
 use bumpalo::Bump;
 use tsa_base::{NESTING_LIMIT, Token};
 use tsa_tree::expr::Expr;
 use tsa_tree::sign::Sign;
-
-/// An expression that was read, its height, and the token after it.
-#[derive(Clone, Copy)]
-pub struct Reading<'a> {
-    pub tree: Expr<'a>,
-    pub height: u32,
-    pub next: u32,
-}
-
-/// The greatest height of some arguments, and the token after their closing parenthesis.
-#[derive(Clone, Copy)]
-pub struct Extent {
-    pub height: u32,
-    pub next: u32,
-}
 
 /// An expression whose operators outside of parentheses bind at least so tight.
 #[cycle(reader)]
@@ -43,18 +30,19 @@ pub fn expression<'a>(
     tokens: &[Token<'_>],
     at: u32,
     depth: u32,
+    aliases: Option<&Aliases>,
     tight: u32,
 ) -> Result<Reading<'a>, SyntaxRefusal>
     requires room { length tokens.now ≤ INPUT_LIMIT }
     requires within { at ≤ length tokens.now }
     requires shallow { depth ≤ NESTING_LIMIT }
-    ensures gives { Gives seen result (read (lexemes tokens.now) an_expression (expression_call [] depth tight) at) }
+    ensures gives { Gives seen result (read (lexemes tokens.now) an_expression (expression_call (known aliases.entry) depth tight) at) }
     ensures ends { IfOk result (λ r. (at < r.next) × (r.next ≤ length tokens.now)) }
     ensures low { IfOk result (λ r. r.height + at ≤ r.next) }
     ensures high { IfOk result (λ r. r.height ≡ height_of (shape r.tree)) }
 {
-    let left = operand(bump, tokens, at, depth)?;
-    operations(bump, tokens, at, depth, tight, left)
+    let left = operand(bump, tokens, at, depth, aliases)?;
+    operations(bump, tokens, at, depth, aliases, tight, left)
 }
 
 /// The binary operators behind a left operand that bind tight enough, each with its right operand.
@@ -65,6 +53,7 @@ pub fn operations<'a>(
     tokens: &[Token<'_>],
     start: u32,
     depth: u32,
+    aliases: Option<&Aliases>,
     tight: u32,
     left: Reading<'a>,
 ) -> Result<Reading<'a>, SyntaxRefusal>
@@ -74,14 +63,14 @@ pub fn operations<'a>(
     requires within { left.next ≤ length tokens.now }
     requires low_in { left.height + start ≤ left.next }
     requires high_in { left.height ≡ height_of (shape left.tree) }
-    ensures gives { Gives seen result (read_on (lexemes tokens.now) [] depth tight start (shape left.entry.tree) left.entry.next) }
+    ensures gives { Gives seen result (read_on (lexemes tokens.now) (known aliases.entry) depth tight start (shape left.entry.tree) left.entry.next) }
     ensures ends { IfOk result (λ r. (start < r.next) × (r.next ≤ length tokens.now)) }
     ensures low { IfOk result (λ r. r.height + start ≤ r.next) }
     ensures high { IfOk result (λ r. r.height ≡ height_of (shape r.tree)) }
 {
     let mut whole = left;
     'operators: loop {
-        let Sign::Operator(op) = sign_at(tokens, whole.next) else {
+        let Sign::Operator(op) = sign_at(tokens, whole.next, aliases) else {
             return Ok(whole);
         };
         let tightness = op.level();
@@ -91,7 +80,7 @@ pub fn operations<'a>(
         if whole.height >= NESTING_LIMIT {
             return Err(refuse(SyntaxCode::LM2, whole.next));
         }
-        let right = expression(bump, tokens, whole.next + 1, depth, tightness + 1)?;
+        let right = expression(bump, tokens, whole.next + 1, depth, aliases, tightness + 1)?;
         let span = span_over(tokens, start, right.next);
         whole = join(bump, op, whole, right, span)?;
     }
@@ -105,26 +94,27 @@ pub fn operand<'a>(
     tokens: &[Token<'_>],
     at: u32,
     depth: u32,
+    aliases: Option<&Aliases>,
 ) -> Result<Reading<'a>, SyntaxRefusal>
     requires room { length tokens.now ≤ INPUT_LIMIT }
     requires within { at ≤ length tokens.now }
     requires shallow { depth ≤ NESTING_LIMIT }
-    ensures gives { Gives seen result (read (lexemes tokens.now) an_expression (operand_call [] depth) at) }
+    ensures gives { Gives seen result (read (lexemes tokens.now) an_expression (operand_call (known aliases.entry) depth) at) }
     ensures ends { IfOk result (λ r. (at < r.next) × (r.next ≤ length tokens.now)) }
     ensures low { IfOk result (λ r. r.height + at ≤ r.next) }
     ensures high { IfOk result (λ r. r.height ≡ height_of (shape r.tree)) }
 {
-    let sign = sign_at(tokens, at);
+    let sign = sign_at(tokens, at, aliases);
     match prefix(sign) {
         None => {
-            let base = primary(bump, tokens, at, depth, sign)?;
-            accesses(bump, tokens, at, depth, base)
+            let base = primary(bump, tokens, at, depth, aliases, sign)?;
+            accesses(bump, tokens, at, depth, aliases, base)
         }
         Some(op) => {
             if depth >= NESTING_LIMIT {
                 return Err(refuse(SyntaxCode::LM2, at));
             }
-            let inner = operand(bump, tokens, at + 1, depth + 1)?;
+            let inner = operand(bump, tokens, at + 1, depth + 1, aliases)?;
             let span = span_over(tokens, at, inner.next);
             prefixed(bump, op, inner, span)
         }
@@ -139,14 +129,15 @@ fn primary<'a>(
     tokens: &[Token<'_>],
     at: u32,
     depth: u32,
+    aliases: Option<&Aliases>,
     sign: Sign,
 ) -> Result<Reading<'a>, SyntaxRefusal>
     requires room { length tokens.now ≤ INPUT_LIMIT }
     requires within { sign ≢ Sign.End → at < length tokens.now }
     requires shallow { depth ≤ NESTING_LIMIT }
-    requires there { sign ≡ spec_sign (lexemes tokens.now) [] at }
+    requires there { sign ≡ spec_sign (lexemes tokens.now) (known aliases) at }
     requires plain { spec_prefix sign ≡ None }
-    ensures leads { Leads seen result (read (lexemes tokens.now) an_expression (operand_call [] depth) at) (λ x n. read_behind (lexemes tokens.now) [] depth at x n) }
+    ensures leads { Leads seen result (read (lexemes tokens.now) an_expression (operand_call (known aliases.entry) depth) at) (λ x n. read_behind (lexemes tokens.now) (known aliases.entry) depth at x n) }
     ensures ends { IfOk result (λ r. (at < r.next) × (r.next ≤ length tokens.now)) }
     ensures low { IfOk result (λ r. r.height + at ≤ r.next) }
     ensures high { IfOk result (λ r. r.height ≡ height_of (shape r.tree)) }
@@ -157,13 +148,13 @@ fn primary<'a>(
             Ok(number(value, unsigned, span_at(tokens, at), at + 1))
         }
         Sign::Null => Ok(null(span_at(tokens, at), at + 1)),
-        Sign::Name => name_or_call(bump, tokens, at, depth),
+        Sign::Name => name_or_call(bump, tokens, at, depth, aliases),
         Sign::Open => {
             if depth >= NESTING_LIMIT {
                 return Err(refuse(SyntaxCode::LM2, at));
             }
-            let inner = expression(bump, tokens, at + 1, depth + 1, 0)?;
-            let Sign::Close = sign_at(tokens, inner.next) else {
+            let inner = expression(bump, tokens, at + 1, depth + 1, aliases, 0)?;
+            let Sign::Close = sign_at(tokens, inner.next, aliases) else {
                 return Err(refuse(SyntaxCode::SY1, inner.next));
             };
             Ok(Reading {
@@ -184,30 +175,31 @@ fn name_or_call<'a>(
     tokens: &[Token<'_>],
     at: u32,
     depth: u32,
+    aliases: Option<&Aliases>,
 ) -> Result<Reading<'a>, SyntaxRefusal>
     requires room { length tokens.now ≤ INPUT_LIMIT }
     requires within { at < length tokens.now }
     requires shallow { depth ≤ NESTING_LIMIT }
-    requires there { spec_sign (lexemes tokens.now) [] at ≡ Sign.Name }
-    ensures leads { Leads seen result (read (lexemes tokens.now) an_expression (operand_call [] depth) at) (λ x n. read_behind (lexemes tokens.now) [] depth at x n) }
+    requires there { spec_sign (lexemes tokens.now) (known aliases) at ≡ Sign.Name }
+    ensures leads { Leads seen result (read (lexemes tokens.now) an_expression (operand_call (known aliases.entry) depth) at) (λ x n. read_behind (lexemes tokens.now) (known aliases.entry) depth at x n) }
     ensures ends { IfOk result (λ r. (at < r.next) × (r.next ≤ length tokens.now)) }
     ensures low { IfOk result (λ r. r.height + at ≤ r.next) }
     ensures high { IfOk result (λ r. r.height ≡ height_of (shape r.tree)) }
 {
     let name = name_at(bump, tokens, at)?;
-    let Sign::Open = sign_at(tokens, at + 1) else {
+    let Sign::Open = sign_at(tokens, at + 1, aliases) else {
         return Ok(named(name, span_at(tokens, at), at + 1));
     };
     if depth >= NESTING_LIMIT {
         return Err(refuse(SyntaxCode::LM2, at + 1));
     }
-    if let Sign::Close = sign_at(tokens, at + 1 + 1) {
+    if let Sign::Close = sign_at(tokens, at + 1 + 1, aliases) {
         let next = at + 1 + 1 + 1;
         let extent = Extent { height: 0, next };
         return Ok(called(name, &[], extent, span_over(tokens, at, next)));
     }
     let mut items = Vec::new(bump);
-    let extent = arguments(bump, tokens, at + 1 + 1, depth + 1, &mut items)?;
+    let extent = arguments(bump, tokens, at + 1 + 1, depth + 1, aliases, &mut items)?;
     let span = span_over(tokens, at, extent.next);
     Ok(called(name, listed(items), extent, span))
 }
@@ -220,12 +212,13 @@ pub fn arguments<'a>(
     tokens: &[Token<'_>],
     at: u32,
     depth: u32,
+    aliases: Option<&Aliases>,
     list: &mut Vec<Expr<'a>, &'a Bump>,
 ) -> Result<Extent, SyntaxRefusal>
     requires room { length tokens.now ≤ INPUT_LIMIT }
     requires within { at ≤ length tokens.now }
     requires shallow { depth ≤ NESTING_LIMIT }
-    ensures gives { Gives (λ r. (shapes list.new.items, r.next)) result (after (shapes list.old.items) (read (lexemes tokens.now) some_arguments (series [] depth) at)) }
+    ensures gives { Gives (λ r. (shapes list.new.items, r.next)) result (after (shapes list.old.items) (read (lexemes tokens.now) some_arguments (series (known aliases.entry) depth) at)) }
     ensures ends { IfOk result (λ r. (at < r.next) × (r.next ≤ length tokens.now)) }
     ensures low { IfOk result (λ r. r.height + at ≤ r.next) }
     ensures high { IfOk result (λ r. max (heights (shapes list.old.items)) r.height ≡ heights (shapes list.new.items)) }
@@ -233,10 +226,10 @@ pub fn arguments<'a>(
     let mut height = 0;
     let mut next = at;
     'items: loop {
-        let item = expression(bump, tokens, next, depth, 0)?;
+        let item = expression(bump, tokens, next, depth, aliases, 0)?;
         keep(list, item.tree)?;
         height = item.height.max(height);
-        match sign_at(tokens, item.next) {
+        match sign_at(tokens, item.next, aliases) {
             Sign::Comma => next = item.next + 1,
             Sign::Close => return Ok(Extent {
                 height,
@@ -255,6 +248,7 @@ fn accesses<'a>(
     tokens: &[Token<'_>],
     start: u32,
     depth: u32,
+    aliases: Option<&Aliases>,
     base: Reading<'a>,
 ) -> Result<Reading<'a>, SyntaxRefusal>
     requires room { length tokens.now ≤ INPUT_LIMIT }
@@ -263,17 +257,17 @@ fn accesses<'a>(
     requires within { base.next ≤ length tokens.now }
     requires low_in { base.height + start ≤ base.next }
     requires high_in { base.height ≡ height_of (shape base.tree) }
-    ensures gives { Gives seen result (read_behind (lexemes tokens.now) [] depth start (shape base.entry.tree) base.entry.next) }
+    ensures gives { Gives seen result (read_behind (lexemes tokens.now) (known aliases.entry) depth start (shape base.entry.tree) base.entry.next) }
     ensures ends { IfOk result (λ r. (start < r.next) × (r.next ≤ length tokens.now)) }
     ensures low { IfOk result (λ r. r.height + start ≤ r.next) }
     ensures high { IfOk result (λ r. r.height ≡ height_of (shape r.tree)) }
 {
     let mut whole = base;
     'operators: loop {
-        whole = match sign_at(tokens, whole.next) {
-            Sign::Dot => member(bump, tokens, start, depth, whole, false)?,
-            Sign::Arrow => member(bump, tokens, start, depth, whole, true)?,
-            Sign::OpenBracket => element(bump, tokens, start, depth, whole)?,
+        whole = match sign_at(tokens, whole.next, aliases) {
+            Sign::Dot => member(bump, tokens, start, depth, aliases, whole, false)?,
+            Sign::Arrow => member(bump, tokens, start, depth, aliases, whole, true)?,
+            Sign::OpenBracket => element(bump, tokens, start, depth, aliases, whole)?,
             _ => return Ok(whole),
         };
     }
@@ -287,16 +281,17 @@ fn element<'a>(
     tokens: &[Token<'_>],
     start: u32,
     depth: u32,
+    aliases: Option<&Aliases>,
     base: Reading<'a>,
 ) -> Result<Reading<'a>, SyntaxRefusal>
     requires room { length tokens.now ≤ INPUT_LIMIT }
     requires shallow { depth ≤ NESTING_LIMIT }
     requires begun { start < base.next }
     requires within { base.next < length tokens.now }
-    requires there { spec_sign (lexemes tokens.now) [] base.next ≡ Sign.OpenBracket }
+    requires there { spec_sign (lexemes tokens.now) (known aliases) base.next ≡ Sign.OpenBracket }
     requires low_in { base.height + start ≤ base.next }
     requires high_in { base.height ≡ height_of (shape base.tree) }
-    ensures leads { Leads seen result (read_behind (lexemes tokens.now) [] depth start (shape base.entry.tree) base.entry.next) (λ x n. read_behind (lexemes tokens.now) [] depth start x n) }
+    ensures leads { Leads seen result (read_behind (lexemes tokens.now) (known aliases.entry) depth start (shape base.entry.tree) base.entry.next) (λ x n. read_behind (lexemes tokens.now) (known aliases.entry) depth start x n) }
     ensures ends { IfOk result (λ r. (base.entry.next < r.next) × (r.next ≤ length tokens.now)) }
     ensures low { IfOk result (λ r. r.height + start ≤ r.next) }
     ensures high { IfOk result (λ r. r.height ≡ height_of (shape r.tree)) }
@@ -307,44 +302,11 @@ fn element<'a>(
     if depth >= NESTING_LIMIT {
         return Err(refuse(SyntaxCode::LM2, base.next));
     }
-    let at = expression(bump, tokens, base.next + 1, depth + 1, 0)?;
-    let Sign::CloseBracket = sign_at(tokens, at.next) else {
+    let at = expression(bump, tokens, base.next + 1, depth + 1, aliases, 0)?;
+    let Sign::CloseBracket = sign_at(tokens, at.next, aliases) else {
         return Err(refuse(SyntaxCode::SY1, at.next));
     };
     let next = at.next + 1;
     let span = span_over(tokens, start, next);
     indexed(bump, base, at, span, next)
-}
-
-/// A member's name behind an operand and its `.` or `->`.
-#[tactic(auto, using(crate::proofs::Accesses::members))]
-fn member<'a>(
-    bump: &'a Bump,
-    tokens: &[Token<'_>],
-    start: u32,
-    depth: u32,
-    base: Reading<'a>,
-    arrow: bool,
-) -> Result<Reading<'a>, SyntaxRefusal>
-    requires room { length tokens.now ≤ INPUT_LIMIT }
-    requires begun { start < base.next }
-    requires within { base.next < length tokens.now }
-    requires there { access (spec_sign (lexemes tokens.now) [] base.next) ≡ Some arrow }
-    requires low_in { base.height + start ≤ base.next }
-    requires high_in { base.height ≡ height_of (shape base.tree) }
-    ensures leads { Leads seen result (read_behind (lexemes tokens.now) [] depth start (shape base.entry.tree) base.entry.next) (λ x n. read_behind (lexemes tokens.now) [] depth start x n) }
-    ensures ends { IfOk result (λ r. (base.entry.next < r.next) × (r.next ≤ length tokens.now)) }
-    ensures low { IfOk result (λ r. r.height + start ≤ r.next) }
-    ensures high { IfOk result (λ r. r.height ≡ height_of (shape r.tree)) }
-{
-    if base.height >= NESTING_LIMIT {
-        return Err(refuse(SyntaxCode::LM2, base.next));
-    }
-    let Sign::Name = sign_at(tokens, base.next + 1) else {
-        return Err(refuse(SyntaxCode::SY1, base.next + 1));
-    };
-    let name = name_at(bump, tokens, base.next + 1)?;
-    let next = base.next + 1 + 1;
-    let span = span_over(tokens, start, next);
-    membered(bump, base, name, arrow, span, next)
 }

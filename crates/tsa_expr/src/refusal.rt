@@ -1,4 +1,5 @@
 //! Why nothing was read.
+ghost use Rattle.std.specs.Prelude.{◌≡◌};
 
 use std::alloc::{AllocError, AllocFailed};
 use thiserror::Error;
@@ -30,6 +31,13 @@ pub enum SyntaxRefusal {
     Function { code: SyntaxCode, span: Span },
     #[error("no memory")]
     NoMemory,
+}
+
+/// A token is refused.
+pub fn refuse(code: SyntaxCode, token: u32) -> SyntaxRefusal
+    ensures { result ≡ SyntaxRefusal.At code token }
+{
+    SyntaxRefusal::At { code, token }
 }
 
 impl From<AllocError> for SyntaxRefusal {

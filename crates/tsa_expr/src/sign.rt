@@ -1,7 +1,11 @@
-//! What the grammar of expressions sees of a token, where no names of types are known.
+//! What the grammar sees of a token, by the names of types that are known.
 ghost use Rattle.std.specs.Prelude.{◌≡◌, [], ◌∷◌};
+ghost use Rattle.std.specs.List.{list_any};
+ghost use Rattle.std.specs.Str.{bytes_eq};
 ghost use Rattle.tsa_tree.specs.Signs.{sign_of as spec_sign, word_sign as spec_word, punctuator_sign};
+ghost use Rattle.tsa_expr.specs.Known.{known};
 
+use crate::aliases::Aliases;
 use crate::words::reserved_sign;
 use tsa_base::{Token, TokenKind};
 use tsa_lex::is_reserved;
@@ -10,32 +14,45 @@ use tsa_tree::sign::Sign;
 
 /// The sign of a token.
 #[tactic(auto, unfolding(tsa_tree::specs::Signs::sign_of))]
-pub fn sign_of(token: &Token<'_>) -> Sign
-    ensures { result ≡ spec_sign [] token.now.kind token.now.text.now }
+pub fn sign_of(token: &Token<'_>, aliases: Option<&Aliases>) -> Sign
+    ensures { result ≡ spec_sign (known aliases.entry) token.now.kind token.now.text.now }
 {
     match token.kind {
-        TokenKind::Word => word_sign(token.text),
+        TokenKind::Word => word_sign(token.text, aliases),
         TokenKind::Number { .. } => Sign::Number,
         TokenKind::Text => Sign::Text,
         TokenKind::Punct => punct_sign(token.text),
     }
 }
 
-// Most words are names.
+/// Whether a word is the name of a type, which it is where an earlier item gave it as one (C11 6.7.8).
+fn is_type(text: &[u8], aliases: Option<&Aliases>) -> bool
+    ensures { result ≡ list_any (bytes_eq text.now) (known aliases.entry) }
+{
+    match aliases {
+        Some(names) => names.has(text),
+        None => false,
+    }
+}
+
+/// The sign of a word. Most words are names.
 #[tactic(auto, unfolding(tsa_tree::specs::Signs::word_sign), using(tsa_tree::proofs::ReservedWords::not_listed))]
-fn word_sign(text: &[u8]) -> Sign
-    ensures { result ≡ spec_word [] text.now }
+fn word_sign(text: &[u8], aliases: Option<&Aliases>) -> Sign
+    ensures { result ≡ spec_word (known aliases.entry) text.now }
 {
     if is_reserved(text) {
         match reserved_sign(text) {
             Some(sign) => sign,
             None => Sign::Other,
         }
+    } else if is_type(text, aliases) {
+        Sign::TypeName
     } else {
         Sign::Name
     }
 }
 
+/// The sign of a punctuator.
 #[tactic(auto, unfolding(tsa_tree::specs::Signs::punctuator_sign, tsa_tree::specs::Signs::punctuator_signs))]
 fn punct_sign(text: &[u8]) -> Sign
     ensures { result ≡ punctuator_sign text.now }
@@ -47,6 +64,7 @@ fn punct_sign(text: &[u8]) -> Sign
     }
 }
 
+/// The sign of a punctuator of one byte.
 #[tactic(auto, unfolding(tsa_tree::specs::Signs::punctuator_sign, tsa_tree::specs::Signs::punctuator_signs))]
 fn single_sign(first: u8) -> Sign
     ensures { result ≡ punctuator_sign (first ∷ []) }
@@ -79,6 +97,7 @@ fn single_sign(first: u8) -> Sign
     }
 }
 
+/// The sign of a punctuator of two bytes.
 #[tactic(auto, unfolding(tsa_tree::specs::Signs::punctuator_sign, tsa_tree::specs::Signs::punctuator_signs))]
 fn pair_sign(first: u8, second: u8) -> Sign
     ensures { result ≡ punctuator_sign (first ∷ second ∷ []) }

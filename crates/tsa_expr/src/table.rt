@@ -16,6 +16,7 @@ pub fn listed<const N: usize, A: Copy>(text: &[u8], rows: &[([u8; N], A)]) -> Op
     }
 }
 
+/// The first row that begins with a text.
 fn row_of<'a, const N: usize, A>(text: &[u8], rows: &'a [([u8; N], A)]) -> Option<&'a ([u8; N], A)>
     ensures { option_copied result ≡ find (λ row. bytes_eq text.now row.0) rows.now }
 {

@@ -212,8 +212,8 @@ fn a_unary_ends_before_a_binary_operator(rt: HostRuntime) -> Result<(), Fail> {
     let (tree, next) = read_unary(&bump, &tokens, 0, 0)?;
     assert_eq!(rt; tree.span.text_in(text), b"*p.f".as_slice());
     assert_eq!(rt; next, 4);
-    let left = read_operand(&bump, &tokens, 0, 0)?;
-    let whole = read_rest(&bump, &tokens, 0, 0, left)?;
+    let left = read_operand(&bump, &tokens, 0, 0, None)?;
+    let whole = read_rest(&bump, &tokens, 0, 0, None, left)?;
     assert_eq!(rt; whole.tree.span.text_in(text), b"*p.f + 1".as_slice());
     assert_eq!(rt; whole.next, 6);
     assert_eq!(rt; whole.height, 4);

@@ -1,8 +1,10 @@
 //! What stands at a place of the tokens.
-ghost use Rattle.std.specs.Prelude.{◌≡◌, ◌≢◌, ◌<◌, length, slice_get, [], IfOk};
+ghost use Rattle.std.specs.Prelude.{◌≡◌, ◌≢◌, ◌<◌, length, slice_get, IfOk};
 ghost use Rattle.tsa_tree.specs.Shapes.{name_shape};
 ghost use Rattle.tsa_tree.specs.Signs.{lexemes, sign_at as spec_sign, span_at as spec_span, span_over as spec_over, identifier_at, kind_in, value_at, unsigned_at, meaning_at as spec_meaning, is_word_at as spec_word, prefix as spec_prefix};
+ghost use Rattle.tsa_expr.specs.Known.{known};
 
+use crate::aliases::Aliases;
 use crate::meaning::meaning_of;
 use crate::sign::sign_of;
 use bumpalo::Bump;
@@ -13,12 +15,12 @@ use tsa_tree::sign::{Meaning, Sign};
 
 /// The sign at a place, past the last token the end's.
 #[tactic(auto, unfolding(tsa_tree::specs::Signs::sign_at))]
-pub fn sign_at(tokens: &[Token<'_>], at: u32) -> Sign
-    ensures is { result ≡ spec_sign (lexemes tokens.now) [] at }
+pub fn sign_at(tokens: &[Token<'_>], at: u32, aliases: Option<&Aliases>) -> Sign
+    ensures is { result ≡ spec_sign (lexemes tokens.now) (known aliases.entry) at }
     ensures seen { result ≢ Sign.End → at < length tokens.now }
 {
     match tokens.get(at as usize) {
-        Some(token) => sign_of(token),
+        Some(token) => sign_of(token, aliases),
         None => Sign::End,
     }
 }

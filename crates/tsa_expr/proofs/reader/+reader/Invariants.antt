@@ -1,9 +1,10 @@
-use Rattle.std.proofs.Common.{◌≡◌, ◌+◌, ◌≤◌, ◌<◌, length, max, [], ◌-◌, ◌*◌}
+use Rattle.std.proofs.Common.{◌≡◌, ◌+◌, ◌≤◌, ◌<◌, length, max, ◌-◌, ◌*◌}
 use Rattle.tsa_tree.specs.Expressions.{height, heights}
 use Rattle.tsa_tree.specs.Reads.{read, read_on, read_behind}
 use Rattle.tsa_tree.specs.Rows.{some_arguments, series}
 use Rattle.tsa_tree.specs.Shapes.{shape, shapes}
 use Rattle.tsa_tree.specs.Signs.{lexemes}
+use Rattle.tsa_expr.specs.Known.{known}
 use Rattle.tsa_expr.specs.Seen.{after}
 use Rattle.tsa_expr.proofs.reader.+reader.Given as goal
 
@@ -35,8 +36,8 @@ abbrev pub invariant-operations-operators : goal.invariant-operations-operators
 invariant-operations-operators l =
     (l.start < l.whole.next) × (l.fn.left.next ≤ l.whole.next) × (l.whole.next ≤ length l.tokens)
     × (l.whole.height + l.start ≤ l.whole.next) × (l.whole.height ≡ height (shape l.whole.tree))
-    × (read_on (lexemes l.tokens) [] l.depth l.tight l.start (shape l.fn.left.tree) l.fn.left.next
-    ≡ read_on (lexemes l.tokens) [] l.depth l.tight l.start (shape l.whole.tree) l.whole.next)
+    × (read_on (lexemes l.tokens) (known l.aliases) l.depth l.tight l.start (shape l.fn.left.tree) l.fn.left.next
+    ≡ read_on (lexemes l.tokens) (known l.aliases) l.depth l.tight l.start (shape l.whole.tree) l.whole.next)
 
 abbrev pub decreases-operations-operators : goal.decreases-operations-operators
 decreases-operations-operators l = length l.tokens - l.whole.next
@@ -45,8 +46,8 @@ abbrev pub invariant-accesses-operators : goal.invariant-accesses-operators
 invariant-accesses-operators l =
     (l.start < l.whole.next) × (l.fn.base.next ≤ l.whole.next) × (l.whole.next ≤ length l.tokens)
     × (l.whole.height + l.start ≤ l.whole.next) × (l.whole.height ≡ height (shape l.whole.tree))
-    × (read_behind (lexemes l.tokens) [] l.depth l.start (shape l.fn.base.tree) l.fn.base.next
-    ≡ read_behind (lexemes l.tokens) [] l.depth l.start (shape l.whole.tree) l.whole.next)
+    × (read_behind (lexemes l.tokens) (known l.aliases) l.depth l.start (shape l.fn.base.tree) l.fn.base.next
+    ≡ read_behind (lexemes l.tokens) (known l.aliases) l.depth l.start (shape l.whole.tree) l.whole.next)
 
 abbrev pub decreases-accesses-operators : goal.decreases-accesses-operators
 decreases-accesses-operators l = length l.tokens - l.whole.next
@@ -55,8 +56,8 @@ abbrev pub invariant-arguments-items : goal.invariant-arguments-items
 invariant-arguments-items l =
     (l.at ≤ l.next) × (l.next ≤ length l.tokens) × (l.height + l.at ≤ l.next)
     × (max (heights (shapes l.fn.list.items)) l.height ≡ heights (shapes l.list.items))
-    × (after (shapes l.fn.list.items) (read (lexemes l.tokens) some_arguments (series [] l.depth) l.at)
-    ≡ after (shapes l.list.items) (read (lexemes l.tokens) some_arguments (series [] l.depth) l.next))
+    × (after (shapes l.fn.list.items) (read (lexemes l.tokens) some_arguments (series (known l.aliases) l.depth) l.at)
+    ≡ after (shapes l.list.items) (read (lexemes l.tokens) some_arguments (series (known l.aliases) l.depth) l.next))
 
 abbrev pub decreases-arguments-items : goal.decreases-arguments-items
 decreases-arguments-items l = length l.tokens - l.next
