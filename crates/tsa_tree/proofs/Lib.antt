@@ -7,6 +7,7 @@ pub mod DeclarationsMeet
 pub mod DeclaratorsMeet
 pub mod ItemsMeet
 pub mod ItemRowsMeet
+pub mod RowsBegin
 pub mod RowsMeet
 pub mod RowsRead
 pub mod ProductionSigns

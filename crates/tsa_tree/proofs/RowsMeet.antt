@@ -12,12 +12,12 @@ use Rattle.tsa_tree.specs.Rows.{Sort, an_expression, some_arguments, Call, expre
 use Rattle.tsa_forms.specs.Form.{done}
 use Rattle.tsa_forms.proofs.Good as g
 use Rattle.tsa_tree.proofs.SignFacts.{is_plain, operator_mark, operator_no_postfix, operator_no_open, postfix_no_open, close_plain, bracket_plain, comma_plain, plain_no_name, close_no_comma, level_low}
-use Rattle.tsa_tree.proofs.RowFacts.{given, begins_operand, begins_no_close, lone, Ended, Loose, First, Ends, Moves, Next, Start, Good, never, ended, no_callee, is_lone}
-use Rattle.tsa_tree.proofs.DeclarationsMeet.{good_consts, good_specifier, first_specifier, good_declarator, first_declarator, good_initialiser, first_initialiser, good_initialisers}
-use Rattle.tsa_tree.proofs.DeclaratorsMeet.{good_rest, first_rest, good_declarators, good_member_line, good_members, good_variable, good_variables, good_locals}
-use Rattle.tsa_tree.proofs.ItemsMeet.{good_storage, good_parameter_list, good_parameters, good_signature, first_signature, good_head, good_struct_body, first_struct_body, good_constants, good_enum_body, first_enum_body, good_declared}
+use Rattle.tsa_tree.proofs.RowFacts.{begins_no_close, lone, Ended, Loose, First, Ends, Moves, Next, Good, never, ended, no_callee, is_lone}
+use Rattle.tsa_tree.proofs.DeclarationsMeet.{good_consts, good_specifier, good_declarator, good_initialiser, good_initialisers}
+use Rattle.tsa_tree.proofs.DeclaratorsMeet.{good_rest, good_declarators, good_member_line, good_members, good_variable, good_variables, good_locals}
+use Rattle.tsa_tree.proofs.ItemsMeet.{good_storage, good_parameter_list, good_parameters, good_signature, good_head, good_struct_body, good_constants, good_enum_body, good_declared}
 use Rattle.tsa_tree.proofs.ItemRowsMeet.{good_item}
-use Rattle.tsa_tree.proofs.AttributesMeet.{good_attributes, good_group, good_entry, good_balanced, first_group, first_entry}
+use Rattle.tsa_tree.proofs.AttributesMeet.{good_attributes, good_group, good_entry, good_balanced}
 
 some_same : (o p : BinaryOp) → Some o ≡ Some p → o ≡ p
 some_same o p e = cc
@@ -284,66 +284,6 @@ module _ (tokens : List Lexeme) where
   good _ (enum_body aliases) m = good_enum_body tokens aliases m
   good _ (declared aliases t) m = good_declared tokens aliases t m
   good _ (item aliases) m = good_item tokens aliases m
-
-  first_prefix : (aliases : Aliases) (d m : ℕ) (q : Kind) (o : Option UnaryOp)
-      → Start tokens an_expression (prefix_row tokens aliases d m q o) m → given o ≡ true
-  first_prefix aliases d m q None h = never tokens m h
-  first_prefix aliases d m q (Some o) h = refl
-
-  first_operand : (aliases : Aliases) (d m : ℕ) (s : Sign) → Start tokens an_expression (operand_row tokens aliases d m s) m
-      → begins_operand s ≡ true
-  first_operand aliases d m sign.Not h = refl
-  first_operand aliases d m sign.Flip h = refl
-  first_operand aliases d m (sign.Operator o) h = first_prefix aliases d m (an_operator aliases) (prefix_of o) h
-  first_operand aliases d m sign.Number h = refl
-  first_operand aliases d m sign.Null h = refl
-  first_operand aliases d m sign.Name h = refl
-  first_operand aliases d m sign.Open h = refl
-  first_operand aliases d m _ h = never tokens m h
-
-  first_postfix : (aliases : Aliases) (d start : ℕ) (base : Expression) (m : ℕ) (s : Sign)
-      → Start tokens an_expression (postfix_row tokens aliases d start base m s) m → is_postfix s ≡ true
-  first_postfix aliases d start base m sign.Dot h = refl
-  first_postfix aliases d start base m sign.Arrow h = refl
-  first_postfix aliases d start base m sign.OpenBracket h = refl
-  first_postfix aliases d start base m _ h = never tokens m h
-
-  first_operation : (aliases : Aliases) (d k start : ℕ) (l : Expression) (m : ℕ) (o : Option BinaryOp)
-      → operator (sign_at tokens aliases m) ≡ o
-      → Start tokens an_expression (operation_row tokens aliases d k start l m o) m
-      → First tokens an_expression (operation aliases d k start l) m
-  first_operation aliases d k start l m None e h = never tokens m h
-  first_operation aliases d k start l m (Some o) e (inl h) = (o, e, h.0)
-  first_operation aliases d k start l m (Some o) e (inr h) = never tokens m h
-
-  -- What stands where a part begins.
-  pub firsts : (s : Sort) (c : Call s) (m : ℕ) → Start tokens s (rule tokens s c m) m → First tokens s c m
-  firsts _ (expression aliases d k) m h = h
-  firsts _ (operation aliases d k start l) m h = first_operation aliases d k start l m (operator (sign_at tokens aliases m)) refl h
-  firsts _ (operand aliases d) m h = first_operand aliases d m (sign_at tokens aliases m) h
-  firsts _ (postfix aliases d start base) m h = first_postfix aliases d start base m (sign_at tokens aliases m) h
-  firsts _ (series aliases d) m h = h
-  firsts _ (attributes aliases d) m h = h
-  firsts _ (group aliases d) m h = first_group tokens aliases d m (sign_at tokens aliases m) h
-  firsts _ (entries aliases d) m h = first_entry tokens aliases d m (entry_meaning tokens aliases m) h
-  firsts _ (specifier aliases) m h = first_specifier tokens aliases m (sign_at tokens aliases m) refl h
-  firsts _ (declarator aliases) m h = first_declarator tokens aliases m h
-  firsts _ (initialiser aliases d) m h = first_initialiser tokens aliases d m h
-  firsts _ (declared_rest aliases r d t c) m h = first_rest tokens aliases r d t c m h
-  firsts _ (signature aliases) m h = first_signature tokens aliases m h
-  firsts _ (struct_body aliases) m h = first_struct_body tokens aliases m h
-  firsts _ (enum_body aliases) m h = first_enum_body tokens aliases m h
-  firsts _ (consts aliases) m h = h
-  firsts _ (storage aliases) m h = h
-  firsts _ (initialisers aliases d) m h = h
-  firsts _ (declarators aliases r d t) m h = h
-  firsts _ (member_line aliases d) m h = h
-  firsts _ (variable aliases d t) m h = h
-  firsts _ (variables aliases d t) m h = h
-  firsts _ (parameter_list aliases) m h = h
-  firsts _ (constants aliases) m h = h
-  firsts _ (declared aliases t) m h = h
-  firsts _ other m h = tt
 
   abbrev Past : (s : Sort) → Row s → ℕ → Type 0
   Past s f m = g.Past (sees tokens) (First tokens) (Ends tokens) (Moves tokens) rank s f m
