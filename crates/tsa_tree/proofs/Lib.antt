@@ -47,3 +47,4 @@ pub mod AttributeLaws
 pub mod DeclarationsBroken
 pub mod DeclarationLaws
 pub mod AttributeExamples
+pub mod DeclarationExamples

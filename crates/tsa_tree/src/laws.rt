@@ -5,6 +5,7 @@ ghost use Rattle.tsa_tree.specs.Examples.{ProductionsAreRead};
 ghost use Rattle.tsa_tree.specs.AttributeAnswers as attributes;
 ghost use Rattle.tsa_tree.specs.AttributeExamples.{AttributesAreRead};
 ghost use Rattle.tsa_tree.specs.DeclarationAnswers as declarations;
+ghost use Rattle.tsa_tree.specs.DeclarationExamples.{DeclarationsAreRead};
 
 /// The rows that readers go by spell the same trees as the productions of the grammar, and the same lists begin them.
 pub fn rows_are_productions()
@@ -88,4 +89,10 @@ pub fn first_pieces_begin_declarations()
 #[tactic(auto, using(crate::proofs::DeclarationLaws::an_answer))]
 pub fn declarations_have_an_answer()
     ensures { declarations.AnAnswer }
+{}
+
+/// Items, heads and locals are read as they are written: a text for each production, and one for each kind of refusal.
+#[tactic(auto, using(crate::proofs::DeclarationExamples::declarations_are_read))]
+pub fn declarations_are_as_written()
+    ensures { DeclarationsAreRead }
 {}
