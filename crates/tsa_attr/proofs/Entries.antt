@@ -19,7 +19,7 @@ use Rattle.tsa_tree.specs.AttributeRefusals.{left_out, lacking}
 use Rattle.tsa_tree.specs.Attributes.{Attribute, taking, attr_shape, attr_shapes}
 use Rattle.tsa_tree.specs.Reads.{read}
 use Rattle.tsa_tree.specs.Rows.{a_skip, some_attributes, Row, entries, balanced, closing_parenthesis, an_open, mark, sees, lacks, arguments_row, entry_row, entries_end}
-use Rattle.tsa_tree.specs.Signs.{lexemes, sign_at, is_word, kind_in, is_word_at, entry_meaning}
+use Rattle.tsa_tree.specs.Signs.{Aliases, lexemes, sign_at, is_word, kind_in, is_word_at, entry_meaning}
 use Rattle.tsa_expr.specs.declared.refusal.SyntaxRefusal.{SyntaxRefusal}
 use Rattle.tsa_expr.specs.Gives.{Fails, Gives}
 use Rattle.tsa_expr.proofs.Answering.{fails_then, fails_same, gives_same, not_open, not_close, not_comma}
@@ -37,46 +37,46 @@ word_within tokens m e = go (slice_get (lexemes tokens) m) refl e
     go None s h = cc
     go (Some t) s h = subst (λ n. m < n) (length-map tokens lexeme) (slice_get_within (lexemes tokens) m t s)
 
-module _ (ts : List Lexeme) where
+module _ (ts : List Lexeme) (aliases : Aliases) where
   -- names that say nothing of threads
-  pub ignored_alone : (d m : ℕ) → sign_at ts [] (m + 1) ≢ sign.Open → ignored_at ts d m ≡ Ok (tt, m + 1)
+  pub ignored_alone : (d m : ℕ) → sign_at ts aliases (m + 1) ≢ sign.Open → ignored_at ts aliases d m ≡ Ok (tt, m + 1)
   unfolding ignored_at
-  ignored_alone d m h = other _ _ _ (not_open (sign_at ts [] (m + 1)) h)
+  ignored_alone d m h = other _ _ _ (not_open (sign_at ts aliases (m + 1)) h)
 
-  pub ignored_fails : (d m : ℕ) (e : SyntaxRefusal) → sign_at ts [] (m + 1) ≡ sign.Open → Fails e (opening ts d (m + 1)) → Fails e (ignored_at ts d m)
+  pub ignored_fails : (d m : ℕ) (e : SyntaxRefusal) → sign_at ts aliases (m + 1) ≡ sign.Open → Fails e (opening ts aliases d (m + 1)) → Fails e (ignored_at ts aliases d m)
   unfolding ignored_at
   ignored_fails d m e s h = fails_same e _ _ (chosen _ _ _ (ap (λ s. nat_eq (mark s) 6) s)) (fails_then e _ _ h)
 
-  pub ignored_list : (d m n : ℕ) → sign_at ts [] (m + 1) ≡ sign.Open → opening ts d (m + 1) ≡ Ok (tt, n)
-      → ignored_at ts d m ≡ read ts a_skip (balanced [] (d + 1) closing_parenthesis) n
+  pub ignored_list : (d m n : ℕ) → sign_at ts aliases (m + 1) ≡ sign.Open → opening ts aliases d (m + 1) ≡ Ok (tt, n)
+      → ignored_at ts aliases d m ≡ read ts a_skip (balanced aliases (d + 1) closing_parenthesis) n
   unfolding ignored_at
   ignored_list d m n s h = chosen _ _ _ (ap (λ s. nat_eq (mark s) 6) s) ∙ goes _ _ tt n h
 
   -- an entry by its meaning
-  entry_is : (d m : ℕ) (w : Meaning) → is_word_at ts m ≡ true → entry_meaning ts [] m ≡ w → entry_at ts d m ≡ entry_by ts d m w
+  entry_is : (d m : ℕ) (w : Meaning) → is_word_at ts m ≡ true → entry_meaning ts aliases m ≡ w → entry_at ts aliases d m ≡ entry_by ts aliases d m w
   unfolding entry_at
-  entry_is d m w h e = chosen _ _ _ h ∙ ap (entry_by ts d m) e
+  entry_is d m w h e = chosen _ _ _ h ∙ ap (entry_by ts aliases d m) e
 
-  pub entry_wrong : (xs : List Attr) (d m : ℕ) → is_word_at ts m ≡ false → after (attr_shapes xs) (entry_at ts d m) ≡ Err (refuse syntax m)
+  pub entry_wrong : (xs : List Attr) (d m : ℕ) → is_word_at ts m ≡ false → after (attr_shapes xs) (entry_at ts aliases d m) ≡ Err (refuse syntax m)
   unfolding entry_at then
   entry_wrong xs d m h = ap (after (attr_shapes xs)) (other _ _ _ h)
 
-  pub entry_fails : (xs : List Attr) (d : ℕ) (k : AttrKind) (m : ℕ) (e : SyntaxRefusal) → is_word_at ts m ≡ true → entry_meaning ts [] m ≡ mean.Known k
-      → Fails e (attribute_at ts d k m) → Fails e (after (attr_shapes xs) (entry_at ts d m))
+  pub entry_fails : (xs : List Attr) (d : ℕ) (k : AttrKind) (m : ℕ) (e : SyntaxRefusal) → is_word_at ts m ≡ true → entry_meaning ts aliases m ≡ mean.Known k
+      → Fails e (attribute_at ts aliases d k m) → Fails e (after (attr_shapes xs) (entry_at ts aliases d m))
   entry_fails xs d k m e w s h = fails_then e _ _ (fails_same e _ _ (entry_is d m (mean.Known k) w s) h)
 
-  pub entry_goes : (xs : List Attr) (d : ℕ) (k : AttrKind) (m : ℕ) (x : Attr) (n : ℕ) → is_word_at ts m ≡ true → entry_meaning ts [] m ≡ mean.Known k
-      → attribute_at ts d k m ≡ Ok (attr_shape x ∷ [], n) → after (attr_shapes xs) (entry_at ts d m) ≡ Ok (attr_shapes (xs ++ x ∷ []), n)
+  pub entry_goes : (xs : List Attr) (d : ℕ) (k : AttrKind) (m : ℕ) (x : Attr) (n : ℕ) → is_word_at ts m ≡ true → entry_meaning ts aliases m ≡ mean.Known k
+      → attribute_at ts aliases d k m ≡ Ok (attr_shape x ∷ [], n) → after (attr_shapes xs) (entry_at ts aliases d m) ≡ Ok (attr_shapes (xs ++ x ∷ []), n)
   entry_goes xs d k m x n w s h =
       goes _ _ (attr_shape x ∷ []) n (entry_is d m (mean.Known k) w s ∙ h) ∙ ap (λ ys. Ok (ys, n)) (sym (shapes-push xs x))
 
-  pub entry_left_out : (xs : List Attr) (d m : ℕ) → is_word_at ts m ≡ true → entry_meaning ts [] m ≡ mean.LeftOut
-      → after (attr_shapes xs) (entry_at ts d m) ≡ Err (refuse (barred left_out) m)
+  pub entry_left_out : (xs : List Attr) (d m : ℕ) → is_word_at ts m ≡ true → entry_meaning ts aliases m ≡ mean.LeftOut
+      → after (attr_shapes xs) (entry_at ts aliases d m) ≡ Err (refuse (barred left_out) m)
   unfolding then
   entry_left_out xs d m w s = ap (after (attr_shapes xs)) (entry_is d m mean.LeftOut w s)
 
-  pub entry_ignored : (xs : List Attr) (d m : ℕ) (r : Result ℕ SyntaxRefusal) → is_word_at ts m ≡ true → entry_meaning ts [] m ≡ mean.Ignored
-      → Gives passed r (ignored_at ts d m) → Gives (λ n. (attr_shapes xs, n)) r (after (attr_shapes xs) (entry_at ts d m))
+  pub entry_ignored : (xs : List Attr) (d m : ℕ) (r : Result ℕ SyntaxRefusal) → is_word_at ts m ≡ true → entry_meaning ts aliases m ≡ mean.Ignored
+      → Gives passed r (ignored_at ts aliases d m) → Gives (λ n. (attr_shapes xs, n)) r (after (attr_shapes xs) (entry_at ts aliases d m))
   entry_ignored xs d m (Ok n) w s h =
       ap (after (attr_shapes xs)) (entry_is d m mean.Ignored w s ∙ goes _ _ tt n h) ∙ then-ok [] n _
       ∙ ap (λ ys. Ok (ys, n)) (append-nil (attr_shapes xs))
@@ -122,32 +122,32 @@ module _ (ts : List Lexeme) where
 
   abbrev ignored_rest : (d m : ℕ) → Row some_attributes
   ignored_rest d m =
-      either (sees ts (an_open []) (m + 1))
-      (limit d (token (an_open []) (part a_skip (balanced [] (d + 1) closing_parenthesis) (λ u e. entries_end ts [] d [] e))))
-      (entries_end ts [] d [] (m + 1))
+      either (sees ts (an_open aliases) (m + 1))
+      (limit d (token (an_open aliases) (part a_skip (balanced aliases (d + 1) closing_parenthesis) (λ u e. entries_end ts aliases d [] e))))
+      (entries_end ts aliases d [] (m + 1))
 
-  ignored_row : (d m : ℕ) → going ts some_attributes (ignored_rest d m) (m + 1) ≡ then (entry_by ts d m mean.Ignored) (entries_on ts d)
+  ignored_row : (d m : ℕ) → going ts some_attributes (ignored_rest d m) (m + 1) ≡ then (entry_by ts aliases d m mean.Ignored) (entries_on ts aliases d)
   unfolding entries_on ignored_at opening
   ignored_row d m =
-      ignored-law (sees ts (an_open []) (m + 1)) (below_limit d) (m + 1)
-      (read ts a_skip (balanced [] (d + 1) closing_parenthesis)) (entries_on ts d)
+      ignored-law (sees ts (an_open aliases) (m + 1)) (below_limit d) (m + 1)
+      (read ts a_skip (balanced aliases (d + 1) closing_parenthesis)) (entries_on ts aliases d)
 
   row-law : (d m : ℕ) (w : Meaning)
-      → going ts some_attributes (entry_row ts [] d m w) m
-      ≡ then (choose (is_word_at ts m) (entry_by ts d m w) (Err (refuse syntax m))) (λ xs e. entries_on ts d xs e)
+      → going ts some_attributes (entry_row ts aliases d m w) m
+      ≡ then (choose (is_word_at ts m) (entry_by ts aliases d m w) (Err (refuse syntax m))) (λ xs e. entries_on ts aliases d xs e)
   unfolding entries_on attribute_at
   row-law d m (mean.Known k) =
-      known-law (is_word_at ts m) (lacks ts [] k m) m _ _ _
-      (opens_at ts some_attributes d (m + 1) (arguments_row ts [] (d + 1) k m (taking k) (λ x e. entries_end ts [] d (x ∷ []) e))
-      ∙ then-same (opening ts d (m + 1)) _ _ (λ u n. follows ts (d + 1) k m (taking k) (λ xs e. entries_end ts [] d xs e))
-      ∙ sym (then-then (opening ts d (m + 1)) _ _))
+      known-law (is_word_at ts m) (lacks ts aliases k m) m _ _ _
+      (opens_at ts aliases some_attributes d (m + 1) (arguments_row ts aliases (d + 1) k m (taking k) (λ x e. entries_end ts aliases d (x ∷ []) e))
+      ∙ then-same (opening ts aliases d (m + 1)) _ _ (λ u n. follows ts aliases (d + 1) k m (taking k) (λ xs e. entries_end ts aliases d xs e))
+      ∙ sym (then-then (opening ts aliases d (m + 1)) _ _))
   row-law d m mean.LeftOut = left-law (is_word_at ts m) m _
   row-law d m mean.Ignored =
-      word-law (is_word_at ts m) m (going ts some_attributes (ignored_rest d m) (m + 1)) (entry_by ts d m mean.Ignored) (entries_on ts d) (ignored_row d m)
+      word-law (is_word_at ts m) m (going ts some_attributes (ignored_rest d m) (m + 1)) (entry_by ts aliases d m mean.Ignored) (entries_on ts aliases d) (ignored_row d m)
 
-  entries_at : (d m : ℕ) → read ts some_attributes (entries [] d) m ≡ then (entry_at ts d m) (λ xs e. entries_on ts d xs e)
+  entries_at : (d m : ℕ) → read ts some_attributes (entries aliases d) m ≡ then (entry_at ts aliases d m) (λ xs e. entries_on ts aliases d xs e)
   unfolding entry_at
-  entries_at d m = read_steps ts some_attributes (entries [] d) m ∙ row-law d m (entry_meaning ts [] m)
+  entries_at d m = read_steps ts some_attributes (entries aliases d) m ∙ row-law d m (entry_meaning ts aliases m)
 
   -- the attributes before are put in front
   on-law : (front xs : List Attribute) (b c : Bool) (n : ℕ) (r : Outcome (List Attribute))
@@ -159,35 +159,35 @@ module _ (ts : List Lexeme) where
   on-law front xs false false n r = refl
 
   after-entries : (front : List Attribute) (d m : ℕ)
-      → after front (read ts some_attributes (entries [] d) m) ≡ then (after front (entry_at ts d m)) (λ xs e. entries_on ts d xs e)
+      → after front (read ts some_attributes (entries aliases d) m) ≡ then (after front (entry_at ts aliases d m)) (λ xs e. entries_on ts aliases d xs e)
   unfolding entries_on
   after-entries front d m =
       ap (after front) (entries_at d m)
-      ∙ after-then front (entry_at ts d m) _ (λ xs n. on-law front xs _ _ n (read ts some_attributes (entries [] d) (n + 1)))
+      ∙ after-then front (entry_at ts aliases d m) _ (λ xs n. on-law front xs _ _ n (read ts some_attributes (entries aliases d) (n + 1)))
 
-  pub entries_fail : (xs : List Attr) (d m : ℕ) (e : SyntaxRefusal) → Fails e (after (attr_shapes xs) (entry_at ts d m))
-      → Fails e (after (attr_shapes xs) (read ts some_attributes (entries [] d) m))
+  pub entries_fail : (xs : List Attr) (d m : ℕ) (e : SyntaxRefusal) → Fails e (after (attr_shapes xs) (entry_at ts aliases d m))
+      → Fails e (after (attr_shapes xs) (read ts some_attributes (entries aliases d) m))
   entries_fail xs d m e h = fails_same e _ _ (after-entries (attr_shapes xs) d m) (fails_then e _ _ h)
 
-  pub entries_wrong : (xs ys : List Attr) (d m n : ℕ) → after (attr_shapes xs) (entry_at ts d m) ≡ Ok (attr_shapes ys, n)
-      → sign_at ts [] n ≢ sign.Comma → sign_at ts [] n ≢ sign.Close
-      → after (attr_shapes xs) (read ts some_attributes (entries [] d) m) ≡ Err (refuse syntax n)
+  pub entries_wrong : (xs ys : List Attr) (d m n : ℕ) → after (attr_shapes xs) (entry_at ts aliases d m) ≡ Ok (attr_shapes ys, n)
+      → sign_at ts aliases n ≢ sign.Comma → sign_at ts aliases n ≢ sign.Close
+      → after (attr_shapes xs) (read ts some_attributes (entries aliases d) m) ≡ Err (refuse syntax n)
   unfolding entries_on
   entries_wrong xs ys d m n h a b =
       after-entries (attr_shapes xs) d m ∙ goes _ _ (attr_shapes ys) n h
-      ∙ other _ _ _ (not_comma (sign_at ts [] n) a) ∙ other _ _ _ (not_close (sign_at ts [] n) b)
+      ∙ other _ _ _ (not_comma (sign_at ts aliases n) a) ∙ other _ _ _ (not_close (sign_at ts aliases n) b)
 
-  pub entries_last : (xs ys : List Attr) (d m n : ℕ) → after (attr_shapes xs) (entry_at ts d m) ≡ Ok (attr_shapes ys, n)
-      → sign_at ts [] n ≡ sign.Close
-      → after (attr_shapes xs) (read ts some_attributes (entries [] d) m) ≡ Ok (attr_shapes ys, n + 1)
+  pub entries_last : (xs ys : List Attr) (d m n : ℕ) → after (attr_shapes xs) (entry_at ts aliases d m) ≡ Ok (attr_shapes ys, n)
+      → sign_at ts aliases n ≡ sign.Close
+      → after (attr_shapes xs) (read ts some_attributes (entries aliases d) m) ≡ Ok (attr_shapes ys, n + 1)
   unfolding entries_on
   entries_last xs ys d m n h c =
       after-entries (attr_shapes xs) d m ∙ goes _ _ (attr_shapes ys) n h
       ∙ other _ _ _ (ap (λ s. nat_eq (mark s) 10) c) ∙ chosen _ _ _ (ap (λ s. nat_eq (mark s) 7) c)
 
-  pub entries_more : (xs ys : List Attr) (d m n : ℕ) → after (attr_shapes xs) (entry_at ts d m) ≡ Ok (attr_shapes ys, n)
-      → sign_at ts [] n ≡ sign.Comma
-      → after (attr_shapes xs) (read ts some_attributes (entries [] d) m) ≡ after (attr_shapes ys) (read ts some_attributes (entries [] d) (n + 1))
+  pub entries_more : (xs ys : List Attr) (d m n : ℕ) → after (attr_shapes xs) (entry_at ts aliases d m) ≡ Ok (attr_shapes ys, n)
+      → sign_at ts aliases n ≡ sign.Comma
+      → after (attr_shapes xs) (read ts some_attributes (entries aliases d) m) ≡ after (attr_shapes ys) (read ts some_attributes (entries aliases d) (n + 1))
   unfolding entries_on
   entries_more xs ys d m n h c =
       after-entries (attr_shapes xs) d m ∙ goes _ _ (attr_shapes ys) n h

@@ -13,7 +13,7 @@ use Rattle.tsa_tree.specs.AttributeRefusals.{left_out, lacking}
 use Rattle.tsa_tree.specs.Attributes.{Attribute, taking, attr_shape, attr_shapes}
 use Rattle.tsa_tree.specs.Reads.{read}
 use Rattle.tsa_tree.specs.Rows.{some_attributes, attributes, group, entries, Row, a_close, mark, sees, lacks, opens, arguments_row, group_row, is_attribute_sign}
-use Rattle.tsa_tree.specs.Signs.{sign_at}
+use Rattle.tsa_tree.specs.Signs.{Aliases, sign_at}
 use Rattle.tsa_expr.specs.declared.refusal.SyntaxRefusal.{SyntaxRefusal}
 use Rattle.tsa_expr.specs.Gives.{Fails, Gives}
 use Rattle.tsa_expr.proofs.Answering.{fails_then, fails_same, gives_same}
@@ -34,121 +34,121 @@ unfolding then
 after-close front xs (Ok p) = refl
 after-close front xs (Err e) = refl
 
-module _ (ts : List Lexeme) where
-  at_sign : (d m : ℕ) (s : Sign) → sign_at ts [] m ≡ s → read ts some_attributes (group [] d) m ≡ going ts some_attributes (group_row ts [] d m s) m
-  at_sign d m s e = read_steps ts some_attributes (group [] d) m ∙ ap (λ s. going ts some_attributes (group_row ts [] d m s) m) e
+module _ (ts : List Lexeme) (aliases : Aliases) where
+  at_sign : (d m : ℕ) (s : Sign) → sign_at ts aliases m ≡ s → read ts some_attributes (group aliases d) m ≡ going ts some_attributes (group_row ts aliases d m s) m
+  at_sign d m s e = read_steps ts some_attributes (group aliases d) m ∙ ap (λ s. going ts some_attributes (group_row ts aliases d m s) m) e
 
   -- macro words
-  macro_at : (d : ℕ) (k : AttrKind) (m : ℕ) → sign_at ts [] m ≡ sign.Macro k → read ts some_attributes (group [] d) m ≡ attribute_at ts d k m
+  macro_at : (d : ℕ) (k : AttrKind) (m : ℕ) → sign_at ts aliases m ≡ sign.Macro k → read ts some_attributes (group aliases d) m ≡ attribute_at ts aliases d k m
   unfolding attribute_at arguments_at
   macro_at d k m e =
       at_sign d m (sign.Macro k) e
-      ∙ ap (λ r. choose (lacks ts [] k m) (Err (refuse (barred lacking) m)) r)
+      ∙ ap (λ r. choose (lacks ts aliases k m) (Err (refuse (barred lacking) m)) r)
       (chosen _ _ _ (ap (λ s. nat_eq (mark s) 23) e)
-      ∙ opens_at ts some_attributes d (m + 1) (arguments_row ts [] (d + 1) k m (taking k) (λ x e. done (x ∷ []))))
+      ∙ opens_at ts aliases some_attributes d (m + 1) (arguments_row ts aliases (d + 1) k m (taking k) (λ x e. done (x ∷ []))))
 
-  pub macro_fails : (xs : List Attr) (d : ℕ) (k : AttrKind) (m : ℕ) (e : SyntaxRefusal) → sign_at ts [] m ≡ sign.Macro k → Fails e (attribute_at ts d k m)
-      → Fails e (after (attr_shapes xs) (read ts some_attributes (group [] d) m))
+  pub macro_fails : (xs : List Attr) (d : ℕ) (k : AttrKind) (m : ℕ) (e : SyntaxRefusal) → sign_at ts aliases m ≡ sign.Macro k → Fails e (attribute_at ts aliases d k m)
+      → Fails e (after (attr_shapes xs) (read ts some_attributes (group aliases d) m))
   macro_fails xs d k m e s h = fails_then e _ _ (fails_same e _ _ (macro_at d k m s) h)
 
-  pub macro_goes : (xs : List Attr) (d : ℕ) (k : AttrKind) (m : ℕ) (x : Attr) (n : ℕ) → sign_at ts [] m ≡ sign.Macro k
-      → attribute_at ts d k m ≡ Ok (attr_shape x ∷ [], n)
-      → after (attr_shapes xs) (read ts some_attributes (group [] d) m) ≡ Ok (attr_shapes (xs ++ x ∷ []), n)
+  pub macro_goes : (xs : List Attr) (d : ℕ) (k : AttrKind) (m : ℕ) (x : Attr) (n : ℕ) → sign_at ts aliases m ≡ sign.Macro k
+      → attribute_at ts aliases d k m ≡ Ok (attr_shape x ∷ [], n)
+      → after (attr_shapes xs) (read ts some_attributes (group aliases d) m) ≡ Ok (attr_shapes (xs ++ x ∷ []), n)
   macro_goes xs d k m x n s h =
       goes _ _ (attr_shape x ∷ []) n (macro_at d k m s ∙ h) ∙ ap (λ ys. Ok (ys, n)) (sym (shapes-push xs x))
 
-  pub macro_left_out : (xs : List Attr) (d m : ℕ) → sign_at ts [] m ≡ sign.LeftOutMacro
-      → after (attr_shapes xs) (read ts some_attributes (group [] d) m) ≡ Err (refuse (barred left_out) m)
+  pub macro_left_out : (xs : List Attr) (d m : ℕ) → sign_at ts aliases m ≡ sign.LeftOutMacro
+      → after (attr_shapes xs) (read ts some_attributes (group aliases d) m) ≡ Err (refuse (barred left_out) m)
   unfolding then
   macro_left_out xs d m s = ap (after (attr_shapes xs)) (at_sign d m sign.LeftOutMacro s ∙ chosen _ _ _ refl)
 
-  wrong_sign : (d m : ℕ) (s : Sign) → is_attribute_sign s ≡ false → going ts some_attributes (group_row ts [] d m s) m ≡ Err (refuse syntax m)
+  wrong_sign : (d m : ℕ) (s : Sign) → is_attribute_sign s ≡ false → going ts some_attributes (group_row ts aliases d m s) m ≡ Err (refuse syntax m)
   wrong_sign d m (sign.Macro k) e = cc
   wrong_sign d m sign.LeftOutMacro e = cc
   wrong_sign d m sign.Attribute e = cc
   wrong_sign d m _ e = other _ _ _ refl
 
-  pub group_wrong : (xs : List Attr) (d m : ℕ) → is_attribute_sign (sign_at ts [] m) ≡ false
-      → after (attr_shapes xs) (read ts some_attributes (group [] d) m) ≡ Err (refuse syntax m)
+  pub group_wrong : (xs : List Attr) (d m : ℕ) → is_attribute_sign (sign_at ts aliases m) ≡ false
+      → after (attr_shapes xs) (read ts some_attributes (group aliases d) m) ≡ Err (refuse syntax m)
   unfolding then
-  group_wrong xs d m e = ap (after (attr_shapes xs)) (at_sign d m (sign_at ts [] m) refl ∙ wrong_sign d m (sign_at ts [] m) e)
+  group_wrong xs d m e = ap (after (attr_shapes xs)) (at_sign d m (sign_at ts aliases m) refl ∙ wrong_sign d m (sign_at ts aliases m) e)
 
   -- lists
   abbrev within : (d m : ℕ) → Row some_attributes
   within d i =
-      either (sees ts (a_close []) i)
-      (token (a_close []) (token (a_close []) (done [])))
-      (part some_attributes (entries [] d) (λ xs n. token (a_close []) (done xs)))
+      either (sees ts (a_close aliases) i)
+      (token (a_close aliases) (token (a_close aliases) (done [])))
+      (part some_attributes (entries aliases d) (λ xs n. token (a_close aliases) (done xs)))
 
-  bracketed_at : (d m : ℕ) → sign_at ts [] m ≡ sign.Attribute
-      → read ts some_attributes (group [] d) m
-      ≡ then (opening ts d (m + 1)) (λ u n. then (opening ts (d + 1) (m + 1 + 1)) (λ u n. going ts some_attributes (within (d + 1 + 1) (m + 1 + 1 + 1)) (m + 1 + 1 + 1)))
+  bracketed_at : (d m : ℕ) → sign_at ts aliases m ≡ sign.Attribute
+      → read ts some_attributes (group aliases d) m
+      ≡ then (opening ts aliases d (m + 1)) (λ u n. then (opening ts aliases (d + 1) (m + 1 + 1)) (λ u n. going ts some_attributes (within (d + 1 + 1) (m + 1 + 1 + 1)) (m + 1 + 1 + 1)))
   bracketed_at d m e =
       at_sign d m sign.Attribute e ∙ chosen _ _ _ (ap (λ s. nat_eq (mark s) 21) e)
-      ∙ opens_at ts some_attributes d (m + 1) (opens ts [] (d + 1) (m + 1 + 1) (within (d + 1 + 1) (m + 1 + 1 + 1)))
-      ∙ then-same (opening ts d (m + 1)) _ _ (λ u n. opens_at ts some_attributes (d + 1) (m + 1 + 1) (within (d + 1 + 1) (m + 1 + 1 + 1)))
+      ∙ opens_at ts aliases some_attributes d (m + 1) (opens ts aliases (d + 1) (m + 1 + 1) (within (d + 1 + 1) (m + 1 + 1 + 1)))
+      ∙ then-same (opening ts aliases d (m + 1)) _ _ (λ u n. opens_at ts aliases some_attributes (d + 1) (m + 1 + 1) (within (d + 1 + 1) (m + 1 + 1 + 1)))
 
-  pub bracketed_first : (xs : List Attr) (d m : ℕ) (e : SyntaxRefusal) → sign_at ts [] m ≡ sign.Attribute → Fails e (opening ts d (m + 1))
-      → Fails e (after (attr_shapes xs) (read ts some_attributes (group [] d) m))
+  pub bracketed_first : (xs : List Attr) (d m : ℕ) (e : SyntaxRefusal) → sign_at ts aliases m ≡ sign.Attribute → Fails e (opening ts aliases d (m + 1))
+      → Fails e (after (attr_shapes xs) (read ts some_attributes (group aliases d) m))
   bracketed_first xs d m e s h = fails_then e _ _ (fails_same e _ _ (bracketed_at d m s) (fails_then e _ _ h))
 
-  pub bracketed_second : (xs : List Attr) (d m o : ℕ) (e : SyntaxRefusal) → sign_at ts [] m ≡ sign.Attribute → opening ts d (m + 1) ≡ Ok (tt, o)
-      → o ≡ m + 1 + 1 → Fails e (opening ts (d + 1) o) → Fails e (after (attr_shapes xs) (read ts some_attributes (group [] d) m))
+  pub bracketed_second : (xs : List Attr) (d m o : ℕ) (e : SyntaxRefusal) → sign_at ts aliases m ≡ sign.Attribute → opening ts aliases d (m + 1) ≡ Ok (tt, o)
+      → o ≡ m + 1 + 1 → Fails e (opening ts aliases (d + 1) o) → Fails e (after (attr_shapes xs) (read ts some_attributes (group aliases d) m))
   bracketed_second xs d m o e s h p f =
-      fails_then e _ _ (fails_same e _ _ (bracketed_at d m s ∙ goes _ _ tt o h) (fails_then e _ _ (fails_same e _ _ (ap (opening ts (d + 1)) (sym p)) f)))
+      fails_then e _ _ (fails_same e _ _ (bracketed_at d m s ∙ goes _ _ tt o h) (fails_then e _ _ (fails_same e _ _ (ap (opening ts aliases (d + 1)) (sym p)) f)))
 
-  opened_at : (d m o i : ℕ) → sign_at ts [] m ≡ sign.Attribute → opening ts d (m + 1) ≡ Ok (tt, o) → o ≡ m + 1 + 1
-      → opening ts (d + 1) o ≡ Ok (tt, i) → i ≡ o + 1
-      → read ts some_attributes (group [] d) m ≡ going ts some_attributes (within (d + 1 + 1) i) i
+  opened_at : (d m o i : ℕ) → sign_at ts aliases m ≡ sign.Attribute → opening ts aliases d (m + 1) ≡ Ok (tt, o) → o ≡ m + 1 + 1
+      → opening ts aliases (d + 1) o ≡ Ok (tt, i) → i ≡ o + 1
+      → read ts some_attributes (group aliases d) m ≡ going ts some_attributes (within (d + 1 + 1) i) i
   opened_at d m o i s h p k q =
-      bracketed_at d m s ∙ goes _ _ tt o h ∙ goes _ _ tt i (ap (opening ts (d + 1)) (sym p) ∙ k)
+      bracketed_at d m s ∙ goes _ _ tt o h ∙ goes _ _ tt i (ap (opening ts aliases (d + 1)) (sym p) ∙ k)
       ∙ ap (λ o. going ts some_attributes (within (d + 1 + 1) (o + 1)) (o + 1)) (sym p)
       ∙ ap (λ i. going ts some_attributes (within (d + 1 + 1) i) i) (sym q)
 
   -- a list up to its second closing parenthesis, which leaves the place behind it
-  close_at : (xs : List Attribute) (n : ℕ) → going ts some_attributes (token (a_close []) (done xs)) n ≡ then (one_token ts (a_close []) n) (λ u e. Ok (xs, e))
+  close_at : (xs : List Attribute) (n : ℕ) → going ts some_attributes (token (a_close aliases) (done xs)) n ≡ then (one_token ts (a_close aliases) n) (λ u e. Ok (xs, e))
   unfolding one_token
-  close_at xs n = close-law (sees ts (a_close []) n) xs n
+  close_at xs n = close-law (sees ts (a_close aliases) n) xs n
 
-  closing_gives : (xs : List Attribute) (n : ℕ) (r : Result ℕ SyntaxRefusal) → Gives passed r (one_token ts (a_close []) n)
-      → Gives (λ e. (xs, e)) r (then (one_token ts (a_close []) n) (λ u e. Ok (xs, e)))
+  closing_gives : (xs : List Attribute) (n : ℕ) (r : Result ℕ SyntaxRefusal) → Gives passed r (one_token ts (a_close aliases) n)
+      → Gives (λ e. (xs, e)) r (then (one_token ts (a_close aliases) n) (λ u e. Ok (xs, e)))
   closing_gives xs n (Ok e) h = goes _ _ tt e h
   closing_gives xs n (Err e) h = fails_then e _ _ h
 
   -- with entries
-  full_at : (front : List Attribute) (d m o i : ℕ) → sign_at ts [] m ≡ sign.Attribute
-      → opening ts d (m + 1) ≡ Ok (tt, o) → o ≡ m + 1 + 1 → opening ts (d + 1) o ≡ Ok (tt, i) → i ≡ o + 1 → sees ts (a_close []) i ≡ false
-      → after front (read ts some_attributes (group [] d) m)
-      ≡ then (after front (read ts some_attributes (entries [] (d + 1 + 1)) i)) (λ xs n. then (one_token ts (a_close []) n) (λ u e. Ok (xs, e)))
+  full_at : (front : List Attribute) (d m o i : ℕ) → sign_at ts aliases m ≡ sign.Attribute
+      → opening ts aliases d (m + 1) ≡ Ok (tt, o) → o ≡ m + 1 + 1 → opening ts aliases (d + 1) o ≡ Ok (tt, i) → i ≡ o + 1 → sees ts (a_close aliases) i ≡ false
+      → after front (read ts some_attributes (group aliases d) m)
+      ≡ then (after front (read ts some_attributes (entries aliases (d + 1 + 1)) i)) (λ xs n. then (one_token ts (a_close aliases) n) (λ u e. Ok (xs, e)))
   full_at front d m o i s h p k q c =
       ap (after front)
       (opened_at d m o i s h p k q ∙ other _ _ _ c
-      ∙ then-same (read ts some_attributes (entries [] (d + 1 + 1)) i) _ (λ xs n. then (one_token ts (a_close []) n) (λ u e. Ok (xs, e))) (λ xs n. close_at xs n))
-      ∙ after-then front (read ts some_attributes (entries [] (d + 1 + 1)) i) _ (λ xs n. after-close front xs (one_token ts (a_close []) n))
+      ∙ then-same (read ts some_attributes (entries aliases (d + 1 + 1)) i) _ (λ xs n. then (one_token ts (a_close aliases) n) (λ u e. Ok (xs, e))) (λ xs n. close_at xs n))
+      ∙ after-then front (read ts some_attributes (entries aliases (d + 1 + 1)) i) _ (λ xs n. after-close front xs (one_token ts (a_close aliases) n))
 
-  pub bracketed_empty : (xs : List Attr) (d m o i : ℕ) (r : Result ℕ SyntaxRefusal) → sign_at ts [] m ≡ sign.Attribute
-      → opening ts d (m + 1) ≡ Ok (tt, o) → o ≡ m + 1 + 1 → opening ts (d + 1) o ≡ Ok (tt, i) → i ≡ o + 1
-      → sees ts (a_close []) i ≡ true → Gives passed r (one_token ts (a_close []) (i + 1))
-      → Gives (λ e. (attr_shapes xs, e)) r (after (attr_shapes xs) (read ts some_attributes (group [] d) m))
+  pub bracketed_empty : (xs : List Attr) (d m o i : ℕ) (r : Result ℕ SyntaxRefusal) → sign_at ts aliases m ≡ sign.Attribute
+      → opening ts aliases d (m + 1) ≡ Ok (tt, o) → o ≡ m + 1 + 1 → opening ts aliases (d + 1) o ≡ Ok (tt, i) → i ≡ o + 1
+      → sees ts (a_close aliases) i ≡ true → Gives passed r (one_token ts (a_close aliases) (i + 1))
+      → Gives (λ e. (attr_shapes xs, e)) r (after (attr_shapes xs) (read ts some_attributes (group aliases d) m))
   bracketed_empty xs d m o i r s h p k q c g =
       gives_same (λ e. (attr_shapes xs, e)) r _ _
       (ap (after (attr_shapes xs)) (opened_at d m o i s h p k q ∙ chosen _ _ _ c ∙ chosen _ _ _ c ∙ close_at [] (i + 1))
-      ∙ after-close (attr_shapes xs) [] (one_token ts (a_close []) (i + 1)) ∙ ap (λ ys. then (one_token ts (a_close []) (i + 1)) (λ u e. Ok (ys, e))) (append-nil (attr_shapes xs)))
+      ∙ after-close (attr_shapes xs) [] (one_token ts (a_close aliases) (i + 1)) ∙ ap (λ ys. then (one_token ts (a_close aliases) (i + 1)) (λ u e. Ok (ys, e))) (append-nil (attr_shapes xs)))
       (closing_gives (attr_shapes xs) (i + 1) r g)
 
-  pub bracketed_full : (xs ys : List Attr) (d m o i n : ℕ) (r : Result ℕ SyntaxRefusal) → sign_at ts [] m ≡ sign.Attribute
-      → opening ts d (m + 1) ≡ Ok (tt, o) → o ≡ m + 1 + 1 → opening ts (d + 1) o ≡ Ok (tt, i) → i ≡ o + 1
-      → sees ts (a_close []) i ≡ false → after (attr_shapes xs) (read ts some_attributes (entries [] (d + 1 + 1)) i) ≡ Ok (attr_shapes ys, n)
-      → Gives passed r (one_token ts (a_close []) n)
-      → Gives (λ e. (attr_shapes ys, e)) r (after (attr_shapes xs) (read ts some_attributes (group [] d) m))
+  pub bracketed_full : (xs ys : List Attr) (d m o i n : ℕ) (r : Result ℕ SyntaxRefusal) → sign_at ts aliases m ≡ sign.Attribute
+      → opening ts aliases d (m + 1) ≡ Ok (tt, o) → o ≡ m + 1 + 1 → opening ts aliases (d + 1) o ≡ Ok (tt, i) → i ≡ o + 1
+      → sees ts (a_close aliases) i ≡ false → after (attr_shapes xs) (read ts some_attributes (entries aliases (d + 1 + 1)) i) ≡ Ok (attr_shapes ys, n)
+      → Gives passed r (one_token ts (a_close aliases) n)
+      → Gives (λ e. (attr_shapes ys, e)) r (after (attr_shapes xs) (read ts some_attributes (group aliases d) m))
   bracketed_full xs ys d m o i n r s h p k q c e g =
       gives_same (λ e. (attr_shapes ys, e)) r _ _
       (full_at (attr_shapes xs) d m o i s h p k q c ∙ goes _ _ (attr_shapes ys) n e) (closing_gives (attr_shapes ys) n r g)
 
-  pub bracketed_fails : (xs : List Attr) (d m o i : ℕ) (e : SyntaxRefusal) → sign_at ts [] m ≡ sign.Attribute
-      → opening ts d (m + 1) ≡ Ok (tt, o) → o ≡ m + 1 + 1 → opening ts (d + 1) o ≡ Ok (tt, i) → i ≡ o + 1
-      → sees ts (a_close []) i ≡ false → Fails e (after (attr_shapes xs) (read ts some_attributes (entries [] (d + 1 + 1)) i))
-      → Fails e (after (attr_shapes xs) (read ts some_attributes (group [] d) m))
+  pub bracketed_fails : (xs : List Attr) (d m o i : ℕ) (e : SyntaxRefusal) → sign_at ts aliases m ≡ sign.Attribute
+      → opening ts aliases d (m + 1) ≡ Ok (tt, o) → o ≡ m + 1 + 1 → opening ts aliases (d + 1) o ≡ Ok (tt, i) → i ≡ o + 1
+      → sees ts (a_close aliases) i ≡ false → Fails e (after (attr_shapes xs) (read ts some_attributes (entries aliases (d + 1 + 1)) i))
+      → Fails e (after (attr_shapes xs) (read ts some_attributes (group aliases d) m))
   bracketed_fails xs d m o i e s h p k q c f = fails_same e _ _ (full_at (attr_shapes xs) d m o i s h p k q c) (fails_then e _ _ f)
 
   -- groups one by one
@@ -159,43 +159,45 @@ module _ (ts : List Lexeme) where
   on-law front xs false n r = then-ok (xs ++ []) n _ ∙ ap (λ ys. Ok (front ++ ys, n)) (append-nil xs)
 
   abbrev groups_on : (d : ℕ) → List Attribute → ℕ → Outcome (List Attribute)
-  groups_on d xs n = choose (is_attribute_sign (sign_at ts [] n)) (after xs (read ts some_attributes (attributes [] d) n)) (Ok (xs, n))
+  groups_on d xs n = choose (is_attribute_sign (sign_at ts aliases n)) (after xs (read ts some_attributes (attributes aliases d) n)) (Ok (xs, n))
 
   after-groups : (front : List Attribute) (d m : ℕ)
-      → after front (read ts some_attributes (attributes [] d) m) ≡ then (after front (read ts some_attributes (group [] d) m)) (groups_on d)
+      → after front (read ts some_attributes (attributes aliases d) m) ≡ then (after front (read ts some_attributes (group aliases d) m)) (groups_on d)
   after-groups front d m =
-      ap (after front) (read_steps ts some_attributes (attributes [] d) m)
-      ∙ after-then-as front (read ts some_attributes (group [] d) m) _ (groups_on d)
-      (λ xs n. on-law front xs (is_attribute_sign (sign_at ts [] n)) n (read ts some_attributes (attributes [] d) n))
+      ap (after front) (read_steps ts some_attributes (attributes aliases d) m)
+      ∙ after-then-as front (read ts some_attributes (group aliases d) m) _ (groups_on d)
+      (λ xs n. on-law front xs (is_attribute_sign (sign_at ts aliases n)) n (read ts some_attributes (attributes aliases d) n))
 
-  pub many_fail : (xs : List Attr) (d m : ℕ) (e : SyntaxRefusal) → Fails e (after (attr_shapes xs) (read ts some_attributes (group [] d) m))
-      → Fails e (after (attr_shapes xs) (read ts some_attributes (attributes [] d) m))
+  pub many_fail : (xs : List Attr) (d m : ℕ) (e : SyntaxRefusal) → Fails e (after (attr_shapes xs) (read ts some_attributes (group aliases d) m))
+      → Fails e (after (attr_shapes xs) (read ts some_attributes (attributes aliases d) m))
   many_fail xs d m e h = fails_same e _ _ (after-groups (attr_shapes xs) d m) (fails_then e _ _ h)
 
-  pub many_last : (xs ys : List Attr) (d m n : ℕ) → after (attr_shapes xs) (read ts some_attributes (group [] d) m) ≡ Ok (attr_shapes ys, n)
-      → is_attribute_sign (sign_at ts [] n) ≡ false
-      → after (attr_shapes xs) (read ts some_attributes (attributes [] d) m) ≡ Ok (attr_shapes ys, n)
+  pub many_last : (xs ys : List Attr) (d m n : ℕ) → after (attr_shapes xs) (read ts some_attributes (group aliases d) m) ≡ Ok (attr_shapes ys, n)
+      → is_attribute_sign (sign_at ts aliases n) ≡ false
+      → after (attr_shapes xs) (read ts some_attributes (attributes aliases d) m) ≡ Ok (attr_shapes ys, n)
   many_last xs ys d m n h e = after-groups (attr_shapes xs) d m ∙ goes _ _ (attr_shapes ys) n h ∙ other _ _ _ e
 
-  pub many_more : (xs ys : List Attr) (d m n : ℕ) → after (attr_shapes xs) (read ts some_attributes (group [] d) m) ≡ Ok (attr_shapes ys, n)
-      → is_attribute_sign (sign_at ts [] n) ≡ true
-      → after (attr_shapes xs) (read ts some_attributes (attributes [] d) m) ≡ after (attr_shapes ys) (read ts some_attributes (attributes [] d) n)
+  pub many_more : (xs ys : List Attr) (d m n : ℕ) → after (attr_shapes xs) (read ts some_attributes (group aliases d) m) ≡ Ok (attr_shapes ys, n)
+      → is_attribute_sign (sign_at ts aliases n) ≡ true
+      → after (attr_shapes xs) (read ts some_attributes (attributes aliases d) m) ≡ after (attr_shapes ys) (read ts some_attributes (attributes aliases d) n)
   many_more xs ys d m n h e = after-groups (attr_shapes xs) d m ∙ goes _ _ (attr_shapes ys) n h ∙ chosen _ _ _ e
 
+  -- any number of groups, behind those that were there before
+  pub more_none : (front : List Attribute) (d m : ℕ) → is_attribute_sign (sign_at ts aliases m) ≡ false → after front (read_any ts aliases d m) ≡ Ok (front, m)
+  unfolding read_any then
+  more_none front d m e = ap (after front) (other _ _ _ e) ∙ ap (λ xs. Ok (xs, m)) (append-nil front)
+
+  pub more_same : (front : List Attribute) (d m : ℕ) → is_attribute_sign (sign_at ts aliases m) ≡ true
+      → after front (read_any ts aliases d m) ≡ after front (read ts some_attributes (attributes aliases d) m)
+  unfolding read_any
+  more_same front d m e = ap (after front) (chosen _ _ _ e)
+
   -- any number of groups
-  pub any_none : (d m : ℕ) → is_attribute_sign (sign_at ts [] m) ≡ false → read_any ts [] d m ≡ Ok ([], m)
-  unfolding read_any
-  any_none d m e = other _ _ _ e
+  pub any_fails : (d m : ℕ) (e : SyntaxRefusal) → Fails e (after [] (read_any ts aliases d m)) → Fails e (read_any ts aliases d m)
+  any_fails d m e h = fails_same e _ _ (sym (after-nothing _)) h
 
-  pub any_fails : (d m : ℕ) (e : SyntaxRefusal) → is_attribute_sign (sign_at ts [] m) ≡ true
-      → Fails e (after [] (read ts some_attributes (attributes [] d) m)) → Fails e (read_any ts [] d m)
-  unfolding read_any
-  any_fails d m e s h = fails_same e _ _ (chosen _ _ _ s ∙ sym (after-nothing _)) h
-
-  pub any_goes : (d m : ℕ) (xs : List Attribute) (n : ℕ) → is_attribute_sign (sign_at ts [] m) ≡ true
-      → after [] (read ts some_attributes (attributes [] d) m) ≡ Ok (xs, n) → read_any ts [] d m ≡ Ok (xs, n)
-  unfolding read_any
-  any_goes d m xs n s h = chosen _ _ _ s ∙ sym (after-nothing _) ∙ h
+  pub any_goes : (d m : ℕ) (xs : List Attribute) (n : ℕ) → after [] (read_any ts aliases d m) ≡ Ok (xs, n) → read_any ts aliases d m ≡ Ok (xs, n)
+  any_goes d m xs n h = sym (after-nothing _) ∙ h
 
 pub ruleset groups = (macro_fails, macro_goes, macro_left_out, group_wrong)
 
@@ -203,4 +205,6 @@ pub ruleset bracketed = (bracketed_first, bracketed_second, bracketed_empty, bra
 
 pub ruleset many = (many_fail, many_last, many_more, fails_same, gives_same)
 
-pub ruleset any = (any_none, any_fails, any_goes)
+pub ruleset more = (more_none, more_same, gives_same)
+
+pub ruleset any = (any_fails, any_goes)

@@ -11,7 +11,7 @@ use Rattle.tsa_tree.specs.Attributes.{Attribute, Taking, taking}
 use Rattle.tsa_tree.specs.AttributeSpelling.{attribute}
 use Rattle.tsa_tree.specs.Reads.{read}
 use Rattle.tsa_tree.specs.Rows.{some_arguments, some_attributes, a_skip, series, balanced, Kind, an_open, closing_parenthesis, sees, lacks, arguments_row, entries_end}
-use Rattle.tsa_tree.specs.Signs.{is_word_at, entry_meaning}
+use Rattle.tsa_tree.specs.Signs.{Aliases, is_word_at, entry_meaning}
 use Rattle.tsa_expr.specs.declared.refusal.SyntaxRefusal.{SyntaxRefusal}
 use Rattle.tsa_expr.specs.declared.refusal.SyntaxRefusal.TheVariants.{At, NoMemory}
 use Rattle.tsa_expr.specs.declared.refusal.SyntaxCode.TheVariants.{SY1, AT1, AT2, LM2}
@@ -27,32 +27,33 @@ module _ (tokens : List Lexeme) where
   unfoldable pub one_token : Kind → (at : ℕ) → Outcome (Unit {0})
   one_token k at = choose (sees tokens k at) (Ok (tt, at + 1)) (Err (refuse syntax at))
 
+module _ (tokens : List Lexeme) (aliases : Aliases) where
   -- a parenthesis that opens a construct, where d are open
   unfoldable pub opening : (d at : ℕ) → Outcome (Unit {0})
   opening d at =
-      choose (sees tokens (an_open []) at) (choose (below_limit d) (Ok (tt, at + 1)) (Err (refuse deep at))) (Err (refuse syntax at))
+      choose (sees tokens (an_open aliases) at) (choose (below_limit d) (Ok (tt, at + 1)) (Err (refuse deep at))) (Err (refuse syntax at))
 
   -- what the attribute at m takes, behind its parenthesis
   unfoldable pub arguments_at : (d : ℕ) → AttrKind → (m : ℕ) → Taking → Outcome (List Attribute)
   arguments_at d k m takes =
-      follow (sees tokens) below_limit (read tokens) some_attributes (arguments_row tokens [] d k m takes (λ x e. done (x ∷ []))) (m + 1 + 1)
+      follow (sees tokens) below_limit (read tokens) some_attributes (arguments_row tokens aliases d k m takes (λ x e. done (x ∷ []))) (m + 1 + 1)
 
   -- expressions from a place on, as the arguments of the attribute at m
   unfoldable pub series_at : (d : ℕ) → AttrKind → (m : ℕ) → Option Bool → (at : ℕ) → Outcome (List Attribute)
   series_at d k m success at =
-      then (read tokens some_arguments (series [] d) at) (λ xs n. Ok (attribute tokens k None success xs m n ∷ [], n))
+      then (read tokens some_arguments (series aliases d) at) (λ xs n. Ok (attribute tokens k None success xs m n ∷ [], n))
 
   -- the attribute whose name or macro word stands at m
   unfoldable pub attribute_at : (d : ℕ) → AttrKind → (m : ℕ) → Outcome (List Attribute)
   attribute_at d k m =
-      choose (lacks tokens [] k m) (Err (refuse (barred lacking) m))
+      choose (lacks tokens aliases k m) (Err (refuse (barred lacking) m))
       (then (opening d (m + 1)) (λ u n. arguments_at (d + 1) k m (taking k)))
 
   -- the name at m that says nothing of threads, with its list where it has one
   unfoldable pub ignored_at : (d m : ℕ) → Outcome (Unit {0})
   ignored_at d m =
-      choose (sees tokens (an_open []) (m + 1))
-      (then (opening d (m + 1)) (λ u n. read tokens a_skip (balanced [] (d + 1) closing_parenthesis) n)) (Ok (tt, m + 1))
+      choose (sees tokens (an_open aliases) (m + 1))
+      (then (opening d (m + 1)) (λ u n. read tokens a_skip (balanced aliases (d + 1) closing_parenthesis) n)) (Ok (tt, m + 1))
 
   abbrev pub entry_by : (d m : ℕ) → Meaning → Outcome (List Attribute)
   entry_by d m (mean.Known k) = attribute_at d k m
@@ -61,11 +62,11 @@ module _ (tokens : List Lexeme) where
 
   -- what stands between two commas of a list of attributes
   unfoldable pub entry_at : (d m : ℕ) → Outcome (List Attribute)
-  entry_at d m = choose (is_word_at tokens m) (entry_by d m (entry_meaning tokens [] m)) (Err (refuse syntax m))
+  entry_at d m = choose (is_word_at tokens m) (entry_by d m (entry_meaning tokens aliases m)) (Err (refuse syntax m))
 
   -- the entries behind some that end at e
   unfoldable pub entries_on : (d : ℕ) → List Attribute → (e : ℕ) → Outcome (List Attribute)
-  entries_on d front e = follow (sees tokens) below_limit (read tokens) some_attributes (entries_end tokens [] d front e) e
+  entries_on d front e = follow (sees tokens) below_limit (read tokens) some_attributes (entries_end tokens aliases d front e) e
 
 -- a refusal of attributes: SY1, AT1, AT2, LM2 or want of memory
 abbrev pub IsOfAttributes : SyntaxRefusal → Type 0

@@ -1,15 +1,16 @@
 //! Balanced tokens are passed over.
-ghost use Rattle.std.specs.Prelude.{◌≡◌, ◌+◌, ◌≤◌, ◌<◌, length, nat_eq, suc, [], IfOk};
+ghost use Rattle.std.specs.Prelude.{◌≡◌, ◌+◌, ◌≤◌, ◌<◌, length, nat_eq, suc, IfOk};
 ghost use Rattle.tsa_base.specs.declared.limits.TheConstants.{INPUT_LIMIT, NESTING_LIMIT};
 ghost use Rattle.tsa_tree.specs.Reads.{read};
 ghost use Rattle.tsa_tree.specs.Rows.{mark, a_skip, balanced as balanced_call, closer_kind};
 ghost use Rattle.tsa_tree.specs.Signs.{lexemes};
 ghost use Rattle.tsa_expr.specs.Gives.{Gives};
+ghost use Rattle.tsa_expr.specs.Known.{known};
 ghost use Rattle.tsa_attr.specs.Seen.{passed, row_closer, opened_by};
 
-use crate::view::{is_plain, refuse};
+use crate::view::is_plain;
 use tsa_base::{NESTING_LIMIT, Token};
-use tsa_expr::{SyntaxCode, SyntaxRefusal, sign_at};
+use tsa_expr::{Aliases, SyntaxCode, SyntaxRefusal, refuse, sign_at};
 use tsa_tree::sign::Sign;
 
 /// What closes balanced tokens.
@@ -58,17 +59,18 @@ pub fn balanced(
     tokens: &[Token<'_>],
     at: u32,
     depth: u32,
+    aliases: Option<&Aliases>,
     closer: Closer,
 ) -> Result<u32, SyntaxRefusal>
     requires room { length tokens.now ≤ INPUT_LIMIT }
     requires within { at ≤ length tokens.now }
     requires shallow { depth ≤ NESTING_LIMIT }
-    ensures gives { Gives passed result (read (lexemes tokens.now) a_skip (balanced_call [] depth (row_closer closer)) at) }
+    ensures gives { Gives passed result (read (lexemes tokens.now) a_skip (balanced_call (known aliases.entry) depth (row_closer closer)) at) }
     ensures ends { IfOk result (λ next. (at < next) × (next ≤ length tokens.now)) }
 {
     let mut next = at;
     'tokens: loop {
-        let sign = sign_at(tokens, next);
+        let sign = sign_at(tokens, next, aliases);
         if closes(closer, sign) {
             return Ok(next + 1);
         }
@@ -77,7 +79,7 @@ pub fn balanced(
                 if depth >= NESTING_LIMIT {
                     return Err(refuse(SyntaxCode::LM2, next));
                 }
-                next = balanced(tokens, next + 1, depth + 1, inner)?;
+                next = balanced(tokens, next + 1, depth + 1, aliases, inner)?;
             }
             None => {
                 if !is_plain(sign) {

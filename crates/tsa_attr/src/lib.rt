@@ -9,7 +9,10 @@ mod reader;
 mod takes;
 mod view;
 
-pub use read::read_attributes;
+pub use read::{read_attributes, read_groups, read_more};
+pub use view::begins_group;
 
+#[cfg(test)]
+mod alias_tests;
 #[cfg(test)]
 mod tests;

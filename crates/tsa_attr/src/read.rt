@@ -6,20 +6,22 @@ ghost use Rattle.tsa_tree.specs.AttributeRefusals as reason;
 ghost use Rattle.tsa_tree.specs.Attributes.{attr_shapes};
 ghost use Rattle.tsa_tree.specs.Signs.{lexemes};
 ghost use Rattle.tsa_expr.specs.Gives.{Gives};
-ghost use Rattle.tsa_attr.specs.Outcomes.{IsOfAttributes};
+ghost use Rattle.tsa_expr.specs.Known.{known};
+ghost use Rattle.tsa_attr.specs.Outcomes.{IsOfAttributes, after};
 
 use crate::nodes::kept;
 use crate::reader::attributes;
 use crate::view::begins_group;
 use bumpalo::Bump;
 use tsa_base::Token;
-use tsa_expr::{SyntaxCode, SyntaxRefusal, sign_at};
+use tsa_expr::{Aliases, SyntaxCode, SyntaxRefusal, sign_at};
 use tsa_tree::attr::Attr;
 
-/// All attributes that begin at a token, where `depth` constructs are open, and the token after them; none where no group
-/// begins there. Of the tokens from `at` on the longest list that begins attributes decides: SY1 stands at the token after it
-/// where it spells none; AT1 and AT2 at the first attribute, up to that token, that is left out or has no argument; LM2 at the
-/// first token of the list that passes the limit, where no attribute up to there is refused.
+/// All attributes that begin at a token, where `depth` constructs are open and no names of types are known, and the token
+/// after them; none where no group begins there. Of the tokens from `at` on the longest list that begins attributes decides:
+/// SY1 stands at the token after it where it spells none; AT1 and AT2 at the first attribute, up to that token, that is left
+/// out or has no argument; LM2 at the first token of the list that passes the limit, where no attribute up to there is
+/// refused.
 pub fn read_attributes<'a>(
     bump: &'a Bump,
     tokens: &[Token<'_>],
@@ -37,27 +39,47 @@ pub fn read_attributes<'a>(
     ensures no_other { (refusal : _) → IsErrOf result refusal → IsOfAttributes refusal }
     ensures next { IfOk result (λ found. (at ≤ found.1) × (found.1 ≤ length tokens.now)) }
 {
-    read_groups(bump, tokens, at, depth)
+    read_groups(bump, tokens, at, depth, None)
 }
 
-/// The same, as reading by the rows gives it.
+/// All attributes that begin at a token, and the token after them, as reading by the rows gives them.
 #[tactic(auto, using(crate::proofs::Groups::any))]
-fn read_groups<'a>(
+pub fn read_groups<'a>(
     bump: &'a Bump,
     tokens: &[Token<'_>],
     at: u32,
     depth: u32,
+    aliases: Option<&Aliases>,
 ) -> Result<(&'a [Attr<'a>], u32), SyntaxRefusal>
     requires room { length tokens.now ≤ INPUT_LIMIT }
     requires within { at ≤ length tokens.now }
     requires shallow { depth ≤ NESTING_LIMIT }
-    ensures gives { Gives (λ found. (attr_shapes found.0.now, found.1)) result (read_any (lexemes tokens.now) [] depth at) }
+    ensures gives { Gives (λ found. (attr_shapes found.0.now, found.1)) result (read_any (lexemes tokens.now) (known aliases.entry) depth at) }
     ensures ends { IfOk result (λ found. (at ≤ found.1) × (found.1 ≤ length tokens.now)) }
 {
-    if !begins_group(sign_at(tokens, at)) {
-        return Ok((&[], at));
-    }
     let mut items = Vec::new(bump);
-    let next = attributes(bump, tokens, at, depth, &mut items)?;
+    let next = read_more(bump, tokens, at, depth, aliases, &mut items)?;
     Ok((kept(items), next))
+}
+
+/// The same at the end of a list: the groups at a token, none or more, behind those that the list has.
+#[tactic(auto, using(crate::proofs::Groups::more))]
+pub fn read_more<'a>(
+    bump: &'a Bump,
+    tokens: &[Token<'_>],
+    at: u32,
+    depth: u32,
+    aliases: Option<&Aliases>,
+    list: &mut Vec<Attr<'a>, &'a Bump>,
+) -> Result<u32, SyntaxRefusal>
+    requires room { length tokens.now ≤ INPUT_LIMIT }
+    requires within { at ≤ length tokens.now }
+    requires shallow { depth ≤ NESTING_LIMIT }
+    ensures gives { Gives (λ next. (attr_shapes list.new.items, next)) result (after (attr_shapes list.old.items) (read_any (lexemes tokens.now) (known aliases.entry) depth at)) }
+    ensures ends { IfOk result (λ next. (at ≤ next) × (next ≤ length tokens.now)) }
+{
+    if !begins_group(sign_at(tokens, at, aliases)) {
+        return Ok(at);
+    }
+    attributes(bump, tokens, at, depth, aliases, list)
 }

@@ -4,14 +4,17 @@ ghost use Rattle.tsa_base.specs.declared.limits.TheConstants.{INPUT_LIMIT, NESTI
 ghost use Rattle.tsa_tree.specs.Attributes as takes;
 ghost use Rattle.tsa_tree.specs.Signs.{lexemes};
 ghost use Rattle.tsa_expr.specs.Gives.{Gives};
+ghost use Rattle.tsa_expr.specs.Known.{known};
 ghost use Rattle.tsa_attr.specs.Outcomes.{arguments_at, series_at, attribute_at};
 ghost use Rattle.tsa_attr.specs.Seen.{seen};
 
 use crate::nodes::{alone, listed, of_args, of_text, text_at};
-use crate::view::{Content, close, lacks, open, refuse, taking, try_value_at};
+use crate::view::{Content, close, lacks, open, taking, try_value_at};
 use bumpalo::Bump;
 use tsa_base::Token;
-use tsa_expr::{SyntaxCode, SyntaxRefusal, read_expression, read_series, sign_at, span_over};
+use tsa_expr::{
+    Aliases, SyntaxCode, SyntaxRefusal, read_expression, read_series, refuse, sign_at, span_over,
+};
 use tsa_tree::attr::{Attr, AttrKind};
 use tsa_tree::sign::Sign;
 
@@ -29,23 +32,24 @@ pub fn attribute<'a>(
     tokens: &[Token<'_>],
     at: u32,
     depth: u32,
+    aliases: Option<&Aliases>,
     kind: AttrKind,
 ) -> Result<Reading<'a>, SyntaxRefusal>
     requires room { length tokens.now ≤ INPUT_LIMIT }
     requires within { at ≤ length tokens.now }
     requires shallow { depth ≤ NESTING_LIMIT }
-    ensures gives { Gives seen result (attribute_at (lexemes tokens.now) depth kind at) }
+    ensures gives { Gives seen result (attribute_at (lexemes tokens.now) (known aliases.entry) depth kind at) }
     ensures ends { IfOk result (λ r. (at < r.next) × (r.next ≤ length tokens.now)) }
 {
-    if lacks(tokens, at, kind) {
+    if lacks(tokens, at, aliases, kind) {
         return Err(refuse(SyntaxCode::AT2, at));
     }
-    let inside = open(tokens, at + 1, depth)?;
+    let inside = open(tokens, at + 1, depth, aliases)?;
     match taking(kind) {
-        Content::Text => text(bump, tokens, at, depth + 1, kind),
-        Content::Expression => expression(bump, tokens, at, depth + 1, kind),
-        Content::Expressions => expressions(bump, tokens, at, depth + 1, kind),
-        Content::Try => attempt(bump, tokens, at, depth + 1, kind),
+        Content::Text => text(bump, tokens, at, depth + 1, aliases, kind),
+        Content::Expression => expression(bump, tokens, at, depth + 1, aliases, kind),
+        Content::Expressions => expressions(bump, tokens, at, depth + 1, aliases, kind),
+        Content::Try => attempt(bump, tokens, at, depth + 1, aliases, kind),
     }
 }
 
@@ -56,17 +60,18 @@ fn text<'a>(
     tokens: &[Token<'_>],
     at: u32,
     depth: u32,
+    aliases: Option<&Aliases>,
     kind: AttrKind,
 ) -> Result<Reading<'a>, SyntaxRefusal>
     requires room { length tokens.now ≤ INPUT_LIMIT }
     requires within { at + 1 + 1 ≤ length tokens.now }
-    ensures gives { Gives seen result (arguments_at (lexemes tokens.now) depth kind at takes.a_text) }
+    ensures gives { Gives seen result (arguments_at (lexemes tokens.now) (known aliases.entry) depth kind at takes.a_text) }
     ensures ends { IfOk result (λ r. (at < r.next) × (r.next ≤ length tokens.now)) }
 {
-    let Sign::Text = sign_at(tokens, at + 1 + 1) else {
+    let Sign::Text = sign_at(tokens, at + 1 + 1, aliases) else {
         return Err(refuse(SyntaxCode::SY1, at + 1 + 1));
     };
-    let next = close(tokens, at + 1 + 1 + 1)?;
+    let next = close(tokens, at + 1 + 1 + 1, aliases)?;
     let text = text_at(bump, tokens, at + 1 + 1)?;
     Ok(of_text(kind, text, span_over(tokens, at, next), next))
 }
@@ -78,16 +83,17 @@ fn expression<'a>(
     tokens: &[Token<'_>],
     at: u32,
     depth: u32,
+    aliases: Option<&Aliases>,
     kind: AttrKind,
 ) -> Result<Reading<'a>, SyntaxRefusal>
     requires room { length tokens.now ≤ INPUT_LIMIT }
     requires within { at + 1 + 1 ≤ length tokens.now }
     requires shallow { depth ≤ NESTING_LIMIT }
-    ensures gives { Gives seen result (arguments_at (lexemes tokens.now) depth kind at takes.one_expression) }
+    ensures gives { Gives seen result (arguments_at (lexemes tokens.now) (known aliases.entry) depth kind at takes.one_expression) }
     ensures ends { IfOk result (λ r. (at < r.next) × (r.next ≤ length tokens.now)) }
 {
-    let inner = read_expression(bump, tokens, at + 1 + 1, depth)?;
-    let next = close(tokens, inner.next)?;
+    let inner = read_expression(bump, tokens, at + 1 + 1, depth, aliases)?;
+    let next = close(tokens, inner.next, aliases)?;
     let args = alone(bump, inner.tree)?;
     let span = span_over(tokens, at, next);
     Ok(of_args(kind, None, args, span, next))
@@ -100,15 +106,16 @@ fn expressions<'a>(
     tokens: &[Token<'_>],
     at: u32,
     depth: u32,
+    aliases: Option<&Aliases>,
     kind: AttrKind,
 ) -> Result<Reading<'a>, SyntaxRefusal>
     requires room { length tokens.now ≤ INPUT_LIMIT }
     requires within { at + 1 + 1 ≤ length tokens.now }
     requires shallow { depth ≤ NESTING_LIMIT }
-    ensures gives { Gives seen result (arguments_at (lexemes tokens.now) depth kind at takes.expressions) }
+    ensures gives { Gives seen result (arguments_at (lexemes tokens.now) (known aliases.entry) depth kind at takes.expressions) }
     ensures ends { IfOk result (λ r. (at < r.next) × (r.next ≤ length tokens.now)) }
 {
-    series(bump, tokens, at, depth, kind, None, at + 1 + 1)
+    series(bump, tokens, at, depth, aliases, kind, None, at + 1 + 1)
 }
 
 /// The result of a try, a comma, expressions and the closing parenthesis.
@@ -118,18 +125,19 @@ fn attempt<'a>(
     tokens: &[Token<'_>],
     at: u32,
     depth: u32,
+    aliases: Option<&Aliases>,
     kind: AttrKind,
 ) -> Result<Reading<'a>, SyntaxRefusal>
     requires room { length tokens.now ≤ INPUT_LIMIT }
     requires within { at + 1 + 1 ≤ length tokens.now }
     requires shallow { depth ≤ NESTING_LIMIT }
-    ensures gives { Gives seen result (arguments_at (lexemes tokens.now) depth kind at takes.a_try) }
+    ensures gives { Gives seen result (arguments_at (lexemes tokens.now) (known aliases.entry) depth kind at takes.a_try) }
     ensures ends { IfOk result (λ r. (at < r.next) × (r.next ≤ length tokens.now)) }
 {
     let Some(success) = try_value_at(tokens, at + 1 + 1) else {
         return Err(refuse(SyntaxCode::SY1, at + 1 + 1));
     };
-    let Sign::Comma = sign_at(tokens, at + 1 + 1 + 1) else {
+    let Sign::Comma = sign_at(tokens, at + 1 + 1 + 1, aliases) else {
         return Err(refuse(SyntaxCode::SY1, at + 1 + 1 + 1));
     };
     series(
@@ -137,6 +145,7 @@ fn attempt<'a>(
         tokens,
         at,
         depth,
+        aliases,
         kind,
         Some(success),
         at + 1 + 1 + 1 + 1,
@@ -150,6 +159,7 @@ fn series<'a>(
     tokens: &[Token<'_>],
     at: u32,
     depth: u32,
+    aliases: Option<&Aliases>,
     kind: AttrKind,
     success: Option<bool>,
     from: u32,
@@ -158,11 +168,11 @@ fn series<'a>(
     requires behind { at < from }
     requires within { from ≤ length tokens.now }
     requires shallow { depth ≤ NESTING_LIMIT }
-    ensures gives { Gives seen result (series_at (lexemes tokens.now) depth kind at success from) }
+    ensures gives { Gives seen result (series_at (lexemes tokens.now) (known aliases.entry) depth kind at success from) }
     ensures ends { IfOk result (λ r. (at < r.next) × (r.next ≤ length tokens.now)) }
 {
     let mut items = Vec::new(bump);
-    let next = read_series(bump, tokens, from, depth, &mut items)?;
+    let next = read_series(bump, tokens, from, depth, aliases, &mut items)?;
     let span = span_over(tokens, at, next);
     Ok(of_args(kind, success, listed(items), span, next))
 }

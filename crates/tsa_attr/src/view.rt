@@ -1,16 +1,17 @@
 //! What attributes see at a place of the tokens.
-ghost use Rattle.std.specs.Prelude.{◌≡◌, ◌+◌, ◌≤◌, ◌<◌, length, [], Some, None, IfOk, OnOk};
+ghost use Rattle.std.specs.Prelude.{◌≡◌, ◌+◌, ◌≤◌, ◌<◌, length, Some, None, IfOk, OnOk};
 ghost use Rattle.std.specs.Str.{bytes_eq};
 ghost use Rattle.tsa_base.specs.declared.limits.TheConstants.{INPUT_LIMIT, NESTING_LIMIT};
 ghost use Rattle.tsa_tree.specs.Attributes.{try_value as spec_try, taking as spec_taking};
 ghost use Rattle.tsa_tree.specs.Rows.{sees, a_close, is_attribute_sign as spec_begins, lacks as spec_lacks, lacking_at, takes_result as spec_takes};
 ghost use Rattle.tsa_tree.specs.Signs.{lexemes, identifier_at, is_plain_sign as spec_plain, entry_meaning as spec_meaning};
 ghost use Rattle.tsa_expr.specs.Gives.{Gives};
+ghost use Rattle.tsa_expr.specs.Known.{known};
 ghost use Rattle.tsa_attr.specs.Outcomes.{opening, one_token};
 ghost use Rattle.tsa_attr.specs.Seen.{passed, taking_of};
 
 use tsa_base::{NESTING_LIMIT, Token};
-use tsa_expr::{SyntaxCode, SyntaxRefusal, meaning_at, sign_at};
+use tsa_expr::{Aliases, SyntaxCode, SyntaxRefusal, meaning_at, refuse, sign_at};
 use tsa_tree::attr::AttrKind;
 use tsa_tree::sign::{Meaning, Sign};
 
@@ -46,12 +47,6 @@ pub fn taking(kind: AttrKind) -> Content
     }
 }
 
-pub fn refuse(code: SyntaxCode, token: u32) -> SyntaxRefusal
-    ensures { result ≡ SyntaxRefusal.At code token }
-{
-    SyntaxRefusal::At { code, token }
-}
-
 /// Whether a group of attributes can begin with a sign.
 pub fn begins_group(sign: Sign) -> bool
     ensures { result ≡ spec_begins sign }
@@ -79,25 +74,26 @@ pub fn is_plain(sign: Sign) -> bool
 }
 
 /// Whether a closing parenthesis stands at a place.
-pub fn is_close_at(tokens: &[Token<'_>], at: u32) -> bool
-    ensures { result ≡ sees (lexemes tokens.now) (a_close []) at }
+pub fn is_close_at(tokens: &[Token<'_>], at: u32, aliases: Option<&Aliases>) -> bool
+    ensures { result ≡ sees (lexemes tokens.now) (a_close (known aliases.entry)) at }
 {
-    match sign_at(tokens, at) {
+    match sign_at(tokens, at, aliases) {
         Sign::Close => true,
         _ => false,
     }
 }
 
 /// What the word at a place means in a list of attributes.
-pub fn entry_meaning(tokens: &[Token<'_>], at: u32) -> Meaning
-    ensures { result ≡ spec_meaning (lexemes tokens.now) [] at }
+pub fn entry_meaning(tokens: &[Token<'_>], at: u32, aliases: Option<&Aliases>) -> Meaning
+    ensures { result ≡ spec_meaning (lexemes tokens.now) (known aliases.entry) at }
 {
-    match sign_at(tokens, at) {
+    match sign_at(tokens, at, aliases) {
         Sign::LeftOutMacro => Meaning::LeftOut,
         _ => meaning_at(tokens, at),
     }
 }
 
+/// Whether a text is a word.
 fn is(text: &[u8], word: &[u8]) -> bool
     ensures { result ≡ bytes_eq text.now word.now }
 {
@@ -133,6 +129,7 @@ pub fn try_value_at(tokens: &[Token<'_>], at: u32) -> Option<bool>
     }
 }
 
+/// Whether an attribute of a kind takes the result of a try.
 fn takes_result(kind: AttrKind) -> bool
     ensures { result ≡ spec_takes (spec_taking kind) }
 {
@@ -143,45 +140,50 @@ fn takes_result(kind: AttrKind) -> bool
 }
 
 /// Whether the parenthesis of the attribute at a place has nothing in it, or the result of a try alone.
-fn lacks_inside(tokens: &[Token<'_>], at: u32, kind: AttrKind) -> bool
+fn lacks_inside(tokens: &[Token<'_>], at: u32, aliases: Option<&Aliases>, kind: AttrKind) -> bool
     requires room { length tokens.now ≤ INPUT_LIMIT }
     requires within { at ≤ length tokens.now }
-    ensures { result ≡ lacking_at (lexemes tokens.now) [] kind at Sign.Open }
+    ensures { result ≡ lacking_at (lexemes tokens.now) (known aliases.entry) kind at Sign.Open }
 {
-    if is_close_at(tokens, at + 1 + 1) {
+    if is_close_at(tokens, at + 1 + 1, aliases) {
         return true;
     }
     if !takes_result(kind) {
         return false;
     }
     match try_value_at(tokens, at + 1 + 1) {
-        Some(_) => is_close_at(tokens, at + 1 + 1 + 1),
+        Some(_) => is_close_at(tokens, at + 1 + 1 + 1, aliases),
         None => false,
     }
 }
 
 /// Whether the attribute whose name stands at a place has no argument.
-pub fn lacks(tokens: &[Token<'_>], at: u32, kind: AttrKind) -> bool
+pub fn lacks(tokens: &[Token<'_>], at: u32, aliases: Option<&Aliases>, kind: AttrKind) -> bool
     requires room { length tokens.now ≤ INPUT_LIMIT }
     requires within { at ≤ length tokens.now }
-    ensures { result ≡ spec_lacks (lexemes tokens.now) [] kind at }
+    ensures { result ≡ spec_lacks (lexemes tokens.now) (known aliases.entry) kind at }
 {
-    match sign_at(tokens, at + 1) {
+    match sign_at(tokens, at + 1, aliases) {
         Sign::End => false,
-        Sign::Open => lacks_inside(tokens, at, kind),
+        Sign::Open => lacks_inside(tokens, at, aliases, kind),
         _ => true,
     }
 }
 
 /// The place behind a parenthesis that opens a construct.
 #[tactic(auto, using(crate::proofs::Openings::openings))]
-pub fn open(tokens: &[Token<'_>], at: u32, depth: u32) -> Result<u32, SyntaxRefusal>
+pub fn open(
+    tokens: &[Token<'_>],
+    at: u32,
+    depth: u32,
+    aliases: Option<&Aliases>,
+) -> Result<u32, SyntaxRefusal>
     requires room { length tokens.now ≤ INPUT_LIMIT }
-    ensures gives { Gives passed result (opening (lexemes tokens.now) depth at) }
+    ensures gives { Gives passed result (opening (lexemes tokens.now) (known aliases.entry) depth at) }
     ensures ends { IfOk result (λ next. (next ≡ at + 1) × (at < length tokens.now)) }
     ensures low { OnOk result (depth < NESTING_LIMIT) }
 {
-    let Sign::Open = sign_at(tokens, at) else {
+    let Sign::Open = sign_at(tokens, at, aliases) else {
         return Err(refuse(SyntaxCode::SY1, at));
     };
     if depth >= NESTING_LIMIT {
@@ -192,12 +194,12 @@ pub fn open(tokens: &[Token<'_>], at: u32, depth: u32) -> Result<u32, SyntaxRefu
 
 /// The place behind a closing parenthesis.
 #[tactic(auto, using(crate::proofs::Openings::closings))]
-pub fn close(tokens: &[Token<'_>], at: u32) -> Result<u32, SyntaxRefusal>
+pub fn close(tokens: &[Token<'_>], at: u32, aliases: Option<&Aliases>) -> Result<u32, SyntaxRefusal>
     requires room { length tokens.now ≤ INPUT_LIMIT }
-    ensures gives { Gives passed result (one_token (lexemes tokens.now) (a_close []) at) }
+    ensures gives { Gives passed result (one_token (lexemes tokens.now) (a_close (known aliases.entry)) at) }
     ensures ends { IfOk result (λ next. (next ≡ at + 1) × (at < length tokens.now)) }
 {
-    let Sign::Close = sign_at(tokens, at) else {
+    let Sign::Close = sign_at(tokens, at, aliases) else {
         return Err(refuse(SyntaxCode::SY1, at));
     };
     Ok(at + 1)

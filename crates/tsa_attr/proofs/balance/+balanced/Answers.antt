@@ -7,5 +7,5 @@ pub returns-then-depth-ge-NESTING_LIMIT-clause-gives :
 returns-then-depth-ge-NESTING_LIMIT-clause-gives t c =
     fails_deep c.refuse.result _ c.tokens.next c.refuse.ensures
     (c.tokens.invariant.2
-    ∙ balance_deep _ c.args.depth c.args.closer c.tokens.next c.in-Some.inner c.sign_at-sign.result c.sign_at-sign.ensures.is
+    ∙ balance_deep _ _ c.args.depth c.args.closer c.tokens.next c.in-Some.inner c.sign_at-sign.result c.sign_at-sign.ensures.is
     (sym c.closes.ensures ∙ c.if-closes.false) (sym c.opened.ensures ∙ c.in-Some.is) c.if-depth-ge-NESTING_LIMIT.true)
