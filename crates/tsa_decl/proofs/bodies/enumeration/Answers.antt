@@ -1,0 +1,10 @@
+use Rattle.std.proofs.Common.{◌∙◌, sym, ap, refl, Ok}
+use Rattle.tsa_tree.specs.ItemShapes.{item_shapes}
+use Rattle.tsa_decl.proofs.BodyLaws.{enumeration_goes}
+use Rattle.tsa_decl.proofs.bodies.enumeration.Goals as goal
+
+pub returns-clause-gives : goal.returns-clause-gives
+returns-clause-gives c =
+    enumeration_goes _ _ _ _ _ _ _ _ _ _ _ _ _ c.span_over-span.result c.in_ok-values.ensures.gives c.in_ok-alias.ensures.gives c.in_ok-next.ensures.gives
+    c.in_ok-next.ensures.ends.0 c.span_over-span.ensures refl
+    ∙ ap (λ l. Ok (item_shapes l, c.in_ok-next.next)) (sym c.in_ok-keep.ensures.gives)

@@ -1,0 +1,225 @@
+//! Structs and enums are read from their braces on, and the plain aliases of types (C11 6.7.2.1, 6.7.2.2, 6.7.8).
+ghost use Rattle.std.specs.Prelude.{◌≡◌, ◌+◌, ◌≤◌, ◌<◌, length, option_map, IfOk};
+ghost use Rattle.tsa_base.specs.declared.limits.TheConstants.{INPUT_LIMIT};
+ghost use Rattle.tsa_tree.specs.Attributes.{attr_shapes};
+ghost use Rattle.tsa_tree.specs.ItemShapes.{item_shapes};
+ghost use Rattle.tsa_tree.specs.Rows.{alias_end};
+ghost use Rattle.tsa_tree.specs.Shapes.{name_shape};
+ghost use Rattle.tsa_tree.specs.Signs.{lexemes};
+ghost use Rattle.tsa_expr.specs.Gives.{Gives};
+ghost use Rattle.tsa_expr.specs.Known.{known};
+ghost use Rattle.tsa_decl.specs.Outcomes.{after, going_items, body_at, alias_name_at, structure_at, enumeration_at, opening_at as spec_opening};
+ghost use Rattle.tsa_decl.specs.Seen.{seen_body, seen_named, seen_opening, row_type};
+
+use crate::constants::enum_body;
+use crate::declarators::declarator_at;
+use crate::declared::ctype;
+use crate::lists::members;
+use crate::nodes::{keep, listed};
+use crate::types::Specified;
+use crate::view::{name, open_brace, semicolon, tag};
+use bumpalo::Bump;
+use tsa_attr::read_more;
+use tsa_base::Token;
+use tsa_expr::{Aliases, SyntaxRefusal, sign_at, span_over};
+use tsa_tree::attr::Attr;
+use tsa_tree::decl::Decl;
+use tsa_tree::expr::Name;
+use tsa_tree::item::{AliasDef, EnumDef, Item, StructDef};
+use tsa_tree::sign::Sign;
+
+/// The members of a struct, all its attributes, and the token after them.
+#[derive(Clone, Copy)]
+pub struct Body<'a> {
+    pub members: &'a [Decl<'a>],
+    pub attrs: &'a [Attr<'a>],
+    pub next: u32,
+}
+
+/// A name where one is read, and the token after it.
+#[derive(Clone, Copy)]
+pub struct Named<'a> {
+    pub name: Option<Name<'a>>,
+    pub next: u32,
+}
+
+/// What stands before the braces of a struct or an enum: the item's first token, its tag, and the token after that.
+#[derive(Clone, Copy)]
+pub struct Opening<'a> {
+    pub start: u32,
+    pub tag: Option<Name<'a>>,
+    pub next: u32,
+}
+
+/// A tag, where no brace stands instead of it.
+#[tactic(auto, using(crate::proofs::BodyLaws::openings))]
+pub fn opening_at<'a>(
+    bump: &'a Bump,
+    tokens: &[Token<'_>],
+    start: u32,
+    at: u32,
+    aliases: Option<&Aliases>,
+) -> Result<Opening<'a>, SyntaxRefusal>
+    requires room { length tokens.now ≤ INPUT_LIMIT }
+    requires within { at ≤ length tokens.now }
+    ensures gives { Gives seen_opening result (spec_opening (lexemes tokens.now) (known aliases.entry) at) }
+    ensures start { IfOk result (λ r. r.start ≡ start) }
+    ensures ends { IfOk result (λ r. (at ≤ r.next) × (r.next ≤ length tokens.now)) }
+{
+    if let Sign::OpenBrace = sign_at(tokens, at, aliases) {
+        return Ok(Opening {
+            start,
+            tag: None,
+            next: at,
+        });
+    }
+    let tag = tag(bump, tokens, at, aliases)?;
+    Ok(Opening {
+        start,
+        tag: Some(tag),
+        next: at + 1,
+    })
+}
+
+/// Members in their braces, and the attributes behind them, which follow those before the tag.
+#[tactic(auto, using(crate::proofs::BodyLaws::bodies))]
+fn struct_body<'a>(
+    bump: &'a Bump,
+    tokens: &[Token<'_>],
+    at: u32,
+    aliases: Option<&Aliases>,
+    attrs: Vec<Attr<'a>, &'a Bump>,
+) -> Result<Body<'a>, SyntaxRefusal>
+    requires room { length tokens.now ≤ INPUT_LIMIT }
+    requires within { at ≤ length tokens.now }
+    ensures gives { Gives seen_body result (body_at (lexemes tokens.now) (known aliases.entry) (attr_shapes attrs.entry.items) at) }
+    ensures ends { IfOk result (λ r. (at < r.next) × (r.next ≤ length tokens.now)) }
+{
+    let inside = open_brace(tokens, at, 0, aliases)?;
+    let mut list = Vec::new(bump);
+    let behind = members(bump, tokens, inside, aliases, &mut list)?;
+    let mut attrs = attrs;
+    let next = read_more(bump, tokens, behind, 0, aliases, &mut attrs)?;
+    let members = listed(list);
+    let attrs = listed(attrs);
+    Ok(Body {
+        members,
+        attrs,
+        next,
+    })
+}
+
+/// The name of an alias, where the item is a `typedef`.
+#[tactic(auto, using(crate::proofs::BodyLaws::names))]
+fn alias_name<'a>(
+    bump: &'a Bump,
+    tokens: &[Token<'_>],
+    at: u32,
+    aliases: Option<&Aliases>,
+    aliased: bool,
+) -> Result<Named<'a>, SyntaxRefusal>
+    requires room { length tokens.now ≤ INPUT_LIMIT }
+    requires within { at ≤ length tokens.now }
+    ensures gives { Gives seen_named result (alias_name_at (lexemes tokens.now) (known aliases.entry) aliased at) }
+    ensures ends { IfOk result (λ r. (at ≤ r.next) × (r.next ≤ length tokens.now)) }
+{
+    if !aliased {
+        return Ok(Named {
+            name: None,
+            next: at,
+        });
+    }
+    let name = name(bump, tokens, at, aliases)?;
+    Ok(Named {
+        name: Some(name),
+        next: at + 1,
+    })
+}
+
+/// A struct from its braces on, with its alias where it is a `typedef`, at the end of a list of items.
+#[tactic(auto, using(crate::proofs::BodyLaws::structures))]
+pub fn structure<'a>(
+    bump: &'a Bump,
+    tokens: &[Token<'_>],
+    aliases: Option<&Aliases>,
+    opening: Opening<'a>,
+    attrs: Vec<Attr<'a>, &'a Bump>,
+    aliased: bool,
+    list: &mut Vec<Item<'a>, &'a Bump>,
+) -> Result<u32, SyntaxRefusal>
+    requires room { length tokens.now ≤ INPUT_LIMIT }
+    requires within { opening.next ≤ length tokens.now }
+    requires begun { opening.start < opening.next }
+    ensures gives { Gives (λ next. (item_shapes list.new.items, next)) result (after (item_shapes list.old.items) (structure_at (lexemes tokens.now) (known aliases.entry) aliased opening.entry.start (attr_shapes attrs.entry.items) (option_map name_shape opening.entry.tag) opening.entry.next)) }
+    ensures ends { IfOk result (λ next. (opening.entry.next < next) × (next ≤ length tokens.now)) }
+{
+    let body = struct_body(bump, tokens, opening.next, aliases, attrs)?;
+    let alias = alias_name(bump, tokens, body.next, aliases, aliased)?;
+    let next = semicolon(tokens, alias.next, aliases)?;
+    let span = span_over(tokens, opening.start, next);
+    let item = StructDef {
+        tag: opening.tag,
+        alias: alias.name,
+        attrs: body.attrs,
+        members: body.members,
+        span,
+    };
+    keep(list, Item::Structure(item))?;
+    Ok(next)
+}
+
+/// An enum from its braces on, with its alias where it is a `typedef`, at the end of a list of items.
+#[tactic(auto, using(crate::proofs::BodyLaws::enumerations))]
+pub fn enumeration<'a>(
+    bump: &'a Bump,
+    tokens: &[Token<'_>],
+    aliases: Option<&Aliases>,
+    opening: Opening<'a>,
+    aliased: bool,
+    list: &mut Vec<Item<'a>, &'a Bump>,
+) -> Result<u32, SyntaxRefusal>
+    requires room { length tokens.now ≤ INPUT_LIMIT }
+    requires within { opening.next ≤ length tokens.now }
+    requires begun { opening.start < opening.next }
+    ensures gives { Gives (λ next. (item_shapes list.new.items, next)) result (after (item_shapes list.old.items) (enumeration_at (lexemes tokens.now) (known aliases.entry) aliased opening.entry.start (option_map name_shape opening.entry.tag) opening.entry.next)) }
+    ensures ends { IfOk result (λ next. (opening.entry.next < next) × (next ≤ length tokens.now)) }
+{
+    let (values, behind) = enum_body(bump, tokens, opening.next, aliases)?;
+    let alias = alias_name(bump, tokens, behind, aliases, aliased)?;
+    let next = semicolon(tokens, alias.next, aliases)?;
+    let span = span_over(tokens, opening.start, next);
+    let item = EnumDef {
+        tag: opening.tag,
+        alias: alias.name,
+        values,
+        span,
+    };
+    keep(list, Item::Enumeration(item))?;
+    Ok(next)
+}
+
+/// The declarator of an alias behind its type, and its `;`, at the end of a list of items.
+#[tactic(auto, using(crate::proofs::BodyLaws::plain))]
+pub fn plain_alias<'a>(
+    bump: &'a Bump,
+    tokens: &[Token<'_>],
+    aliases: Option<&Aliases>,
+    specified: Specified<'a>,
+    list: &mut Vec<Item<'a>, &'a Bump>,
+) -> Result<u32, SyntaxRefusal>
+    requires room { length tokens.now ≤ INPUT_LIMIT }
+    requires within { specified.next ≤ length tokens.now }
+    ensures gives { Gives (λ next. (item_shapes list.new.items, next)) result (after (item_shapes list.old.items) (going_items (lexemes tokens.now) (alias_end (lexemes tokens.now) (known aliases.entry) (row_type specified.entry) specified.entry.next) specified.entry.next)) }
+    ensures ends { IfOk result (λ next. (specified.entry.next < next) × (next ≤ length tokens.now)) }
+{
+    let of = declarator_at(bump, tokens, specified.next, aliases)?;
+    let next = semicolon(tokens, of.next, aliases)?;
+    let span = span_over(tokens, specified.next, of.next);
+    let item = AliasDef {
+        name: of.name,
+        ctype: ctype(specified, of, None),
+        span,
+    };
+    keep(list, Item::Alias(item))?;
+    Ok(next)
+}

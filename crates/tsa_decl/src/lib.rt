@@ -1,0 +1,25 @@
+//! Reading of declarations: items without a body, heads of functions and locals, into the arena.
+#![tactic(auto)]
+
+mod bodies;
+mod constants;
+mod declarators;
+mod declared;
+mod heads;
+mod initialisers;
+mod items;
+mod lists;
+mod locals;
+mod nodes;
+mod read;
+mod types;
+mod view;
+
+pub use read::{read_declaration, read_head, read_local};
+
+#[cfg(test)]
+mod item_tests;
+#[cfg(test)]
+mod shown;
+#[cfg(test)]
+mod tests;

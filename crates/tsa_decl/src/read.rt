@@ -1,0 +1,110 @@
+//! Items without a body, heads of functions and locals, as the parts of a unit ask for them.
+ghost use Rattle.std.specs.Prelude.{◌≡◌, ◌≤◌, ◌<◌, ℕ, length, [], None, IfOk, IsErrOf};
+ghost use Rattle.tsa_base.specs.declared.limits.TheConstants.{INPUT_LIMIT, NESTING_LIMIT};
+ghost use Rattle.tsa_tree.specs.AttributeRefusals as reason;
+ghost use Rattle.tsa_tree.specs.DeclarationAnswers.{an_item, a_head_alone, some_locals, IsLongest, IsBroken, IsRefused, IsTooDeep};
+ghost use Rattle.tsa_tree.specs.ItemShapes.{decl_shapes, item_shapes, head_shape};
+ghost use Rattle.tsa_tree.specs.Signs.{lexemes};
+ghost use Rattle.tsa_tree.specs.Reads.{read};
+ghost use Rattle.tsa_tree.specs.Rows.{some_items, item as item_call};
+ghost use Rattle.tsa_expr.specs.Gives.{Gives};
+ghost use Rattle.tsa_attr.specs.Outcomes.{IsOfAttributes};
+
+use crate::heads::head;
+use crate::items::item;
+use crate::locals::locals;
+use crate::nodes::listed;
+use bumpalo::Bump;
+use tsa_base::Token;
+use tsa_expr::{Aliases, SyntaxCode, SyntaxRefusal};
+use tsa_tree::decl::Decl;
+use tsa_tree::item::{FnTree, Item};
+
+/// The item without a body that begins at a token, and the token after it: no node for a tag alone, and one for each of
+/// several globals. Of the tokens from `at` on the longest list that begins such an item decides: SY1 stands at the token
+/// after it where it spells none; AT1, AT2 and LM2 stand at the first such token in it, or at the one after it (C11 6.7,
+/// 6.9).
+pub fn read_declaration<'a>(
+    bump: &'a Bump,
+    tokens: &[Token<'_>],
+    at: u32,
+    aliases: &Aliases,
+) -> Result<(&'a [Item<'a>], u32), SyntaxRefusal>
+    requires room { length tokens.now ≤ INPUT_LIMIT }
+    requires within { at ≤ length tokens.now }
+    ensures found { IfOk result (λ found. IsLongest (lexemes tokens.now) aliases.now an_item at (item_shapes found.0.now) found.1) }
+    ensures broken { (token : ℕ) → IsErrOf result (SyntaxRefusal.At SyntaxCode.SY1 token) → IsBroken (lexemes tokens.now) aliases.now an_item at token }
+    ensures left_out { (token : ℕ) → IsErrOf result (SyntaxRefusal.At SyntaxCode.AT1 token) → IsRefused (lexemes tokens.now) aliases.now an_item at reason.left_out token }
+    ensures lacking { (token : ℕ) → IsErrOf result (SyntaxRefusal.At SyntaxCode.AT2 token) → IsRefused (lexemes tokens.now) aliases.now an_item at reason.lacking token }
+    ensures too_deep { (token : ℕ) → IsErrOf result (SyntaxRefusal.At SyntaxCode.LM2 token) → IsTooDeep (lexemes tokens.now) aliases.now an_item at token }
+    ensures no_other { (refusal : _) → IsErrOf result refusal → IsOfAttributes refusal }
+    ensures next { IfOk result (λ found. (at < found.1) × (found.1 ≤ length tokens.now)) }
+{
+    read_items(bump, tokens, at, aliases)
+}
+
+/// The items that the rows give.
+#[tactic(auto, using(crate::proofs::Exact::items))]
+fn read_items<'a>(
+    bump: &'a Bump,
+    tokens: &[Token<'_>],
+    at: u32,
+    aliases: &Aliases,
+) -> Result<(&'a [Item<'a>], u32), SyntaxRefusal>
+    requires room { length tokens.now ≤ INPUT_LIMIT }
+    requires within { at ≤ length tokens.now }
+    ensures gives { Gives (λ found. (item_shapes found.0.now, found.1)) result (read (lexemes tokens.now) some_items (item_call aliases.now) at) }
+    ensures ends { IfOk result (λ found. (at < found.1) × (found.1 ≤ length tokens.now)) }
+{
+    let mut list = Vec::new(bump);
+    let next = item(bump, tokens, at, Some(aliases), &mut list)?;
+    let items = listed(list);
+    Ok((items, next))
+}
+
+/// The head of the function that begins at a token, up to before its `;` or block, and that token; refused as
+/// `read_declaration` refuses. It has no body and no points (C11 6.9.1).
+pub fn read_head<'a>(
+    bump: &'a Bump,
+    tokens: &[Token<'_>],
+    at: u32,
+    aliases: &Aliases,
+) -> Result<(FnTree<'a>, u32), SyntaxRefusal>
+    requires room { length tokens.now ≤ INPUT_LIMIT }
+    requires within { at ≤ length tokens.now }
+    ensures found { IfOk result (λ found. IsLongest (lexemes tokens.now) aliases.now a_head_alone at (head_shape found.0) found.1) }
+    ensures bodiless { IfOk result (λ found. (found.0.body ≡ None) × (found.0.points.now ≡ [])) }
+    ensures broken { (token : ℕ) → IsErrOf result (SyntaxRefusal.At SyntaxCode.SY1 token) → IsBroken (lexemes tokens.now) aliases.now a_head_alone at token }
+    ensures left_out { (token : ℕ) → IsErrOf result (SyntaxRefusal.At SyntaxCode.AT1 token) → IsRefused (lexemes tokens.now) aliases.now a_head_alone at reason.left_out token }
+    ensures lacking { (token : ℕ) → IsErrOf result (SyntaxRefusal.At SyntaxCode.AT2 token) → IsRefused (lexemes tokens.now) aliases.now a_head_alone at reason.lacking token }
+    ensures too_deep { (token : ℕ) → IsErrOf result (SyntaxRefusal.At SyntaxCode.LM2 token) → IsTooDeep (lexemes tokens.now) aliases.now a_head_alone at token }
+    ensures no_other { (refusal : _) → IsErrOf result refusal → IsOfAttributes refusal }
+    ensures next { IfOk result (λ found. (at < found.1) × (found.1 ≤ length tokens.now)) }
+{
+    head(bump, tokens, at, Some(aliases))
+}
+
+/// The locals that begin at a token with their type, up to before their `;`, and that token, where `depth` constructs are
+/// open: one alone where `single` is true, as in a `for`. Refused as `read_declaration`
+/// refuses (C11 6.8.2, 6.8.5).
+pub fn read_local<'a>(
+    bump: &'a Bump,
+    tokens: &[Token<'_>],
+    at: u32,
+    aliases: &Aliases,
+    depth: u32,
+    single: bool,
+) -> Result<(&'a [Decl<'a>], u32), SyntaxRefusal>
+    requires room { length tokens.now ≤ INPUT_LIMIT }
+    requires within { at ≤ length tokens.now }
+    requires shallow { depth ≤ NESTING_LIMIT }
+    ensures found { IfOk result (λ found. IsLongest (lexemes tokens.now) aliases.now (some_locals single depth) at (decl_shapes found.0.now) found.1) }
+    ensures broken { (token : ℕ) → IsErrOf result (SyntaxRefusal.At SyntaxCode.SY1 token) → IsBroken (lexemes tokens.now) aliases.now (some_locals single depth) at token }
+    ensures left_out { (token : ℕ) → IsErrOf result (SyntaxRefusal.At SyntaxCode.AT1 token) → IsRefused (lexemes tokens.now) aliases.now (some_locals single depth) at reason.left_out token }
+    ensures lacking { (token : ℕ) → IsErrOf result (SyntaxRefusal.At SyntaxCode.AT2 token) → IsRefused (lexemes tokens.now) aliases.now (some_locals single depth) at reason.lacking token }
+    ensures too_deep { (token : ℕ) → IsErrOf result (SyntaxRefusal.At SyntaxCode.LM2 token) → IsTooDeep (lexemes tokens.now) aliases.now (some_locals single depth) at token }
+    ensures no_other { (refusal : _) → IsErrOf result refusal → IsOfAttributes refusal }
+    ensures next { IfOk result (λ found. (at < found.1) × (found.1 ≤ length tokens.now)) }
+{
+    locals(bump, tokens, at, depth, Some(aliases), single)
+}
