@@ -145,15 +145,13 @@ module _ (tokens : List Lexeme) where
     (λ e. (omega arith, λ xs n. ((λ h. tt), (λ h. (tt, λ ys e. ((λ h. tt), (λ h. tt))))))),
   )
 
-  -- A local is over before a comma.
-  comma_over : (aliases : Aliases) (l : Option Expression) (i : Option Initialiser) (n : ℕ) → sees tokens (a_comma aliases) n ≡ true
+  -- A local is over before a comma, and before a semicolon.
+  pub local_over : (aliases : Aliases) (l : Option Expression) (i : Option Initialiser) (n : ℕ) → is_plain (sign_at tokens aliases n) ≡ true
       → EndsLocal tokens aliases l i n
-  comma_over aliases None None n h =
-      let plain = comma_plain (sign_at tokens aliases n) h in
-      (plain_no_equals (sign_at tokens aliases n) plain, plain_no_bracket (sign_at tokens aliases n) plain)
-  comma_over aliases (Some l) None n h = plain_no_equals (sign_at tokens aliases n) (comma_plain (sign_at tokens aliases n) h)
-  comma_over aliases None (Some x) n h = value_over tokens aliases x n (comma_plain (sign_at tokens aliases n) h)
-  comma_over aliases (Some l) (Some x) n h = value_over tokens aliases x n (comma_plain (sign_at tokens aliases n) h)
+  local_over aliases None None n h = (plain_no_equals (sign_at tokens aliases n) h, plain_no_bracket (sign_at tokens aliases n) h)
+  local_over aliases (Some l) None n h = plain_no_equals (sign_at tokens aliases n) h
+  local_over aliases None (Some x) n h = value_over tokens aliases x n h
+  local_over aliases (Some l) (Some x) n h = value_over tokens aliases x n h
 
   module _ (aliases : Aliases) (d : ℕ) (t : Specified) where
     -- behind a local's length or its name, an initialiser may stand
@@ -202,7 +200,7 @@ module _ (tokens : List Lexeme) where
 
     more_over : (x : Declaration) (n : ℕ)
         → (sees tokens (a_comma aliases) n ≡ true) ⊎ EndsVariables tokens aliases x [] n → EndsVariable tokens aliases x n
-    more_over x n (inl h) = comma_over aliases x.ctype.length x.init n h
+    more_over x n (inl h) = local_over aliases x.ctype.length x.init n (comma_plain (sign_at tokens aliases n) h)
     more_over x n (inr h) = h.0
 
     pub good_variables : (m : ℕ) → Good tokens some_variables (variables aliases d t) true (rule tokens some_variables (variables aliases d t) m) m

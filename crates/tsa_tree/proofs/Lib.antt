@@ -8,6 +8,9 @@ pub mod DeclaratorsMeet
 pub mod ItemsMeet
 pub mod ItemRowsMeet
 pub mod RowsBegin
+pub mod StatementFacts
+pub mod StatementsMeet
+pub mod BlocksMeet
 pub mod RowsMeet
 pub mod RowsRead
 pub mod ProductionSigns

@@ -1,5 +1,5 @@
 -- What is known of the token where a part begins, and of the token behind a part.
-use Rattle.std.proofs.Common.{ℕ, suc, ◌+◌, ◌-◌, ◌<◌, ◌≡◌, ◌∙◌, ap, sym, subst, refl, Bool, true, false, ◌&&◌, Option, Some, None, List, [], ◌∷◌, length, slice_get, arith, inl, inr, nat_eq, nat_le}
+use Rattle.std.proofs.Common.{ℕ, suc, ◌+◌, ◌-◌, ◌<◌, ◌≡◌, ◌∙◌, ap, sym, subst, refl, Bool, true, false, ◌&&◌, ◌||◌, Option, Some, None, List, [], ◌∷◌, length, slice_get, arith, inl, inr, nat_eq, nat_le}
 use Rattle.std.proofs.lemmas.Bool.{cases_lt, eqb-true}
 use Rattle.std.proofs.lemmas.Option.{slice_get_past}
 use Rattle.tsa_base.specs.Tokens.{Lexeme}
@@ -9,43 +9,18 @@ use Rattle.tsa_tree.specs.declared.sign.Keyword.TheVariants as key
 use Rattle.tsa_tree.specs.declared.sign.Sign.{Sign}
 use Rattle.tsa_tree.specs.declared.sign.Sign.TheVariants as sign
 use Rattle.tsa_tree.specs.Expressions.{Expression, number, null, named, call, unary, binary, field, index}
-use Rattle.tsa_tree.specs.Signs.{Aliases, sign_in, sign_at, is_word_at, identifier_in, identifier_at, is_word, kind_in, is_plain_sign, is_tag, is_storage, is_star, operator, prefix_of, level}
+use Rattle.tsa_tree.specs.Signs.{Aliases, sign_in, sign_at, is_word_at, identifier_in, identifier_at, is_word, kind_in, is_plain_sign, is_tag, is_storage, is_star, assigns, operator, prefix_of, level}
+pub use Rattle.tsa_tree.specs.Signs.{begins_type, begins_operand, begins_statement, is_prefix}
 use Rattle.tsa_tree.specs.Attributes.{try_value}
 use Rattle.tsa_tree.specs.Declarations.{Initialiser, value, list, Declaration}
-use Rattle.tsa_tree.specs.Rows.{Sort, Node, Call, expression, operation, operand, postfix, series, attributes, group, entries, balanced, consts, storage, specifier, declarator, initialiser, initialisers, declared_rest, declarators, member_line, members, variable, variables, locals, parameter_list, parameters, signature, head, struct_body, constants, enum_body, declared, item, rank, mark, Kind, kind, a_word, a_result, a_plain, a_keyword, a_tag, a_storage_word, a_star, nothing, a_name, an_open, an_open_bracket, an_open_brace, an_equals, a_comma, is_keyword, is_given, sees, is_postfix, is_attribute_sign, Row}
+use Rattle.tsa_tree.specs.Statements.{Ending, by_expression, by_operand, by_step, Statement, ends_short}
+use Rattle.tsa_tree.specs.Rows.{Sort, Node, Call, expression, operation, operand, postfix, series, attributes, group, entries, balanced, consts, storage, specifier, declarator, initialiser, initialisers, declared_rest, declarators, member_line, members, variable, variables, locals, parameter_list, parameters, signature, head, struct_body, constants, enum_body, declared, item, simple, for_init, statement, statements, rank, mark, Kind, kind, a_word, a_result, a_plain, a_keyword, a_tag, a_storage_word, a_star, an_assignment, is_assignment, nothing, a_name, an_open, an_open_bracket, an_open_brace, an_equals, a_comma, is_keyword, is_given, sees, is_postfix, is_attribute_sign, Row}
 use Rattle.tsa_forms.proofs.Good as g
 use Rattle.tsa_tree.proofs.SignFacts.{is_plain, plain_no_postfix, plain_no_operator, plain_no_open}
-
-abbrev pub given : Option UnaryOp → Bool
-given None = false
-given (Some o) = true
-
--- A unary expression can begin with this token.
-abbrev pub begins_operand : Sign → Bool
-begins_operand sign.Name = true
-begins_operand sign.Number = true
-begins_operand sign.Null = true
-begins_operand sign.Open = true
-begins_operand sign.Not = true
-begins_operand sign.Flip = true
-begins_operand (sign.Operator o) = given (prefix_of o)
-begins_operand _ = false
 
 pub begins_no_close : (s : Sign) → begins_operand s ≡ true → nat_eq (mark s) 7 ≡ false
 begins_no_close sign.Close e = cc
 begins_no_close _ e = refl
-
--- A type can begin with this token.
-abbrev pub begins_type : Sign → Bool
-begins_type (sign.Keyword key.Const) = true
-begins_type (sign.Keyword key.Int) = true
-begins_type (sign.Keyword key.Unsigned) = true
-begins_type (sign.Keyword key.Signed) = true
-begins_type (sign.Keyword key.Void) = true
-begins_type (sign.Keyword key.Struct) = true
-begins_type (sign.Keyword key.Enum) = true
-begins_type sign.TypeName = true
-begins_type _ = false
 
 -- `int` may follow this token.
 abbrev pub is_signing : Sign → Bool
@@ -69,6 +44,15 @@ begins_rest sign.Equals = true
 begins_rest sign.Comma = true
 begins_rest sign.Semicolon = true
 begins_rest s = is_attribute_sign s
+
+abbrev pub begins_simple : Sign → Bool
+begins_simple (sign.Step o) = true
+begins_simple s = begins_operand s
+
+-- What stands in a block can begin with this token, or the block ends with it.
+abbrev pub begins_inner : Sign → Bool
+begins_inner sign.CloseBrace = true
+begins_inner s = begins_type s || begins_statement s
 
 -- The last operand of an expression, which no parentheses end, is a name.
 abbrev pub last_named : Expression → Bool
@@ -119,7 +103,7 @@ module _ (tokens : List Lexeme) where
   First _ (members aliases d) m = Unit {0}
   First _ (variable aliases d t) m = begins_declarator (sign_at tokens aliases m) ≡ true
   First _ (variables aliases d t) m = begins_declarator (sign_at tokens aliases m) ≡ true
-  First _ (locals aliases single d) m = Unit {0}
+  First _ (locals aliases single d) m = begins_type (sign_at tokens aliases m) ≡ true
   First _ (parameter_list aliases) m = begins_type (sign_at tokens aliases m) ≡ true
   First _ (parameters aliases) m = Unit {0}
   First _ (signature aliases) m = sees tokens (an_open aliases) m ≡ true
@@ -129,6 +113,10 @@ module _ (tokens : List Lexeme) where
   First _ (enum_body aliases) m = sees tokens (an_open_brace aliases) m ≡ true
   First _ (declared aliases t) m = begins_declarator (sign_at tokens aliases m) ≡ true
   First _ (item aliases) m = Unit {0}
+  First _ (simple aliases d) m = begins_simple (sign_at tokens aliases m) ≡ true
+  First _ (for_init aliases d) m = Unit {0}
+  First _ (statement aliases d) m = begins_statement (sign_at tokens aliases m) ≡ true
+  First _ (statements aliases d) m = begins_inner (sign_at tokens aliases m) ≡ true
 
   -- A type is over where no `const` stands, nor `int` right behind `unsigned` or `signed`.
   abbrev pub Settled : Aliases → ℕ → Type 0
@@ -160,6 +148,16 @@ module _ (tokens : List Lexeme) where
   EndsLocals aliases false (x ∷ xs) m = EndsVariables aliases x xs m
   EndsLocals aliases true (x ∷ xs) m = EndsVariable aliases x m
 
+  -- A simple statement is over where what ends it is.
+  abbrev pub EndsSimple : Aliases → Ending → ℕ → Type 0
+  EndsSimple aliases (by_expression x) m = Ended aliases x m × Loose aliases 0 m
+  EndsSimple aliases (by_operand x) m = Ended aliases x m
+  EndsSimple aliases by_step m = Unit {0}
+
+  -- No `else` stands behind a statement to which it would belong.
+  abbrev pub EndsStatement : Aliases → Statement → ℕ → Type 0
+  EndsStatement aliases s m = ends_short s ≡ true → is_keyword key.Else (sign_at tokens aliases m) ≡ false
+
   -- No attribute follows.
   abbrev pub Bare : Aliases → ℕ → Type 0
   Bare aliases m = is_attribute_sign (sign_at tokens aliases m) ≡ false
@@ -181,11 +179,17 @@ module _ (tokens : List Lexeme) where
   Ends _ (signature aliases) x m = Bare aliases m
   Ends _ (head aliases) x m = Bare aliases m
   Ends _ (struct_body aliases) x m = Bare aliases m
+  Ends _ (simple aliases d) x m = EndsSimple aliases x.ending m
+  Ends _ (statement aliases d) s m = EndsStatement aliases s m
   Ends _ other x m = Unit {0}
 
-  -- No limit stands right before a part.
+  -- A limit stands right before a statement alone, which begins with a token that is one of it.
   abbrev pub Moves : (s : Sort) → Call s → ℕ → Type 0
-  Moves s c m = ⊥
+  Moves _ (expression aliases d k) m = begins_operand (sign_at tokens aliases m) ≡ true
+  Moves _ (operand aliases d) m = begins_operand (sign_at tokens aliases m) ≡ true
+  Moves _ (simple aliases d) m = begins_simple (sign_at tokens aliases m) ≡ true
+  Moves _ (statement aliases d) m = begins_statement (sign_at tokens aliases m) ≡ true
+  Moves _ other m = ⊥
 
   -- What stands where a form goes on, where the form may stand, and where it can't become whole, for this grammar.
   abbrev pub Next : (s : Sort) → (Node s → ℕ → Type 0) → Row s → ℕ → Type 0
@@ -218,6 +222,7 @@ module _ (tokens : List Lexeme) where
       go (a_tag aliases) past e = let q : false ≡ true = sym (ap (λ o. is_tag (sign_in aliases o)) past) ∙ e in cc
       go (a_storage_word aliases) past e = let q : false ≡ true = sym (ap (λ o. is_storage (sign_in aliases o)) past) ∙ e in cc
       go (a_star aliases) past e = let q : false ≡ true = sym (ap (λ o. is_star (sign_in aliases o)) past) ∙ e in cc
+      go (an_assignment aliases) past e = let q : false ≡ true = sym (ap (λ o. is_assignment (assigns (sign_in aliases o))) past) ∙ e in cc
       go (a_plain aliases) past e = let q : false ≡ true = sym (ap (λ o. is_plain_sign (sign_in aliases o)) past) ∙ e in cc
       go nothing past e = cc
 

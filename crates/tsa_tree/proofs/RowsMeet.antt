@@ -8,7 +8,7 @@ use Rattle.tsa_tree.specs.declared.sign.Sign.{Sign}
 use Rattle.tsa_tree.specs.declared.sign.Sign.TheVariants as sign
 use Rattle.tsa_tree.specs.Expressions.{Expression, number, null, named, call, binary, field, index, none}
 use Rattle.tsa_tree.specs.Signs.{Aliases, sign_at, span_at, span_over, identifier_at, value_at, unsigned_at, operator, prefix, prefix_of, level, entry_meaning}
-use Rattle.tsa_tree.specs.Rows.{Sort, an_expression, some_arguments, Call, expression, operation, operand, postfix, series, attributes, group, entries, balanced, consts, storage, specifier, declarator, initialiser, initialisers, declared_rest, declarators, member_line, members, variable, variables, locals, parameter_list, parameters, signature, head, struct_body, constants, enum_body, declared, item, rank, mark, Kind, a_name, an_open, a_close, a_comma, a_not, a_flip, an_operator, sees, is_postfix, Row, tightest, climb_on, operation_row, post, postfix_row, prefix_row, call_row, operand_row, rule}
+use Rattle.tsa_tree.specs.Rows.{Sort, an_expression, some_arguments, Call, expression, operation, operand, postfix, series, attributes, group, entries, balanced, consts, storage, specifier, declarator, initialiser, initialisers, declared_rest, declarators, member_line, members, variable, variables, locals, parameter_list, parameters, signature, head, struct_body, constants, enum_body, declared, item, simple, for_init, statement, statements, rank, mark, Kind, a_name, an_open, a_close, a_comma, a_not, a_flip, an_operator, sees, is_postfix, Row, tightest, climb_on, operation_row, post, postfix_row, prefix_row, call_row, operand_row, rule}
 use Rattle.tsa_forms.specs.Form.{done}
 use Rattle.tsa_forms.proofs.Good as g
 use Rattle.tsa_tree.proofs.SignFacts.{is_plain, operator_mark, operator_no_postfix, operator_no_open, postfix_no_open, close_plain, bracket_plain, comma_plain, plain_no_name, close_no_comma, level_low}
@@ -17,6 +17,8 @@ use Rattle.tsa_tree.proofs.DeclarationsMeet.{good_consts, good_specifier, good_d
 use Rattle.tsa_tree.proofs.DeclaratorsMeet.{good_rest, good_declarators, good_member_line, good_members, good_variable, good_variables, good_locals}
 use Rattle.tsa_tree.proofs.ItemsMeet.{good_storage, good_parameter_list, good_parameters, good_signature, good_head, good_struct_body, good_constants, good_enum_body, good_declared}
 use Rattle.tsa_tree.proofs.ItemRowsMeet.{good_item}
+use Rattle.tsa_tree.proofs.StatementsMeet.{good_simple, good_statement}
+use Rattle.tsa_tree.proofs.BlocksMeet.{good_for_init, good_statements}
 use Rattle.tsa_tree.proofs.AttributesMeet.{good_attributes, good_group, good_entry, good_balanced}
 
 some_same : (o p : BinaryOp) → Some o ≡ Some p → o ≡ p
@@ -284,9 +286,7 @@ module _ (tokens : List Lexeme) where
   good _ (enum_body aliases) m = good_enum_body tokens aliases m
   good _ (declared aliases t) m = good_declared tokens aliases t m
   good _ (item aliases) m = good_item tokens aliases m
-
-  abbrev Past : (s : Sort) → Row s → ℕ → Type 0
-  Past s f m = g.Past (sees tokens) (First tokens) (Ends tokens) (Moves tokens) rank s f m
-
-  pub moves : (s : Sort) (c : Call s) (m : ℕ) → Moves tokens s c m → Past s (rule tokens s c m) m
-  moves s c m h = absurd h
+  good _ (simple aliases d) m = good_simple tokens aliases d m
+  good _ (for_init aliases d) m = good_for_init tokens aliases d m
+  good _ (statement aliases d) m = good_statement tokens aliases d m
+  good _ (statements aliases d) m = good_statements tokens aliases d m

@@ -19,8 +19,9 @@ use Rattle.tsa_forms.proofs.Runs as runs
 use Rattle.tsa_forms.proofs.Complete as pieces
 use Rattle.tsa_forms.proofs.Exactly as answers
 use Rattle.tsa_tree.proofs.RowFacts.{First, Ends, Moves, inside}
+use Rattle.tsa_tree.proofs.BlocksMeet.{moves}
 use Rattle.tsa_tree.proofs.RowsBegin.{firsts}
-use Rattle.tsa_tree.proofs.RowsMeet.{good, low, moves}
+use Rattle.tsa_tree.proofs.RowsMeet.{good, low}
 
 -- In the grammar of expressions there are no bars. (Elsewhere there may be.)
 abbrev pub IsClear : Sort → Type 0

@@ -29,13 +29,14 @@ pub postfix_no_open : (s : Sign) → is_postfix s ≡ true → nat_eq (mark s) 6
 postfix_no_open sign.Open e = cc
 postfix_no_open _ e = refl
 
--- A closing token, a comma and a semicolon: no expression goes on there.
+-- A closing token, a comma, a semicolon and a colon: no expression goes on there.
 abbrev pub is_plain : Sign → Bool
 is_plain sign.Close = true
 is_plain sign.CloseBracket = true
 is_plain sign.CloseBrace = true
 is_plain sign.Comma = true
 is_plain sign.Semicolon = true
+is_plain sign.Colon = true
 is_plain _ = false
 
 pub close_plain : (s : Sign) → nat_eq (mark s) 7 ≡ true → is_plain s ≡ true

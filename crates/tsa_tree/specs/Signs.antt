@@ -282,3 +282,54 @@ is_close _ = false
 -- `void` alone between parentheses, behind the first one
 abbrev pub is_lone_void : List Lexeme → Aliases → ℕ → Bool
 is_lone_void tokens aliases at = is_void (sign_at tokens aliases at) && is_close (sign_at tokens aliases (at + 1))
+
+-- the operator of an assignment: none for `=` (C11 6.5.16)
+abbrev pub assigns : Sign → Option (Option BinaryOp)
+assigns sign.Equals = Some None
+assigns (sign.Assign o) = Some (Some o)
+assigns _ = None
+
+-- a type can begin with this token
+abbrev pub begins_type : Sign → Bool
+begins_type (sign.Keyword key.Const) = true
+begins_type (sign.Keyword key.Int) = true
+begins_type (sign.Keyword key.Unsigned) = true
+begins_type (sign.Keyword key.Signed) = true
+begins_type (sign.Keyword key.Void) = true
+begins_type (sign.Keyword key.Struct) = true
+begins_type (sign.Keyword key.Enum) = true
+begins_type sign.TypeName = true
+begins_type _ = false
+
+abbrev pub is_prefix : Option UnaryOp → Bool
+is_prefix None = false
+is_prefix (Some o) = true
+
+-- a unary expression can begin with this token
+abbrev pub begins_operand : Sign → Bool
+begins_operand sign.Name = true
+begins_operand sign.Number = true
+begins_operand sign.Null = true
+begins_operand sign.Open = true
+begins_operand sign.Not = true
+begins_operand sign.Flip = true
+begins_operand (sign.Operator o) = is_prefix (prefix_of o)
+begins_operand _ = false
+
+-- a statement can begin with this token
+abbrev pub begins_statement : Sign → Bool
+begins_statement sign.OpenBrace = true
+begins_statement sign.Semicolon = true
+begins_statement (sign.Step o) = true
+begins_statement (sign.Keyword key.If) = true
+begins_statement (sign.Keyword key.While) = true
+begins_statement (sign.Keyword key.Do) = true
+begins_statement (sign.Keyword key.For) = true
+begins_statement (sign.Keyword key.Switch) = true
+begins_statement (sign.Keyword key.Case) = true
+begins_statement (sign.Keyword key.Default) = true
+begins_statement (sign.Keyword key.Break) = true
+begins_statement (sign.Keyword key.Continue) = true
+begins_statement (sign.Keyword key.Goto) = true
+begins_statement (sign.Keyword key.Return) = true
+begins_statement s = begins_operand s

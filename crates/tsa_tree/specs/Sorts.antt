@@ -2,6 +2,7 @@
 use Rattle.std.specs.Prelude.{ℕ, suc, List, Bool, true, false, Some, None, nat_eq}
 use Rattle.std.specs.declared.option.Option.{Option}
 use Rattle.tsa_base.specs.Tokens.{Lexeme}
+use Rattle.tsa_tree.specs.declared.expr.BinaryOp.{BinaryOp}
 use Rattle.tsa_tree.specs.declared.sign.Keyword.{Keyword}
 use Rattle.tsa_tree.specs.declared.sign.Keyword.TheVariants as key
 use Rattle.tsa_tree.specs.declared.sign.Sign.{Sign}
@@ -10,7 +11,8 @@ use Rattle.tsa_tree.specs.Attributes.{Attribute, try_value}
 use Rattle.tsa_tree.specs.Declarations.{Specified, Declarator, Declared, Declaration, Initialiser, Initialisers, EnumConstant, Parameter, Signature, Head, StructBody, UnitItem}
 use Rattle.tsa_tree.specs.DeclarationSpelling.{Role}
 use Rattle.tsa_tree.specs.Expressions.{Expression, Arguments}
-use Rattle.tsa_tree.specs.Signs.{Aliases, sign_at, identifier_at, is_word_at, is_plain_sign, is_tag, is_storage, is_star}
+use Rattle.tsa_tree.specs.Signs.{Aliases, sign_at, identifier_at, is_word_at, is_plain_sign, is_tag, is_storage, is_star, assigns}
+use Rattle.tsa_tree.specs.Statements.{SimplePart, ForInit, Statement, Statements}
 use Rattle.tsa_forms.specs.Form.{Form}
 
 -- the parts by what they make
@@ -36,6 +38,10 @@ pub data Sort : Type 0 where
   a_struct_body : Sort
   some_constants : Sort
   some_items : Sort
+  a_simple : Sort
+  a_for_init : Sort
+  a_statement : Sort
+  some_statements : Sort
 
 abbrev pub Node : Sort → Type 0
 Node an_expression = Expression
@@ -56,6 +62,10 @@ Node a_head = Head
 Node a_struct_body = StructBody
 Node some_constants = List EnumConstant
 Node some_items = List UnitItem
+Node a_simple = SimplePart
+Node a_for_init = ForInit
+Node a_statement = Statement
+Node some_statements = Statements
 
 -- what closes balanced tokens
 pub data Closer : Type 0 where
@@ -125,6 +135,13 @@ pub data Call : Sort → Type 0 where
   declared : (aliases : Aliases) (type : Specified) → Call some_items
   -- an item without a body
   item : (aliases : Aliases) → Call some_items
+  -- an expression or an assignment
+  simple : (aliases : Aliases) (depth : ℕ) → Call a_simple
+  -- what stands before the first `;` of a `for`, and the `;`
+  for_init : (aliases : Aliases) (depth : ℕ) → Call a_for_init
+  statement : (aliases : Aliases) (depth : ℕ) → Call a_statement
+  -- locals and other statements of a block, and the brace that closes them
+  statements : (aliases : Aliases) (depth : ℕ) → Call some_statements
 
 -- A part that another one asks for at its own first token has a lower rank.
 abbrev pub rank : (s : Sort) → Call s → ℕ
@@ -151,6 +168,10 @@ rank _ (parameters aliases) = 2
 rank _ (head aliases) = 1
 rank _ (declared aliases type) = 1
 rank _ (item aliases) = 1
+rank _ (simple aliases depth) = 2
+rank _ (for_init aliases depth) = 3
+rank _ (statement aliases depth) = 3
+rank _ (statements aliases depth) = 4
 -- every other part begins with a token
 rank _ other = 0
 
@@ -226,6 +247,8 @@ pub data Kind : Type 0 where
   a_storage_word : Aliases → Kind
   -- `*`
   a_star : Aliases → Kind
+  -- `=` and the compound assignments
+  an_assignment : Aliases → Kind
   nothing : Kind
 
 abbrev pub a_name : Aliases → Kind
@@ -285,6 +308,13 @@ a_close_brace aliases = kind aliases 17
 abbrev pub a_semicolon : Aliases → Kind
 a_semicolon aliases = kind aliases 18
 
+abbrev pub a_colon : Aliases → Kind
+a_colon aliases = kind aliases 19
+
+-- `++` or `--`
+abbrev pub a_step : Aliases → Kind
+a_step aliases = kind aliases 25
+
 abbrev pub an_equals : Aliases → Kind
 an_equals aliases = kind aliases 23
 
@@ -305,6 +335,10 @@ abbrev pub is_given : Option Bool → Bool
 is_given None = false
 is_given (Some value) = true
 
+abbrev pub is_assignment : Option (Option BinaryOp) → Bool
+is_assignment None = false
+is_assignment (Some op) = true
+
 abbrev pub sees : List Lexeme → Kind → ℕ → Bool
 sees tokens (kind aliases k) at = nat_eq (mark (sign_at tokens aliases at)) (suc k)
 sees tokens a_word at = is_word_at tokens at
@@ -314,6 +348,7 @@ sees tokens (a_keyword aliases word) at = is_keyword word (sign_at tokens aliase
 sees tokens (a_tag aliases) at = is_tag (sign_at tokens aliases at)
 sees tokens (a_storage_word aliases) at = is_storage (sign_at tokens aliases at)
 sees tokens (a_star aliases) at = is_star (sign_at tokens aliases at)
+sees tokens (an_assignment aliases) at = is_assignment (assigns (sign_at tokens aliases at))
 sees tokens nothing at = false
 
 abbrev pub is_postfix : Sign → Bool
