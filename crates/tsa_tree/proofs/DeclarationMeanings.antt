@@ -1,4 +1,4 @@
--- What the parts of declarations and items are in terms of the productions. Expressions and attributes are what their rows spell.
+-- What the parts of declarations, items and statements are in terms of the productions. Expressions and attributes are what their rows spell.
 use Rattle.std.proofs.Common.{ℕ, ◌+◌, ◌≡◌, List, [], ◌∷◌, map, Bool, true, false, ◌⊎◌}
 use Rattle.tsa_base.specs.Tokens.{Lexeme}
 use Rattle.tsa_tree.specs.declared.sign.Sign.{Sign}
@@ -6,8 +6,9 @@ use Rattle.tsa_tree.specs.declared.sign.Sign.TheVariants as sign
 use Rattle.tsa_tree.specs.Declarations.{Specified, Declarator, Declaration, Signature, UnitItem, global_item, function_item, head_of}
 use Rattle.tsa_tree.specs.DeclarationSpelling.{a_member, a_global, IsConsts, IsSpecifier, IsDeclarator, IsInitialiser, IsInitialisers, IsRest, IsDeclarators, IsMembers, IsVariable, IsVariables, IsLocals}
 use Rattle.tsa_tree.specs.ItemSpelling.{IsParameterList, IsParameters, IsStorage, IsSignature, IsHead, IsStructBody, IsConstants, IsEnumBody, IsItem}
+use Rattle.tsa_tree.specs.StatementSpelling.{IsSimple, IsForInit, IsStatement, IsStatements}
 use Rattle.tsa_tree.specs.Signs.{Aliases, sign_at}
-use Rattle.tsa_tree.specs.Rows.{Sort, Node, Call, consts, storage, specifier, declarator, initialiser, initialisers, declared_rest, declarators, member_line, members, variable, variables, locals, parameter_list, parameters, signature, head, struct_body, constants, enum_body, declared, item, sees, Row, rule}
+use Rattle.tsa_tree.specs.Rows.{Sort, Node, Call, consts, storage, specifier, declarator, initialiser, initialisers, declared_rest, declarators, member_line, members, variable, variables, locals, parameter_list, parameters, signature, head, struct_body, constants, enum_body, declared, item, simple, for_init, statement, statements, sees, Row, rule}
 use Rattle.tsa_tree.proofs.Inductions as all
 use Rattle.tsa_forms.specs.Spelling as forms
 
@@ -63,6 +64,10 @@ module _ (tokens : List Lexeme) (fits : ℕ → Bool) where
   Means _ (declared aliases t) xs a b =
       Closed aliases (λ n. IsGlobals aliases t xs a n) sign.Semicolon b ⊎ Closed aliases (λ n. IsFunction aliases t xs a n) sign.Semicolon b
   Means _ (item aliases) xs a b = IsItem tokens aliases fits xs a b
+  Means _ (simple aliases d) x a b = IsSimple tokens aliases fits d x.simple a b
+  Means _ (for_init aliases d) x a b = Closed aliases (λ n. IsForInit tokens aliases fits d x a n) sign.Semicolon b
+  Means _ (statement aliases d) x a b = IsStatement tokens aliases fits d x a b
+  Means _ (statements aliases d) xs a b = Closed aliases (λ n. IsStatements tokens aliases fits d xs a n) sign.CloseBrace b
   Means s c x a b = forms.Spells (rule tokens) (sees tokens) fits s c x a b
 
   abbrev pub Keeps : (s : Sort) → (Node s → ℕ → Type 0) → Row s → ℕ → Type 0

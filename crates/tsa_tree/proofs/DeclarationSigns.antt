@@ -51,6 +51,10 @@ equals_sign : (s : Sign) → mark s ≡ 24 → s ≡ sign.Equals
 equals_sign sign.Equals e = refl
 equals_sign _ e = absurd (omega (arith, e))
 
+colon_sign : (s : Sign) → mark s ≡ 20 → s ≡ sign.Colon
+colon_sign sign.Colon e = refl
+colon_sign _ e = absurd (omega (arith, e))
+
 module _ (tokens : List Lexeme) (aliases : Aliases) where
   -- Where a kind is seen, its sign stands.
   pub shows_open_bracket : (at : ℕ) → sees tokens (kind aliases 7) at ≡ true → sign_at tokens aliases at ≡ sign.OpenBracket
@@ -71,3 +75,6 @@ module _ (tokens : List Lexeme) (aliases : Aliases) where
 
   pub shows_star : (at : ℕ) → sees tokens (a_star aliases) at ≡ true → sign_at tokens aliases at ≡ sign.Operator op.Times
   shows_star at e = star_sign (sign_at tokens aliases at) e
+
+  pub shows_colon : (at : ℕ) → sees tokens (kind aliases 19) at ≡ true → sign_at tokens aliases at ≡ sign.Colon
+  shows_colon at e = colon_sign (sign_at tokens aliases at) (eqb-true (mark (sign_at tokens aliases at)) 20 e)

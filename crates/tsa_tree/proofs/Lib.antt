@@ -43,6 +43,7 @@ pub mod DeclarationMeanings
 pub mod DeclarationSigns
 pub mod DeclarationsKept
 pub mod ItemsKept
+pub mod StatementsKept
 pub mod RowsToDeclarations
 pub mod ReservedWords
 pub mod AttributeAnswers
