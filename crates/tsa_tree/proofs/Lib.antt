@@ -43,6 +43,8 @@ pub mod DeclarationMeanings
 pub mod DeclarationSigns
 pub mod DeclarationsKept
 pub mod ItemsKept
+pub mod SimplesToRows
+pub mod BlocksToRows
 pub mod StatementsKept
 pub mod RowsToDeclarations
 pub mod ReservedWords
