@@ -51,6 +51,7 @@ pub mod ReservedWords
 pub mod AttributeAnswers
 pub mod AttributeLaws
 pub mod DeclarationsBroken
+pub mod StatementLaws
 pub mod DeclarationLaws
 pub mod AttributeExamples
 pub mod DeclarationExamples

@@ -66,8 +66,6 @@ module _ (tokens : List Lexeme) (aliases : Aliases) (fits : ℕ → Bool) where
 
   -- A name before a colon is all of the expression that begins with it.
   module _ (a : ℕ) (name : sign_at tokens aliases a ≡ sign.Name) (colon : sign_at tokens aliases (a + 1) ≡ sign.Colon) where
-  
-
     primary_ends : {d : ℕ} {t : Expression} {b : ℕ} → IsPrimary tokens aliases fits d t a b → b ≡ a + 1
     primary_ends (of_number q) = refl
     primary_ends (of_null q) = refl
@@ -194,24 +192,21 @@ module _ (tokens : List Lexeme) (aliases : Aliases) (fits : ℕ → Bool) where
         → (e : Ending) × Spells a_simple (simple aliases d) (record { simple = x; ending = e }) a b
     simple_rows x b (of_evaluation {x = t} i) p =
         (by_expression t, of_expression t b (expression_rows tokens aliases fits i (omega arith)) (expression_starts i) p)
-    simple_rows x b (of_assignment {op = op} {l = l} {r = r} {m = m} u e i) p =
-        (
-          by_expression r,
-          by_operand_first _ b (unary_starts u) (goes_part (operand_rows tokens aliases fits u)
+    simple_rows x b (of_assignment {op = op} {l = l} {r = r} {m = m} u e i) p = (
+      by_expression r,
+      by_operand_first _ b (unary_starts u) (goes_part (operand_rows tokens aliases fits u)
           (assigned l r op m b (sign_at tokens aliases m) e (ap is_assignment e) (expression_rows tokens aliases fits i (omega arith)))),
-        )
-    simple_rows x b (of_step_behind {op = op} {l = l} {m = m} u q) p =
-        (
-          by_step,
-          by_operand_first _ b (unary_starts u) (goes_part (operand_rows tokens aliases fits u)
+    )
+    simple_rows x b (of_step_behind {op = op} {l = l} {m = m} u q) p = (
+      by_step,
+      by_operand_first _ b (unary_starts u) (goes_part (operand_rows tokens aliases fits u)
           (subst (λ s. Goes a_simple (simple_behind tokens aliases d a l m s (assigns s))
           (record { simple = assignment l (Some op) (one_at tokens m) (span_over tokens a (m + 1)); ending = by_step }) m (m + 1)) (sym q)
           (goes_token (seen tokens aliases 25 m (sign.Step op) q refl) goes_done))),
-        )
-    simple_rows x b (of_step_before {op = op} {l = l} q u) p =
-        (
-          by_operand l,
-          by_rule (subst (λ s. Goes a_simple (simple_row tokens aliases d a s)
+    )
+    simple_rows x b (of_step_before {op = op} {l = l} q u) p = (
+      by_operand l,
+      by_rule (subst (λ s. Goes a_simple (simple_row tokens aliases d a s)
           (record { simple = assignment l (Some op) (one_at tokens a) (span_over tokens a b); ending = by_operand l }) a b) (sym q)
           (goes_token (seen tokens aliases 25 a (sign.Step op) q refl) (goes_part (operand_rows tokens aliases fits u) goes_done))),
-        )
+    )

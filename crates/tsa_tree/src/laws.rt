@@ -1,10 +1,11 @@
-//! What holds of the grammar of expressions.
+//! What holds of the grammar.
 
 ghost use Rattle.tsa_tree.specs.SyntaxLaws.{SpellTheSame, BeginTheSame, OneTree, PiecesBegin, OneAnswer};
 ghost use Rattle.tsa_tree.specs.Examples.{ProductionsAreRead};
 ghost use Rattle.tsa_tree.specs.AttributeAnswers as attributes;
 ghost use Rattle.tsa_tree.specs.AttributeExamples.{AttributesAreRead};
 ghost use Rattle.tsa_tree.specs.DeclarationAnswers as declarations;
+ghost use Rattle.tsa_tree.specs.StatementLaws as statements;
 ghost use Rattle.tsa_tree.specs.DeclarationExamples.{DeclarationsAreRead};
 
 /// The rows that readers go by spell the same trees as the productions of the grammar, and the same lists begin them.
@@ -95,4 +96,20 @@ pub fn declarations_have_an_answer()
 #[tactic(auto, using(crate::proofs::DeclarationExamples::declarations_are_read))]
 pub fn declarations_are_as_written()
     ensures { DeclarationsAreRead }
+{}
+
+/// The rows of statements spell what the productions spell, each `else` with the nearest `if` that the grammar allows.
+pub fn rows_of_statements_are_productions()
+    ensures { statements.SpellTheSame }
+{}
+
+/// Two statements that the same tokens spell are equal.
+#[tactic(auto, using(crate::proofs::StatementLaws::one_statement))]
+pub fn one_statement_is_spelled()
+    ensures { statements.OneStatement }
+{}
+
+/// Every first piece of the tokens that spell a statement begins one.
+pub fn first_pieces_begin_statements()
+    ensures { statements.PiecesBegin }
 {}

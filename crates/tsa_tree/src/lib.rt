@@ -13,9 +13,11 @@ pub mod stmt;
 pub use laws::{
     attributes_are_as_written, attributes_have_an_answer, declarations_are_as_written,
     declarations_have_an_answer, expressions_are_as_written, first_pieces_begin,
-    first_pieces_begin_attributes, first_pieces_begin_declarations, one_answer_is_right,
-    one_declaration_is_spelled, one_list_of_attributes_is_spelled, one_tree_is_spelled,
-    rows_are_productions, rows_of_attributes_are_productions, rows_of_declarations_are_productions,
+    first_pieces_begin_attributes, first_pieces_begin_declarations, first_pieces_begin_statements,
+    one_answer_is_right, one_declaration_is_spelled, one_list_of_attributes_is_spelled,
+    one_statement_is_spelled, one_tree_is_spelled, rows_are_productions,
+    rows_of_attributes_are_productions, rows_of_declarations_are_productions,
+    rows_of_statements_are_productions,
 };
 use tsa_base::Span;
 
