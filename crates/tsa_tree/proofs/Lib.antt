@@ -55,3 +55,4 @@ pub mod StatementLaws
 pub mod DeclarationLaws
 pub mod AttributeExamples
 pub mod DeclarationExamples
+pub mod StatementExamples

@@ -6,6 +6,7 @@ ghost use Rattle.tsa_tree.specs.AttributeAnswers as attributes;
 ghost use Rattle.tsa_tree.specs.AttributeExamples.{AttributesAreRead};
 ghost use Rattle.tsa_tree.specs.DeclarationAnswers as declarations;
 ghost use Rattle.tsa_tree.specs.StatementLaws as statements;
+ghost use Rattle.tsa_tree.specs.StatementExamples.{StatementsAreRead};
 ghost use Rattle.tsa_tree.specs.DeclarationExamples.{DeclarationsAreRead};
 
 /// The rows that readers go by spell the same trees as the productions of the grammar, and the same lists begin them.
@@ -112,4 +113,10 @@ pub fn one_statement_is_spelled()
 /// Every first piece of the tokens that spell a statement begins one.
 pub fn first_pieces_begin_statements()
     ensures { statements.PiecesBegin }
+{}
+
+/// Statements are read as they are written: a text for each production, and one for each kind of refusal.
+#[tactic(auto, using(crate::proofs::StatementExamples::statements_are_read))]
+pub fn statements_are_as_written()
+    ensures { StatementsAreRead }
 {}

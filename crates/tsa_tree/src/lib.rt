@@ -17,7 +17,7 @@ pub use laws::{
     one_answer_is_right, one_declaration_is_spelled, one_list_of_attributes_is_spelled,
     one_statement_is_spelled, one_tree_is_spelled, rows_are_productions,
     rows_of_attributes_are_productions, rows_of_declarations_are_productions,
-    rows_of_statements_are_productions,
+    rows_of_statements_are_productions, statements_are_as_written,
 };
 use tsa_base::Span;
 
