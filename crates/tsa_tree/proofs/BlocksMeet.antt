@@ -1,5 +1,5 @@
 -- The rows of blocks and of a `for`'s beginning meet what their reader needs, and no limit stops a reader where a statement begins.
-use Rattle.std.proofs.Common.{ℕ, ◌+◌, ◌<◌, ◌≡◌, ◌∙◌, ap, refl, List, [], ◌∷◌, Bool, true, false, Option, Some, None, arith, ◌⊎◌, inl, inr, nat_eq}
+use Rattle.std.proofs.Common.{ℕ, ◌≡◌, ◌∙◌, ap, refl, List, [], ◌∷◌, true, false, Option, Some, None, arith, ◌⊎◌, inl, inr, nat_eq}
 use Rattle.tsa_base.specs.Tokens.{Lexeme}
 use Rattle.tsa_tree.specs.declared.expr.UnaryOp.{UnaryOp}
 use Rattle.tsa_tree.specs.declared.sign.Keyword.TheVariants as key
@@ -7,9 +7,9 @@ use Rattle.tsa_tree.specs.declared.sign.Sign.{Sign}
 use Rattle.tsa_tree.specs.declared.sign.Sign.TheVariants as sign
 use Rattle.tsa_tree.specs.Declarations.{Declaration}
 use Rattle.tsa_tree.specs.Signs.{Aliases, sign_at, prefix, prefix_of}
-use Rattle.tsa_tree.specs.Rows.{Sort, an_expression, a_simple, a_for_init, a_statement, some_statements, Call, expression, operand, simple, for_init, statement, statements, rank, mark, Kind, a_semicolon, a_keyword, a_not, a_flip, an_operator, sees, is_keyword, Row, prefix_row, operand_row, simple_row, statement_row, rule}
+use Rattle.tsa_tree.specs.Rows.{Sort, an_expression, a_simple, a_for_init, a_statement, some_statements, Call, expression, operand, simple, for_init, statement, statements, rank, mark, Kind, a_semicolon, a_not, a_flip, an_operator, sees, is_keyword, Row, prefix_row, operand_row, simple_row, statement_row, rule}
 use Rattle.tsa_forms.proofs.Good as g
-use Rattle.tsa_tree.proofs.RowFacts.{begins_operand, begins_type, begins_statement, begins_simple, begins_inner, is_prefix, First, Ends, Moves, EndsVariables, EndsLocals, Start, Good, never}
+use Rattle.tsa_tree.proofs.RowFacts.{begins_operand, begins_type, begins_statement, begins_simple, begins_inner, is_prefix, First, Ends, Moves, EndsVariables, EndsLocals, Start, Good}
 use Rattle.tsa_tree.proofs.DeclarationFacts.{semicolon_plain, semicolon_no_comma, type_no_brace}
 use Rattle.tsa_tree.proofs.DeclarationsMeet.{settled_declarator}
 use Rattle.tsa_tree.proofs.DeclaratorsMeet.{local_over}

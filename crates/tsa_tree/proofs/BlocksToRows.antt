@@ -1,5 +1,5 @@
 -- The rows spell whatever statements and blocks the productions spell.
-use Rattle.std.proofs.Common.{ℕ, ◌+◌, ◌≡◌, ◌∙◌, ap, sym, subst, refl, Bool, true, false, not, Option, Some, None, List, arith}
+use Rattle.std.proofs.Common.{ℕ, ◌+◌, ◌≡◌, ◌∙◌, ap, sym, subst, refl, Bool, true, false, Option, Some, None, List, arith}
 use Rattle.std.proofs.lemmas.Bool.{eq-eqb}
 use Rattle.tsa_base.specs.Tokens.{Lexeme}
 use Rattle.tsa_tree.specs.declared.sign.Keyword.{Keyword}
@@ -8,7 +8,7 @@ use Rattle.tsa_tree.specs.declared.sign.Sign.{Sign}
 use Rattle.tsa_tree.specs.declared.sign.Sign.TheVariants as sign
 use Rattle.tsa_tree.specs.Expressions.{Expression}
 use Rattle.tsa_tree.specs.Signs.{Aliases, sign_at, span_over, identifier_at}
-use Rattle.tsa_tree.specs.StatementSpelling.{IsSimple, IsOptional, no_expression, an_expression, IsTest, of_test, IsForInit, of_no_init, of_simple_init, of_local_init, IsForStep, of_no_step, of_step, IsStatement, of_block, of_empty, of_simple, of_if, of_if_else, of_while, of_do, of_for, of_switch, of_case, of_default, of_label, of_break, of_continue, of_goto, of_return, IsBody, of_body, IsStatements, no_statement, of_locals_first, of_statement_first}
+use Rattle.tsa_tree.specs.StatementSpelling.{IsOptional, no_expression, an_expression, IsTest, of_test, IsForInit, of_no_init, of_simple_init, of_local_init, IsForStep, of_no_step, of_step, IsStatement, of_block, of_empty, of_simple, of_if, of_if_else, of_while, of_do, of_for, of_switch, of_case, of_default, of_label, of_break, of_continue, of_goto, of_return, IsBody, of_body, IsStatements, no_statement, of_locals_first, of_statement_first}
 use Rattle.tsa_tree.specs.Statements.{Simple, ForInit, Statement, Statements, ends_short}
 use Rattle.tsa_tree.specs.Statements as plain
 use Rattle.tsa_tree.specs.Rows.{Sort, a_for_init, a_statement, some_statements, Node, Call, for_init, statement, statements, a_colon, a_semicolon, a_keyword, sees, is_keyword, keyword_number, Row, body, test, value_or_none, if_end, for_end, simple_statement, statement_row, rule}

@@ -3,13 +3,12 @@ use Rattle.std.proofs.Common.{ℕ, suc, ◌+◌, ◌-◌, ◌<◌, ◌≡◌, �
 use Rattle.std.proofs.lemmas.Bool.{cases_lt, eqb-true}
 use Rattle.std.proofs.lemmas.Option.{slice_get_past}
 use Rattle.tsa_base.specs.Tokens.{Lexeme}
-use Rattle.tsa_tree.specs.declared.expr.UnaryOp.{UnaryOp}
 use Rattle.tsa_tree.specs.declared.expr.BinaryOp.{BinaryOp}
 use Rattle.tsa_tree.specs.declared.sign.Keyword.TheVariants as key
 use Rattle.tsa_tree.specs.declared.sign.Sign.{Sign}
 use Rattle.tsa_tree.specs.declared.sign.Sign.TheVariants as sign
 use Rattle.tsa_tree.specs.Expressions.{Expression, number, null, named, call, unary, binary, field, index}
-use Rattle.tsa_tree.specs.Signs.{Aliases, sign_in, sign_at, is_word_at, identifier_in, identifier_at, is_word, kind_in, is_plain_sign, is_tag, is_storage, is_star, assigns, operator, prefix_of, level}
+use Rattle.tsa_tree.specs.Signs.{Aliases, sign_in, sign_at, is_word_at, identifier_in, identifier_at, is_word, kind_in, is_plain_sign, is_tag, is_storage, is_star, assigns, operator, level}
 pub use Rattle.tsa_tree.specs.Signs.{begins_type, begins_operand, begins_statement, is_prefix}
 use Rattle.tsa_tree.specs.Attributes.{try_value}
 use Rattle.tsa_tree.specs.Declarations.{Initialiser, value, list, Declaration}

@@ -1,10 +1,8 @@
 -- The rows spell whatever simple statements the productions spell.
-use Rattle.std.proofs.Common.{ℕ, ◌+◌, ◌≡◌, ◌∙◌, ap, sym, subst, refl, Bool, true, false, not, Option, Some, None, List, arith}
-use Rattle.std.proofs.lemmas.Bool.{not-false}
+use Rattle.std.proofs.Common.{ℕ, ◌+◌, ◌≡◌, ◌∙◌, ap, sym, subst, refl, Bool, true, false, Option, Some, None, List, arith}
 use Rattle.tsa_base.specs.Tokens.{Lexeme}
 use Rattle.tsa_tree.specs.declared.expr.UnaryOp.{UnaryOp}
 use Rattle.tsa_tree.specs.declared.expr.BinaryOp.{BinaryOp}
-use Rattle.tsa_tree.specs.declared.sign.Keyword.TheVariants as key
 use Rattle.tsa_tree.specs.declared.sign.Sign.{Sign}
 use Rattle.tsa_tree.specs.declared.sign.Sign.TheVariants as sign
 use Rattle.tsa_tree.specs.Expressions.{Expression}
@@ -12,7 +10,7 @@ use Rattle.tsa_tree.specs.Signs.{Aliases, sign_at, span_over, operator, prefix, 
 use Rattle.tsa_tree.specs.Spelling.{IsExpression, of_unary, of_binary, IsUnary, of_postfix, of_prefix, IsPostfix, of_primary, of_field, of_index, IsPrimary, of_number, of_null, of_name, of_call, of_parentheses}
 use Rattle.tsa_tree.specs.StatementSpelling.{one_at, IsSimple, of_evaluation, of_assignment, of_step_behind, of_step_before}
 use Rattle.tsa_tree.specs.Statements.{Simple, evaluation, assignment, SimplePart, Ending, by_expression, by_operand, by_step}
-use Rattle.tsa_tree.specs.Rows.{Sort, an_expression, a_simple, Node, Call, expression, operand, simple, a_colon, an_assignment, a_step, is_assignment, sees, Row, tightest, climb, climb_on, simple_behind, simple_row, rule}
+use Rattle.tsa_tree.specs.Rows.{Sort, an_expression, a_simple, Node, Call, expression, operand, simple, a_colon, an_assignment, is_assignment, sees, Row, tightest, climb, climb_on, simple_behind, simple_row, rule}
 use Rattle.tsa_tree.proofs.SignFacts.{is_plain}
 use Rattle.tsa_tree.proofs.RowFacts.{begins_operand, begins_simple, is_prefix}
 use Rattle.tsa_tree.proofs.ProductionSigns.{seen}

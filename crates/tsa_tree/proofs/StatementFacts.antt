@@ -1,7 +1,5 @@
 -- What one token of a statement tells of another thing that it could be.
-use Rattle.std.proofs.Common.{◌≡◌, refl, Bool, true, false, ◌||◌, ◌⊎◌, inl, inr, Option, Some, None, nat_eq}
-use Rattle.tsa_tree.specs.declared.expr.BinaryOp.{BinaryOp}
-use Rattle.tsa_tree.specs.declared.sign.Keyword.{Keyword}
+use Rattle.std.proofs.Common.{◌≡◌, refl, Bool, true, false, ◌||◌, ◌⊎◌, inl, inr, nat_eq}
 use Rattle.tsa_tree.specs.declared.sign.Keyword.TheVariants as key
 use Rattle.tsa_tree.specs.declared.sign.Sign.{Sign}
 use Rattle.tsa_tree.specs.declared.sign.Sign.TheVariants as sign

@@ -1,5 +1,5 @@
 -- The laws of the grammar of statements.
-use Rattle.std.proofs.Common.{ℕ, ◌≤◌, ◌≡◌, ap, List, length, true, false, arith}
+use Rattle.std.proofs.Common.{ap, length, arith}
 use Rattle.tsa_tree.specs.declared.sign.Keyword.TheVariants as key
 use Rattle.tsa_tree.specs.Rows.{a_statement, statement, is_keyword}
 use Rattle.tsa_tree.specs.StatementLaws.{SpellTheSame, OneStatement, PiecesBegin}

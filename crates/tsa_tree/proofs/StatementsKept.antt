@@ -1,5 +1,5 @@
 -- The rows of statements spell them by the productions only.
-use Rattle.std.proofs.Common.{ℕ, ◌+◌, ◌≡◌, ◌∙◌, ap, sym, subst, refl, Bool, true, false, not, Option, Some, None, List}
+use Rattle.std.proofs.Common.{ℕ, ◌+◌, ◌≡◌, ◌∙◌, ap, sym, subst, refl, Bool, true, Option, Some, None, List}
 use Rattle.std.proofs.lemmas.Bool.{not-true}
 use Rattle.tsa_base.specs.Tokens.{Lexeme}
 use Rattle.tsa_tree.specs.declared.expr.BinaryOp.{BinaryOp}
@@ -9,8 +9,8 @@ use Rattle.tsa_tree.specs.declared.sign.Sign.TheVariants as sign
 use Rattle.tsa_tree.specs.Expressions.{Expression}
 use Rattle.tsa_tree.specs.Signs.{Aliases, sign_at, span_over, identifier_at, operator, assigns}
 use Rattle.tsa_tree.specs.Spelling.{IsExpression}
-use Rattle.tsa_tree.specs.StatementSpelling.{IsSimple, of_evaluation, of_assignment, of_step_behind, of_step_before, IsOptional, no_expression, an_expression, IsTest, of_test, IsForInit, of_no_init, of_simple_init, of_local_init, IsForStep, of_no_step, of_step, IsStatement, of_block, of_empty, of_simple, of_if, of_if_else, of_while, of_do, of_for, of_switch, of_case, of_default, of_label, of_break, of_continue, of_goto, of_return, IsBody, of_body, IsStatements, no_statement, of_locals_first, of_statement_first}
-use Rattle.tsa_tree.specs.Statements.{evaluation, SimplePart, by_expression, ForInit, Statement, block, if_alone, if_else, while_loop, do_loop, for_loop, switch, case, otherwise, label, return, ends_short}
+use Rattle.tsa_tree.specs.StatementSpelling.{IsSimple, of_evaluation, of_assignment, of_step_behind, of_step_before, IsOptional, no_expression, an_expression, IsTest, of_test, IsForInit, of_no_init, of_simple_init, of_local_init, of_no_step, of_step, IsStatement, of_block, of_empty, of_simple, of_if, of_if_else, of_while, of_do, of_for, of_switch, of_case, of_default, of_label, of_break, of_continue, of_goto, of_return, IsBody, of_body, no_statement, of_locals_first, of_statement_first}
+use Rattle.tsa_tree.specs.Statements.{evaluation, by_expression, ForInit, Statement, block, if_else, while_loop, do_loop, for_loop, switch, case, otherwise, label, return, ends_short}
 use Rattle.tsa_tree.specs.Rows.{Sort, a_simple, a_for_init, a_statement, some_statements, Node, operand, simple, for_init, statement, statements, a_semicolon, a_keyword, sees, Row, climb, climb_on, tightest, simple_behind, simple_row, body, test, value_or_none, if_end, for_end, simple_statement, statement_row, rule}
 use Rattle.tsa_tree.specs.Rows as rows
 use Rattle.tsa_tree.proofs.ProductionSigns.{shows_name, shows_open, shows_close, shows_close_brace}

@@ -1,5 +1,5 @@
 -- The rows of statements meet what their reader needs.
-use Rattle.std.proofs.Common.{ℕ, ◌+◌, ◌<◌, ◌≤◌, ◌≡◌, ◌∙◌, ap, sym, subst, refl, Bool, true, false, not, Option, Some, None, List, arith, ◌⊎◌, inl, inr, nat_eq, nat_le}
+use Rattle.std.proofs.Common.{ℕ, ◌+◌, ◌<◌, ◌≡◌, ◌∙◌, ap, sym, refl, Bool, true, false, not, Option, Some, None, List, arith, inl, inr, nat_eq}
 use Rattle.std.proofs.lemmas.Bool.{le-leb, leb-false}
 use Rattle.tsa_base.specs.Tokens.{Lexeme}
 use Rattle.tsa_tree.specs.declared.expr.BinaryOp.{BinaryOp}
@@ -8,16 +8,14 @@ use Rattle.tsa_tree.specs.declared.sign.Sign.{Sign}
 use Rattle.tsa_tree.specs.declared.sign.Sign.TheVariants as sign
 use Rattle.tsa_tree.specs.Expressions.{Expression}
 use Rattle.tsa_tree.specs.Signs.{Aliases, sign_at, span_over, identifier_at, operator, level, assigns}
-use Rattle.tsa_tree.specs.StatementSpelling.{one_at}
-use Rattle.tsa_tree.specs.Statements.{Simple, evaluation, assignment, SimplePart, Ending, by_expression, by_operand, by_step, ForInit, no_init, local_init, simple_init, Statement, if_alone, if_else, while_loop, do_loop, for_loop, switch, case, otherwise, label, return, ends_short}
-use Rattle.tsa_tree.specs.Rows.{Sort, an_expression, a_simple, a_for_init, a_statement, some_statements, Call, expression, simple, for_init, statement, statements, an_open, a_close, a_semicolon, a_colon, a_keyword, an_assignment, a_step, rank, mark, sees, is_keyword, is_assignment, Row, tightest, climb_on, simple_behind, simple_row, body, test, value_or_none, if_end, for_end, simple_statement, statement_row, rule}
-use Rattle.tsa_forms.specs.Form.{done, token, part}
+use Rattle.tsa_tree.specs.Statements.{evaluation, Ending, by_expression, by_operand, by_step, ForInit, Statement, if_else, while_loop, do_loop, for_loop, switch, case, otherwise, label, return, ends_short}
+use Rattle.tsa_tree.specs.Rows.{a_simple, a_statement, simple, statement, a_semicolon, a_colon, a_keyword, rank, mark, sees, is_keyword, Row, tightest, climb_on, simple_behind, simple_row, body, test, value_or_none, if_end, for_end, simple_statement, statement_row, rule}
+use Rattle.tsa_forms.specs.Form.{done, token}
 use Rattle.tsa_forms.proofs.Good as g
 use Rattle.tsa_tree.proofs.SignFacts.{is_plain, operator_no_postfix, operator_no_open, close_plain, level_low}
-use Rattle.tsa_tree.proofs.RowFacts.{begins_operand, begins_type, begins_statement, begins_simple, begins_inner, Ended, Loose, First, Ends, Moves, EndsSimple, EndsStatement, Next, Start, Good, never, ended}
-use Rattle.tsa_tree.proofs.DeclarationFacts.{semicolon_plain, not_true, not_false, type_no_brace}
-use Rattle.tsa_tree.proofs.DeclarationsMeet.{settled_declarator}
-use Rattle.tsa_tree.proofs.StatementFacts.{colon_plain, step_no_postfix, step_no_open, assignment_no_postfix, assignment_no_open, step_begins, operand_simple, simple_statement_begins, operand_no_semicolon, simple_no_semicolon, type_no_semicolon, simple_no_type, simple_no_close, statement_no_type, statement_no_brace, inner_no_else, while_no_else, brace_inner, type_inner, statement_inner}
+use Rattle.tsa_tree.proofs.RowFacts.{begins_statement, begins_simple, Ended, First, Ends, Moves, EndsSimple, EndsStatement, Next, Start, Good, never, ended}
+use Rattle.tsa_tree.proofs.DeclarationFacts.{semicolon_plain, not_true, not_false}
+use Rattle.tsa_tree.proofs.StatementFacts.{colon_plain, step_no_postfix, step_no_open, assignment_no_postfix, assignment_no_open, step_begins, operand_simple, simple_statement_begins, operand_no_semicolon, simple_no_close, while_no_else}
 
 module _ (tokens : List Lexeme) where
   -- What ends a simple statement is over before a token that goes on with no expression.

@@ -1,5 +1,5 @@
 -- Statements with all spans at 0: two are equal but for spans where their plain ones are.
-use Rattle.std.specs.Prelude.{Option, option_map}
+use Rattle.std.specs.Prelude.{option_map}
 use Rattle.tsa_tree.specs.Expressions.{plain, plain_name, nowhere}
 use Rattle.tsa_tree.specs.PlainDeclarations.{plain_declaration}
 use Rattle.tsa_tree.specs.Statements.{Simple, evaluation, assignment, ForInit, no_init, simple_init, local_init, Statement, block, empty, local, simple, if_alone, if_else, while_loop, do_loop, for_loop, switch, case, otherwise, label, break, continue, goto, return, Statements, none, more}

@@ -1,5 +1,5 @@
 -- Statements as they are written, with what reading gives, one row a production; and lists that are refused, one row a kind.
-use Rattle.std.specs.Prelude.{ℕ, ◌≡◌, List, [], ◌∷◌, Bool, true, false, Some, None, Ok, Err, codes}
+use Rattle.std.specs.Prelude.{ℕ, ◌≡◌, List, [], ◌∷◌, Some, None, Ok, Err, codes}
 use Rattle.std.specs.declared.option.Option.{Option}
 use Rattle.std.specs.declared.result.Result.{Result}
 use Rattle.tsa_base.specs.Tokens.{Lexeme, BadByte, tokens_of}
@@ -14,7 +14,7 @@ use Rattle.tsa_tree.specs.Expressions as args
 use Rattle.tsa_tree.specs.PlainStatements.{plain_statement}
 use Rattle.tsa_tree.specs.Reads.{read}
 use Rattle.tsa_tree.specs.Rows.{a_statement, statement}
-use Rattle.tsa_tree.specs.Statements.{Simple, evaluation, assignment, ForInit, no_init, simple_init, local_init, Statement, block, empty, local, simple, if_alone, if_else, while_loop, do_loop, for_loop, switch, case, otherwise, label, break, continue, goto, return, Statements, none, more}
+use Rattle.tsa_tree.specs.Statements.{Simple, evaluation, assignment, no_init, simple_init, local_init, Statement, block, empty, local, simple, if_alone, if_else, while_loop, do_loop, for_loop, switch, case, otherwise, label, break, continue, goto, return, Statements, none, more}
 use Rattle.tsa_forms.specs.Reading.{syntax, deep, refuse, Outcome}
 
 abbrev spanless : Outcome Statement → Outcome Statement

@@ -1,5 +1,5 @@
 -- The grammar of statements as rows of forms.
-use Rattle.std.specs.Prelude.{ℕ, ◌+◌, List, [], ◌∷◌, Bool, true, false, not, Some, None}
+use Rattle.std.specs.Prelude.{ℕ, ◌+◌, List, false, not, Some, None}
 use Rattle.std.specs.declared.option.Option.{Option}
 use Rattle.tsa_base.specs.Tokens.{Lexeme}
 use Rattle.tsa_tree.specs.declared.expr.BinaryOp.{BinaryOp}
@@ -7,7 +7,6 @@ use Rattle.tsa_tree.specs.declared.sign.Keyword.TheVariants as key
 use Rattle.tsa_tree.specs.declared.sign.Sign.{Sign}
 use Rattle.tsa_tree.specs.declared.sign.Sign.TheVariants as sign
 use Rattle.tsa_tree.specs.AttributeRows.{opens}
-use Rattle.tsa_tree.specs.Declarations.{Declaration}
 use Rattle.tsa_tree.specs.ExpressionRows.{climb}
 use Rattle.tsa_tree.specs.Expressions.{Expression, nowhere}
 use Rattle.tsa_tree.specs.Signs.{Aliases, sign_at, span_over, identifier_at, assigns, begins_type, begins_statement}

@@ -1,11 +1,10 @@
 -- The grammar of statements, one constructor a production (C11 6.8). Places and limits are as in the grammar of expressions. The
 -- body of an `if`, an `else`, a loop, a `switch` and a label is a construct that opens at its own first token.
-use Rattle.std.specs.Prelude.{ℕ, ◌+◌, ◌≡◌, List, [], ◌∷◌, Bool, true, false, Some, None}
+use Rattle.std.specs.Prelude.{ℕ, ◌+◌, ◌≡◌, List, Bool, true, false, Some, None}
 use Rattle.std.specs.declared.option.Option.{Option}
 use Rattle.tsa_base.specs.Tokens.{Lexeme}
 use Rattle.tsa_tree.specs.declared.expr.BinaryOp.{BinaryOp}
 use Rattle.tsa_tree.specs.declared.sign.Keyword.TheVariants as key
-use Rattle.tsa_tree.specs.declared.sign.Sign.{Sign}
 use Rattle.tsa_tree.specs.declared.sign.Sign.TheVariants as sign
 use Rattle.tsa_tree.specs.Declarations.{Specified, Declaration}
 use Rattle.tsa_tree.specs.DeclarationSpelling.{IsSpecifier, IsVariable, IsLocals}
