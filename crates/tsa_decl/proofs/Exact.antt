@@ -1,11 +1,11 @@
 -- What was read by the rows is what the grammar asks for.
-use Rattle.std.proofs.Common.{ℕ, ◌≡◌, sym, subst, List, [], Ok, Err, Result, IfOk, ◌∙◌}
+use Rattle.std.proofs.Common.{ℕ, ◌≡◌, sym, subst, List, [], Ok, Err, Result, IfOk, ◌∙◌, false}
 use Rattle.tsa_base.specs.Tokens.{Lexeme}
 use Rattle.tsa_forms.specs.Reading.{Outcome}
 use Rattle.tsa_tree.proofs.DeclarationLaws.{an_answer}
 use Rattle.tsa_tree.specs.AttributeRefusals.{left_out, lacking}
 use Rattle.tsa_tree.specs.DeclarationAnswers.{Part, sort_of, call_of, IsLongest, IsBroken, IsRefused, IsTooDeep, IsAnswer}
-use Rattle.tsa_tree.specs.Declarations.{UnitItem}
+use Rattle.tsa_tree.specs.UnitItems.{UnitItem}
 use Rattle.tsa_tree.specs.Reads.{read}
 use Rattle.tsa_tree.specs.Rows.{some_items, item, Node}
 use Rattle.tsa_tree.specs.Signs.{Aliases}
@@ -52,12 +52,12 @@ module _ {X : Type 0} (p : Part) (view : X → Node (sort_of p) × ℕ) (tokens 
   no_other r g e q = given_by e (read tokens (sort_of p) (call_of p aliases) at) (subst Given q g)
 
 -- a list that was new
-pub items_fail : (ts : List Lexeme) (aliases : Aliases) (m : ℕ) (e : SyntaxRefusal) → Fails e (after [] (read ts some_items (item aliases) m))
-    → Fails e (read ts some_items (item aliases) m)
+pub items_fail : (ts : List Lexeme) (aliases : Aliases) (m : ℕ) (e : SyntaxRefusal) → Fails e (after [] (read ts some_items (item aliases false) m))
+    → Fails e (read ts some_items (item aliases false) m)
 items_fail ts aliases m e h = fails_same e _ _ (sym (after-nothing _)) h
 
-pub items_go : (ts : List Lexeme) (aliases : Aliases) (m : ℕ) (xs : List UnitItem) (n : ℕ) → after [] (read ts some_items (item aliases) m) ≡ Ok (xs, n)
-    → read ts some_items (item aliases) m ≡ Ok (xs, n)
+pub items_go : (ts : List Lexeme) (aliases : Aliases) (m : ℕ) (xs : List UnitItem) (n : ℕ) → after [] (read ts some_items (item aliases false) m) ≡ Ok (xs, n)
+    → read ts some_items (item aliases false) m ≡ Ok (xs, n)
 items_go ts aliases m xs n h = sym (after-nothing _) ∙ h
 
 pub ruleset items = (items_fail, items_go)

@@ -7,9 +7,11 @@ use Rattle.tsa_tree.proofs.RowsRead.{read_steps}
 use Rattle.tsa_tree.specs.declared.decl.Decl.{Decl}
 use Rattle.tsa_tree.specs.declared.item.Item.{Item}
 use Rattle.tsa_tree.specs.declared.item.Item.TheVariants as items
-use Rattle.tsa_tree.specs.Declarations.{Specified, Declarator, Declaration, Declared, UnitItem, global_item}
+use Rattle.tsa_tree.specs.Declarations.{Specified, Declarator, Declaration, Declared}
+use Rattle.tsa_tree.specs.UnitItems.{UnitItem, global_item}
 use Rattle.tsa_tree.specs.DeclarationSpelling.{a_global}
-use Rattle.tsa_tree.specs.ItemShapes.{decl_shape, item_shape, item_shapes}
+use Rattle.tsa_tree.specs.ItemShapes.{decl_shape}
+use Rattle.tsa_tree.specs.UnitShapes.{item_shape, item_shapes}
 use Rattle.tsa_tree.specs.Reads.{read}
 use Rattle.tsa_tree.specs.Rows.{a_declarator, a_declared, some_declarations, declarator, declared_rest, declarators}
 use Rattle.tsa_tree.specs.Signs.{Aliases}

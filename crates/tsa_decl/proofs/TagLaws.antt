@@ -10,9 +10,10 @@ use Rattle.tsa_tree.specs.declared.item.Item.{Item}
 use Rattle.tsa_tree.specs.declared.sign.Sign.TheVariants as sign
 use Rattle.tsa_tree.specs.AttributeAnswers.{read_any}
 use Rattle.tsa_tree.specs.Attributes.{Attribute, attr_shapes}
-use Rattle.tsa_tree.specs.Declarations.{structure, enumerated, UnitItem}
+use Rattle.tsa_tree.specs.Declarations.{structure, enumerated}
+use Rattle.tsa_tree.specs.UnitItems.{UnitItem}
 use Rattle.tsa_tree.specs.Expressions.{Identifier}
-use Rattle.tsa_tree.specs.ItemShapes.{item_shapes}
+use Rattle.tsa_tree.specs.UnitShapes.{item_shapes}
 use Rattle.tsa_tree.specs.Reads.{read}
 use Rattle.tsa_tree.specs.Rows.{some_attributes, attributes, mark, sees, is_attribute_sign, an_open_brace, a_semicolon, declared_of, alias_of, structure_row, enumeration_row, structure_alias_row, enumeration_alias_row}
 use Rattle.tsa_tree.specs.Shapes.{name_shape}
@@ -115,9 +116,9 @@ module _ (ts : List Lexeme) (aliases : Aliases) where
   struct_by m marked xs n =
       then (tag_at ts aliases n) (λ tag e. choose marked (structure_at ts aliases false m xs (Some tag) e)
       (choose (sees ts (an_open_brace aliases) e) (structure_at ts aliases false m xs (Some tag) e)
-      (choose (sees ts (a_semicolon aliases) e) (Ok ([], e + 1)) (going_items ts (declared_of ts aliases (structure tag) e) e))))
+      (choose (sees ts (a_semicolon aliases) e) (Ok ([], e + 1)) (going_items ts (declared_of ts aliases false (structure tag) e) e))))
 
-  struct_is : (m : ℕ) → going_items ts (structure_row ts aliases m) (m + 1) ≡ then (read_any ts aliases 0 (m + 1)) (struct_by m (is_attribute_sign (sign_at ts aliases (m + 1))))
+  struct_is : (m : ℕ) → going_items ts (structure_row ts aliases false m) (m + 1) ≡ then (read_any ts aliases 0 (m + 1)) (struct_by m (is_attribute_sign (sign_at ts aliases (m + 1))))
   unfolding read_any tag_at structure_at choose
   struct_is m =
       marked-law (is_attribute_sign (sign_at ts aliases (m + 1))) (read ts some_attributes (attributes aliases 0) (m + 1)) (m + 1) _ _ (struct_by m)
@@ -127,7 +128,7 @@ module _ (ts : List Lexeme) (aliases : Aliases) where
       (twice-law (sees ts (a_semicolon aliases) (m + 1 + 1)) _ _ _)))
 
   abbrev struct_at : ℕ → Outcome (List UnitItem)
-  struct_at m = going_items ts (structure_row ts aliases m) (m + 1)
+  struct_at m = going_items ts (structure_row ts aliases false m) (m + 1)
 
   pub struct_unmarked : (xs : List Item) (m : ℕ) (e : SyntaxRefusal) → Fails e (marks.after [] (read_any ts aliases 0 (m + 1)))
       → Fails e (after (item_shapes xs) (struct_at m))
@@ -150,7 +151,7 @@ module _ (ts : List Lexeme) (aliases : Aliases) where
       → tag_at ts aliases n ≡ Ok (tag, i) → is_attribute_sign (sign_at ts aliases (m + 1)) ≡ false
       → struct_at m
       ≡ choose (sees ts (an_open_brace aliases) i) (structure_at ts aliases false m ys (Some tag) i)
-      (choose (sees ts (a_semicolon aliases) i) (Ok ([], i + 1)) (going_items ts (declared_of ts aliases (structure tag) i) i))
+      (choose (sees ts (a_semicolon aliases) i) (Ok ([], i + 1)) (going_items ts (declared_of ts aliases false (structure tag) i) i))
   struct_plain m ys n tag i h k a = struct_marks m ys n h ∙ goes _ _ tag i k ∙ other _ _ _ a
 
   pub struct_bodied : (xs : List Item) (m : ℕ) (ys : List Attribute) (n : ℕ) (tag : Identifier) (i : ℕ) → marks.after [] (read_any ts aliases 0 (m + 1)) ≡ Ok (ys, n)
@@ -170,17 +171,17 @@ module _ (ts : List Lexeme) (aliases : Aliases) where
   pub struct_named : (xs : List Item) (m : ℕ) (ys : List Attribute) (n : ℕ) (tag : Identifier) (i : ℕ) → marks.after [] (read_any ts aliases 0 (m + 1)) ≡ Ok (ys, n)
       → tag_at ts aliases n ≡ Ok (tag, i) → is_attribute_sign (sign_at ts aliases (m + 1)) ≡ false
       → sign_at ts aliases i ≢ sign.OpenBrace → sign_at ts aliases i ≢ sign.Semicolon
-      → after (item_shapes xs) (struct_at m) ≡ after (item_shapes xs) (going_items ts (declared_of ts aliases (structure tag) i) i)
+      → after (item_shapes xs) (struct_at m) ≡ after (item_shapes xs) (going_items ts (declared_of ts aliases false (structure tag) i) i)
   struct_named xs m ys n tag i h k a b c =
       ap (after (item_shapes xs))
       (struct_plain m ys n tag i h k a ∙ other _ _ _ (not_open_brace (sign_at ts aliases i) b) ∙ other _ _ _ (not_semicolon (sign_at ts aliases i) c))
 
   -- behind `enum`
   abbrev enum_at : ℕ → Outcome (List UnitItem)
-  enum_at m = going_items ts (enumeration_row ts aliases m) (m + 1)
+  enum_at m = going_items ts (enumeration_row ts aliases false m) (m + 1)
 
   abbrev of_enum : Identifier → ℕ → Outcome (List UnitItem)
-  of_enum tag n = going_items ts (declared_of ts aliases (enumerated tag) n) n
+  of_enum tag n = going_items ts (declared_of ts aliases false (enumerated tag) n) n
 
   abbrev enum_by : (m : ℕ) → Option Identifier → ℕ → Outcome (List UnitItem)
   enum_by m = at_tag (enumeration_at ts aliases false m) of_enum
@@ -201,7 +202,7 @@ module _ (ts : List Lexeme) (aliases : Aliases) where
       ∙ ap (λ start. after (item_shapes xs) (enumeration_at ts aliases false start (option_map name_shape t) n)) (sym q)
 
   pub enum_named : (xs : List Item) (m : ℕ) (t : Option Name) (x : Name) (n : ℕ) → opening_at ts aliases (m + 1) ≡ Ok (option_map name_shape t, n) → used_at t n ≡ Some x
-      → after (item_shapes xs) (enum_at m) ≡ after (item_shapes xs) (going_items ts (declared_of ts aliases (enumerated (name_shape x)) n) n)
+      → after (item_shapes xs) (enum_at m) ≡ after (item_shapes xs) (going_items ts (declared_of ts aliases false (enumerated (name_shape x)) n) n)
   enum_named xs m t x n h e = ap (after (item_shapes xs)) (enum_is m ∙ goes _ _ (option_map name_shape t) n h ∙ at_use (enumeration_at ts aliases false m) of_enum t x n e)
 
   -- behind `typedef enum`

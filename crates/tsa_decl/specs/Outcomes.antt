@@ -7,7 +7,8 @@ use Rattle.tsa_tree.specs.declared.sign.Sign.{Sign}
 use Rattle.tsa_tree.specs.declared.sign.Sign.TheVariants as sign
 use Rattle.tsa_tree.specs.Answers.{below_limit}
 use Rattle.tsa_tree.specs.Attributes.{Attribute}
-use Rattle.tsa_tree.specs.Declarations.{Base, int, unsigned, void, structure, enumerated, alias, Specified, Declarator, Declaration, Initialiser, value, Initialisers, no_more, one_more, Parameter, EnumConstant, StructBody, UnitItem}
+use Rattle.tsa_tree.specs.Declarations.{Base, int, unsigned, void, structure, enumerated, alias, Specified, Declarator, Declaration, Initialiser, value, Initialisers, no_more, one_more, Parameter, EnumConstant, StructBody}
+use Rattle.tsa_tree.specs.UnitItems.{UnitItem}
 use Rattle.tsa_tree.specs.DeclarationSpelling.{Role, a_member, a_global}
 use Rattle.tsa_tree.specs.Expressions.{Identifier, Expression}
 use Rattle.tsa_tree.specs.ItemSpelling.{parameter, parameter_start}
@@ -178,4 +179,4 @@ module _ (tokens : List Lexeme) (aliases : Aliases) where
   unfoldable pub other_item_at : (m : ℕ) → Outcome (List UnitItem)
   other_item_at m =
       going_items tokens
-      (behind_storage tokens aliases m (part a_specifier (specifier aliases) (λ t n. part some_items (declared aliases t) (λ xs e. done xs)))) m
+      (behind_storage tokens aliases m (part a_specifier (specifier aliases) (λ t n. part some_items (declared aliases false t) (λ xs e. done xs)))) m

@@ -2,7 +2,7 @@
 ghost use Rattle.std.specs.Prelude.{◌≡◌, ◌+◌, ◌≤◌, ◌<◌, length, option_map, IfOk};
 ghost use Rattle.tsa_base.specs.declared.limits.TheConstants.{INPUT_LIMIT};
 ghost use Rattle.tsa_tree.specs.Attributes.{attr_shapes};
-ghost use Rattle.tsa_tree.specs.ItemShapes.{item_shapes};
+ghost use Rattle.tsa_tree.specs.UnitShapes.{item_shapes};
 ghost use Rattle.tsa_tree.specs.Rows.{alias_end};
 ghost use Rattle.tsa_tree.specs.Shapes.{name_shape};
 ghost use Rattle.tsa_tree.specs.Signs.{lexemes};

@@ -1,7 +1,8 @@
 //! Items without a body are read, told by their first tokens (C11 6.7, 6.9).
-ghost use Rattle.std.specs.Prelude.{◌≡◌, ◌+◌, ◌≤◌, ◌<◌, length, None, IfOk};
+ghost use Rattle.std.specs.Prelude.{◌≡◌, ◌+◌, ◌≤◌, ◌<◌, length, None, IfOk, false};
 ghost use Rattle.tsa_base.specs.declared.limits.TheConstants.{INPUT_LIMIT};
-ghost use Rattle.tsa_tree.specs.ItemShapes.{base_shape, item_shapes};
+ghost use Rattle.tsa_tree.specs.ItemShapes.{base_shape};
+ghost use Rattle.tsa_tree.specs.UnitShapes.{item_shapes};
 ghost use Rattle.tsa_tree.specs.Reads.{read};
 ghost use Rattle.tsa_tree.specs.Rows.{some_items, an_open_brace, sees, declared as declared_call, item as item_call, declared_of as declared_of_row, alias_of as alias_of_row, structure_row, enumeration_row, structure_alias_row, enumeration_alias_row, typedef_row};
 ghost use Rattle.tsa_tree.specs.Signs.{lexemes, sign_at as spec_sign};
@@ -38,7 +39,7 @@ pub fn item<'a>(
 ) -> Result<u32, SyntaxRefusal>
     requires room { length tokens.now ≤ INPUT_LIMIT }
     requires within { at ≤ length tokens.now }
-    ensures gives { Gives (λ next. (item_shapes list.new.items, next)) result (after (item_shapes list.old.items) (read (lexemes tokens.now) some_items (item_call (known aliases.entry)) at)) }
+    ensures gives { Gives (λ next. (item_shapes list.new.items, next)) result (after (item_shapes list.old.items) (read (lexemes tokens.now) some_items (item_call (known aliases.entry) false) at)) }
     ensures ends { IfOk result (λ next. (at < next) × (next ≤ length tokens.now)) }
 {
     match sign_at(tokens, at, aliases) {
@@ -79,7 +80,7 @@ fn declared<'a>(
 ) -> Result<u32, SyntaxRefusal>
     requires room { length tokens.now ≤ INPUT_LIMIT }
     requires within { specified.next ≤ length tokens.now }
-    ensures gives { Gives (λ next. (item_shapes list.new.items, next)) result (after (item_shapes list.old.items) (read (lexemes tokens.now) some_items (declared_call (known aliases.entry) (row_type specified.entry)) specified.entry.next)) }
+    ensures gives { Gives (λ next. (item_shapes list.new.items, next)) result (after (item_shapes list.old.items) (read (lexemes tokens.now) some_items (declared_call (known aliases.entry) false (row_type specified.entry)) specified.entry.next)) }
     ensures ends { IfOk result (λ next. (specified.entry.next < next) × (next ≤ length tokens.now)) }
 {
     let of = declarator_at(bump, tokens, specified.next, aliases)?;
@@ -104,7 +105,7 @@ fn declared_of<'a>(
 ) -> Result<u32, SyntaxRefusal>
     requires room { length tokens.now ≤ INPUT_LIMIT }
     requires within { at ≤ length tokens.now }
-    ensures gives { Gives (λ next. (item_shapes list.new.items, next)) result (after (item_shapes list.old.items) (going_items (lexemes tokens.now) (declared_of_row (lexemes tokens.now) (known aliases.entry) (base_shape base.entry) at) at)) }
+    ensures gives { Gives (λ next. (item_shapes list.new.items, next)) result (after (item_shapes list.old.items) (going_items (lexemes tokens.now) (declared_of_row (lexemes tokens.now) (known aliases.entry) false (base_shape base.entry) at) at)) }
     ensures ends { IfOk result (λ next. (at < next) × (next ≤ length tokens.now)) }
 {
     let specified = specified_at(tokens, base, at, aliases);
@@ -156,7 +157,7 @@ fn struct_item<'a>(
 ) -> Result<u32, SyntaxRefusal>
     requires room { length tokens.now ≤ INPUT_LIMIT }
     requires within { at < length tokens.now }
-    ensures gives { Gives (λ next. (item_shapes list.new.items, next)) result (after (item_shapes list.old.items) (going_items (lexemes tokens.now) (structure_row (lexemes tokens.now) (known aliases.entry) at) (at + 1))) }
+    ensures gives { Gives (λ next. (item_shapes list.new.items, next)) result (after (item_shapes list.old.items) (going_items (lexemes tokens.now) (structure_row (lexemes tokens.now) (known aliases.entry) false at) (at + 1))) }
     ensures ends { IfOk result (λ next. (at < next) × (next ≤ length tokens.now)) }
 {
     let mut attrs = Vec::new(bump);
@@ -192,7 +193,7 @@ fn enum_item<'a>(
 ) -> Result<u32, SyntaxRefusal>
     requires room { length tokens.now ≤ INPUT_LIMIT }
     requires within { at < length tokens.now }
-    ensures gives { Gives (λ next. (item_shapes list.new.items, next)) result (after (item_shapes list.old.items) (going_items (lexemes tokens.now) (enumeration_row (lexemes tokens.now) (known aliases.entry) at) (at + 1))) }
+    ensures gives { Gives (λ next. (item_shapes list.new.items, next)) result (after (item_shapes list.old.items) (going_items (lexemes tokens.now) (enumeration_row (lexemes tokens.now) (known aliases.entry) false at) (at + 1))) }
     ensures ends { IfOk result (λ next. (at < next) × (next ≤ length tokens.now)) }
 {
     let opening = opening_at(bump, tokens, at, at + 1, aliases)?;

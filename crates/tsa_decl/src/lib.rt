@@ -15,7 +15,9 @@ mod read;
 mod types;
 mod view;
 
+pub use locals::read_locals;
 pub use read::{read_declaration, read_head, read_local};
+pub use view::{name, open, semicolon};
 
 #[cfg(test)]
 mod item_tests;

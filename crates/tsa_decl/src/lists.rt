@@ -2,7 +2,8 @@
 ghost use Rattle.std.specs.Prelude.{◌≡◌, ◌+◌, ◌≤◌, ◌<◌, length as count, IfOk};
 ghost use Rattle.tsa_base.specs.declared.limits.TheConstants.{INPUT_LIMIT};
 ghost use Rattle.tsa_tree.specs.DeclarationSpelling.{a_member};
-ghost use Rattle.tsa_tree.specs.ItemShapes.{decl_shapes, item_shapes};
+ghost use Rattle.tsa_tree.specs.ItemShapes.{decl_shapes};
+ghost use Rattle.tsa_tree.specs.UnitShapes.{item_shapes};
 ghost use Rattle.tsa_tree.specs.Reads.{read};
 ghost use Rattle.tsa_tree.specs.Rows.{some_declarations, declarators as declarators_call, member_line as line_call, members as members_call};
 ghost use Rattle.tsa_tree.specs.Signs.{lexemes};

@@ -115,7 +115,7 @@ fn variables<'a>(
 
 /// A type and its locals, up to before their `;`, or one local alone where `single` is true.
 #[tactic(auto, using(crate::proofs::LocalLaws::behind_types))]
-pub fn locals<'a>(
+pub fn read_locals<'a>(
     bump: &'a Bump,
     tokens: &[Token<'_>],
     at: u32,

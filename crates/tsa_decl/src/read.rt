@@ -1,9 +1,10 @@
 //! Items without a body, heads of functions and locals, as the parts of a unit ask for them.
-ghost use Rattle.std.specs.Prelude.{◌≡◌, ◌≤◌, ◌<◌, ℕ, length, [], None, IfOk, IsErrOf};
+ghost use Rattle.std.specs.Prelude.{◌≡◌, ◌≤◌, ◌<◌, ℕ, length, [], None, IfOk, IsErrOf, false};
 ghost use Rattle.tsa_base.specs.declared.limits.TheConstants.{INPUT_LIMIT, NESTING_LIMIT};
 ghost use Rattle.tsa_tree.specs.AttributeRefusals as reason;
 ghost use Rattle.tsa_tree.specs.DeclarationAnswers.{an_item, a_head_alone, some_locals, IsLongest, IsBroken, IsRefused, IsTooDeep};
-ghost use Rattle.tsa_tree.specs.ItemShapes.{decl_shapes, item_shapes, head_shape};
+ghost use Rattle.tsa_tree.specs.ItemShapes.{decl_shapes, head_shape};
+ghost use Rattle.tsa_tree.specs.UnitShapes.{item_shapes};
 ghost use Rattle.tsa_tree.specs.Signs.{lexemes};
 ghost use Rattle.tsa_tree.specs.Reads.{read};
 ghost use Rattle.tsa_tree.specs.Rows.{some_items, item as item_call};
@@ -12,7 +13,7 @@ ghost use Rattle.tsa_attr.specs.Outcomes.{IsOfAttributes};
 
 use crate::heads::head;
 use crate::items::item;
-use crate::locals::locals;
+use crate::locals::read_locals;
 use crate::nodes::listed;
 use bumpalo::Bump;
 use tsa_base::Token;
@@ -53,7 +54,7 @@ fn read_items<'a>(
 ) -> Result<(&'a [Item<'a>], u32), SyntaxRefusal>
     requires room { length tokens.now ≤ INPUT_LIMIT }
     requires within { at ≤ length tokens.now }
-    ensures gives { Gives (λ found. (item_shapes found.0.now, found.1)) result (read (lexemes tokens.now) some_items (item_call aliases.now) at) }
+    ensures gives { Gives (λ found. (item_shapes found.0.now, found.1)) result (read (lexemes tokens.now) some_items (item_call aliases.now false) at) }
     ensures ends { IfOk result (λ found. (at < found.1) × (found.1 ≤ length tokens.now)) }
 {
     let mut list = Vec::new(bump);
@@ -106,5 +107,5 @@ pub fn read_local<'a>(
     ensures no_other { (refusal : _) → IsErrOf result refusal → IsOfAttributes refusal }
     ensures next { IfOk result (λ found. (at < found.1) × (found.1 ≤ length tokens.now)) }
 {
-    locals(bump, tokens, at, depth, Some(aliases), single)
+    read_locals(bump, tokens, at, depth, Some(aliases), single)
 }

@@ -182,6 +182,10 @@ pub semicolon_no_open_brace : (s : Sign) → nat_eq (mark s) 19 ≡ true → nat
 semicolon_no_open_brace sign.Semicolon e = refl
 semicolon_no_open_brace _ e = cc
 
+pub open_brace_no_semicolon : (s : Sign) → nat_eq (mark s) 17 ≡ true → nat_eq (mark s) 19 ≡ false
+open_brace_no_semicolon sign.OpenBrace e = refl
+open_brace_no_semicolon _ e = cc
+
 -- What stands behind a name makes no function of it.
 pub rest_no_open : (s : Sign) → begins_rest s ≡ true → nat_eq (mark s) 6 ≡ false
 rest_no_open sign.Open e = cc

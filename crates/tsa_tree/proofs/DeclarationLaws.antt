@@ -22,7 +22,7 @@ use Rattle.tsa_forms.specs.Reading.{Code, syntax, deep, barred, Refusal, refuse,
 
 module _ (tokens : List Lexeme) (aliases : Aliases) (fits : ℕ → Bool) where
   to_rows : (p : Part) (x : Node (sort_of p)) (a b : ℕ) → Spells tokens aliases fits p x a b → RowsSpell tokens aliases fits p x a b
-  to_rows an_item xs a b h = items_rows tokens aliases fits h
+  to_rows an_item xs a b h = items_rows tokens aliases fits false h
   to_rows a_head_alone x a b h = head_rows tokens aliases fits h
   to_rows (some_locals single d) xs a b h = locals_rows tokens aliases fits h
 
@@ -68,7 +68,7 @@ one_spelled tokens aliases p x y a h k =
 
 pub one_item : OneItem
 one_item tokens aliases xs ys a b h k =
-    one_reading tokens some_items (item aliases) xs ys a b (items_rows tokens aliases all h) (items_rows tokens aliases all k) tt tt
+    one_reading tokens some_items (item aliases false) xs ys a b (items_rows tokens aliases all false h) (items_rows tokens aliases all false k) tt tt
 
 pub pieces_begin : PiecesBegin
 pieces_begin tokens aliases fits p x a b i le le' h =

@@ -3,12 +3,15 @@ use Rattle.std.proofs.Common.{ℕ, ◌+◌, ◌≡◌, List, [], ◌∷◌, map,
 use Rattle.tsa_base.specs.Tokens.{Lexeme}
 use Rattle.tsa_tree.specs.declared.sign.Sign.{Sign}
 use Rattle.tsa_tree.specs.declared.sign.Sign.TheVariants as sign
-use Rattle.tsa_tree.specs.Declarations.{Specified, Declarator, Declaration, Signature, UnitItem, global_item, function_item, head_of}
+use Rattle.tsa_tree.specs.Declarations.{Specified, Declarator, Declaration, Signature, head_of}
+use Rattle.tsa_tree.specs.UnitItems.{UnitItem, global_item, function_item, body_item}
 use Rattle.tsa_tree.specs.DeclarationSpelling.{a_member, a_global, IsConsts, IsSpecifier, IsDeclarator, IsInitialiser, IsInitialisers, IsRest, IsDeclarators, IsMembers, IsVariable, IsVariables, IsLocals}
 use Rattle.tsa_tree.specs.ItemSpelling.{IsParameterList, IsParameters, IsStorage, IsSignature, IsHead, IsStructBody, IsConstants, IsEnumBody, IsItem}
+use Rattle.tsa_tree.specs.UnitSpelling.{IsItems}
+use Rattle.tsa_tree.specs.Statements.{Statements}
 use Rattle.tsa_tree.specs.StatementSpelling.{IsSimple, IsForInit, IsStatement, IsStatements}
-use Rattle.tsa_tree.specs.Signs.{Aliases, sign_at}
-use Rattle.tsa_tree.specs.Rows.{Sort, Node, Call, consts, storage, specifier, declarator, initialiser, initialisers, declared_rest, declarators, member_line, members, variable, variables, locals, parameter_list, parameters, signature, head, struct_body, constants, enum_body, declared, item, simple, for_init, statement, statements, sees, Row, rule}
+use Rattle.tsa_tree.specs.Signs.{Aliases, sign_at, span_at}
+use Rattle.tsa_tree.specs.Rows.{Sort, Node, Call, consts, storage, specifier, declarator, initialiser, initialisers, declared_rest, declarators, member_line, members, variable, variables, locals, parameter_list, parameters, signature, head, struct_body, constants, enum_body, declared, item, items, simple, for_init, statement, statements, is_past, sees, Row, rule}
 use Rattle.tsa_tree.proofs.Inductions as all
 use Rattle.tsa_forms.specs.Spelling as forms
 
@@ -39,6 +42,14 @@ module _ (tokens : List Lexeme) (fits : ℕ → Bool) where
       (c : Declarator) × (s : Signature) × (m : ℕ) × IsDeclarator tokens aliases c a m × IsSignature tokens aliases fits s m n
       × (xs ≡ function_item (head_of t c s) ∷ [])
 
+  -- a function with its body up to before its brace
+  abbrev pub IsBodied : Aliases → Bool → Specified → List UnitItem → (a n : ℕ) → Type 0
+  IsBodied aliases bodies t xs a n =
+      (c : Declarator) × (s : Signature) × (m : ℕ) × (inner : Statements) × IsDeclarator tokens aliases c a m
+      × (e : ℕ) × IsSignature tokens aliases fits s m e × (sign_at tokens aliases e ≡ sign.OpenBrace) × (fits 0 ≡ true)
+      × IsStatements tokens aliases fits 1 inner (e + 1) n × (xs ≡ body_item (head_of t c s) inner (span_at tokens n) ∷ [])
+      × (bodies ≡ true)
+
   abbrev pub Means : (s : Sort) → Call s → Node s → (a b : ℕ) → Type 0
   Means _ (consts aliases) u a b = IsConsts tokens aliases true a b
   Means _ (storage aliases) u a b = IsStorage tokens aliases a b
@@ -61,9 +72,11 @@ module _ (tokens : List Lexeme) (fits : ℕ → Bool) where
   Means _ (struct_body aliases) s a b = IsStructBody tokens aliases fits s a b
   Means _ (constants aliases) xs a b = Closed aliases (λ n. IsConstants tokens aliases fits xs a n) sign.CloseBrace b
   Means _ (enum_body aliases) xs a b = IsEnumBody tokens aliases fits xs a b
-  Means _ (declared aliases t) xs a b =
-      Closed aliases (λ n. IsGlobals aliases t xs a n) sign.Semicolon b ⊎ Closed aliases (λ n. IsFunction aliases t xs a n) sign.Semicolon b
-  Means _ (item aliases) xs a b = IsItem tokens aliases fits xs a b
+  Means _ (declared aliases bodies t) xs a b =
+      Closed aliases (λ n. IsGlobals aliases t xs a n) sign.Semicolon b
+      ⊎ (Closed aliases (λ n. IsFunction aliases t xs a n) sign.Semicolon b ⊎ Closed aliases (λ n. IsBodied aliases bodies t xs a n) sign.CloseBrace b)
+  Means _ (item aliases bodies) xs a b = IsItem tokens aliases fits bodies xs a b
+  Means _ (items aliases) xs a b = IsItems tokens fits aliases xs a b × (is_past tokens b ≡ true)
   Means _ (simple aliases d) x a b = IsSimple tokens aliases fits d x.simple a b
   Means _ (for_init aliases d) x a b = Closed aliases (λ n. IsForInit tokens aliases fits d x a n) sign.Semicolon b
   Means _ (statement aliases d) x a b = IsStatement tokens aliases fits d x a b

@@ -15,12 +15,12 @@ use Rattle.tsa_tree.proofs.DeclarationsMeet.{settled_declarator, good_behind_con
 use Rattle.tsa_tree.proofs.ItemsMeet.{good_behind_storage}
 use Rattle.tsa_forms.specs.Form.{done, part}
 
-module _ (tokens : List Lexeme) (aliases : Aliases) (m : ℕ) where
+module _ (tokens : List Lexeme) (aliases : Aliases) (bodies : Bool) (m : ℕ) where
   abbrev GoodItem : (fresh : Bool) → Row some_items → ℕ → Type 0
-  GoodItem fresh f n = Good tokens some_items (item aliases) fresh f n
+  GoodItem fresh f n = Good tokens some_items (item aliases bodies) fresh f n
 
   abbrev NextItem : Row some_items → ℕ → Type 0
-  NextItem f n = Next tokens some_items (Ends tokens some_items (item aliases)) f n
+  NextItem f n = Next tokens some_items (Ends tokens some_items (item aliases bodies)) f n
 
   -- behind a struct's body, no attribute stands before its end
   good_structure_end : (xs : List Attribute) (tag : Option Identifier) (n : ℕ) → GoodItem false (structure_end tokens aliases m xs tag) n
@@ -41,16 +41,16 @@ module _ (tokens : List Lexeme) (aliases : Aliases) (m : ℕ) where
   good_alias_end t n = (tt, λ c e. ((λ h. tt), (λ h q. tt)))
 
   -- a type that is told by its tag goes on with `const` or a declarator
-  good_declared_of : (base : Base) (n : ℕ) → GoodItem false (declared_of tokens aliases base n) n
+  good_declared_of : (base : Base) (n : ℕ) → GoodItem false (declared_of tokens aliases bodies base n) n
   good_declared_of base n =
-      good_behind_consts tokens (item aliases) aliases n
-      (λ c e. part some_items (declared aliases (record { base = base; is_const = c })) (λ xs f. done xs))
+      good_behind_consts tokens (item aliases bodies) aliases n
+      (λ c e. part some_items (declared aliases bodies (record { base = base; is_const = c })) (λ xs f. done xs))
       (λ h. declarator_no_keyword key.Const (sign_at tokens aliases n) h) (λ e h. settled_declarator tokens aliases e h)
       (λ e h. (tt, λ xs f. ((λ h. tt), (λ h. tt)))) (λ h. (tt, λ xs f. ((λ h. tt), (λ h. tt))))
 
   good_alias_of : (base : Base) (n : ℕ) → GoodItem false (alias_of tokens aliases base n) n
   good_alias_of base n =
-      good_behind_consts tokens (item aliases) aliases n (λ c e. alias_end tokens aliases (record { base = base; is_const = c }) e)
+      good_behind_consts tokens (item aliases bodies) aliases n (λ c e. alias_end tokens aliases (record { base = base; is_const = c }) e)
       (λ h. declarator_no_keyword key.Const (sign_at tokens aliases n) h) (λ e h. settled_declarator tokens aliases e h)
       (λ e h. good_alias_end (record { base = base; is_const = true }) e) (λ h. good_alias_end (record { base = base; is_const = false }) n)
 
@@ -70,7 +70,7 @@ module _ (tokens : List Lexeme) (aliases : Aliases) (m : ℕ) where
   alone_no_brace n (inl h) = semicolon_no_open_brace (sign_at tokens aliases n) h
   alone_no_brace n (inr h) = typed_no_brace n h
 
-  good_structure : GoodItem false (structure_row tokens aliases m) (m + 1)
+  good_structure : GoodItem false (structure_row tokens aliases bodies m) (m + 1)
   good_structure = (
     (λ h. h),
     (λ h. tag_no_attribute (sign_at tokens aliases (m + 1)) h),
@@ -94,7 +94,7 @@ module _ (tokens : List Lexeme) (aliases : Aliases) (m : ℕ) where
     )),
   )
 
-  good_enumeration : GoodItem false (enumeration_row tokens aliases m) (m + 1)
+  good_enumeration : GoodItem false (enumeration_row tokens aliases bodies m) (m + 1)
   good_enumeration = (
     (λ h. h),
     (λ h. tag_no_brace (sign_at tokens aliases (m + 1)) h),
@@ -156,19 +156,19 @@ module _ (tokens : List Lexeme) (aliases : Aliases) (m : ℕ) where
   good_typedef (sign.Keyword key.Enum) = λ q. good_enumeration_alias
   good_typedef _ = (tt, λ t n. ((λ h. settled_declarator tokens aliases n h), (λ h. good_alias_end t n)))
 
-  good_item_row : (s : Sign) → GoodItem true (item_row tokens aliases m s) m
+  good_item_row : (s : Sign) → GoodItem true (item_row tokens aliases bodies m s) m
   good_item_row (sign.Keyword key.Struct) = λ q. good_structure
   good_item_row (sign.Keyword key.Enum) = λ q. good_enumeration
   good_item_row (sign.Keyword key.Typedef) = λ q. good_typedef (sign_at tokens aliases (m + 1))
   good_item_row _ =
-      good_behind_storage tokens (item aliases) true aliases m
-      (part a_specifier (specifier aliases) (λ t n. part some_items (declared aliases t) (λ xs e. done xs)))
+      good_behind_storage tokens (item aliases bodies) true aliases m
+      (part a_specifier (specifier aliases) (λ t n. part some_items (declared aliases bodies t) (λ xs e. done xs)))
       (omega arith) (λ n h. h) (λ n. (tt, λ t e. of_type t e)) (omega arith, λ t n. of_type t n)
     where
       of_type : (t : Specified) (n : ℕ)
-          → (NextItem (part some_items (declared aliases t) (λ xs e. done xs)) n → Settled tokens aliases n)
-          × (Settled tokens aliases n → GoodItem false (part some_items (declared aliases t) (λ xs e. done xs)) n)
+          → (NextItem (part some_items (declared aliases bodies t) (λ xs e. done xs)) n → Settled tokens aliases n)
+          × (Settled tokens aliases n → GoodItem false (part some_items (declared aliases bodies t) (λ xs e. done xs)) n)
       of_type t n = ((λ h. settled_declarator tokens aliases n h), (λ h. (tt, λ xs e. ((λ h. tt), (λ h. tt)))))
 
-  pub good_item : Good tokens some_items (item aliases) true (rule tokens some_items (item aliases) m) m
+  pub good_item : Good tokens some_items (item aliases bodies) true (rule tokens some_items (item aliases bodies) m) m
   good_item = good_item_row (sign_at tokens aliases m)

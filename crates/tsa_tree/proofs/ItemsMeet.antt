@@ -3,13 +3,13 @@ use Rattle.std.proofs.Common.{ℕ, ◌+◌, ◌<◌, ◌≡◌, List, Bool, true
 use Rattle.tsa_base.specs.Tokens.{Lexeme}
 use Rattle.tsa_tree.specs.declared.sign.Keyword.{Keyword}
 use Rattle.tsa_tree.specs.declared.sign.Keyword.TheVariants as key
-use Rattle.tsa_tree.specs.Declarations.{Specified, Declared, Parameter, EnumConstant, head_of}
+use Rattle.tsa_tree.specs.Declarations.{Specified, Declared, Parameter, EnumConstant, Head, head_of}
 use Rattle.tsa_tree.specs.ItemSpelling.{parameter, parameter_start}
 use Rattle.tsa_tree.specs.Signs.{Aliases, sign_at, identifier_at, is_star, is_lone_void}
-use Rattle.tsa_tree.specs.Rows.{Sort, a_skip, a_specifier, a_declarator, some_parameters, a_signature, a_head, a_struct_body, some_constants, some_items, Call, storage, specifier, declarator, parameter_list, parameters, signature, head, struct_body, constants, enum_body, declared, a_name, an_open, a_close, a_comma, an_open_brace, a_close_brace, a_semicolon, rank, sees, is_keyword, Row, behind_storage, parameter_end, constants_end, behind_global, rule}
+use Rattle.tsa_tree.specs.Rows.{Sort, a_skip, a_specifier, a_declarator, some_parameters, a_signature, a_head, a_struct_body, some_constants, some_items, Call, storage, specifier, declarator, parameter_list, parameters, signature, head, struct_body, constants, enum_body, declared, a_name, an_open, a_close, a_comma, an_open_brace, a_close_brace, a_semicolon, rank, sees, is_keyword, Row, behind_storage, parameter_end, constants_end, behind_global, function_end, nothing, rule}
 use Rattle.tsa_tree.proofs.SignFacts.{is_plain, comma_plain, close_plain, close_no_comma}
 use Rattle.tsa_tree.proofs.RowFacts.{begins_type, First, Ends, Moves, Next, Start, Good, Settled, Bare, never, ended}
-use Rattle.tsa_tree.proofs.DeclarationFacts.{plain_no_keyword, name_no_keyword, plain_no_star, name_no_star, plain_no_attribute, plain_no_equals, semicolon_plain, star_begins, brace_plain, brace_no_comma, plain_no_name, type_no_close, void_no_close, type_no_storage, name_no_brace, rest_no_open, not_true, not_false}
+use Rattle.tsa_tree.proofs.DeclarationFacts.{plain_no_keyword, name_no_keyword, plain_no_star, name_no_star, plain_no_attribute, plain_no_equals, semicolon_plain, star_begins, brace_plain, brace_no_comma, plain_no_name, type_no_close, void_no_close, type_no_storage, name_no_brace, rest_no_open, brace_no_attribute, open_brace_no_semicolon, not_true, not_false}
 use Rattle.tsa_tree.proofs.DeclarationsMeet.{settled_declarator, good_behind_star, good_behind_attributes}
 use Rattle.tsa_forms.specs.Form.{done, token, part, either}
 use Rattle.tsa_forms.proofs.Good as g
@@ -220,16 +220,16 @@ module _ (tokens : List Lexeme) where
   first_enum_body aliases m (inl h) = h
   first_enum_body aliases m (inr h) = never tokens m h
 
-  pub good_declared : (aliases : Aliases) (t : Specified) (m : ℕ)
-      → Good tokens some_items (declared aliases t) true (rule tokens some_items (declared aliases t) m) m
-  good_declared aliases t m = (
+  pub good_declared : (aliases : Aliases) (bodies : Bool) (t : Specified) (m : ℕ)
+      → Good tokens some_items (declared aliases bodies t) true (rule tokens some_items (declared aliases bodies t) m) m
+  good_declared aliases bodies t m = (
     omega arith,
     λ c n. (
       (λ h. tt),
       (λ h. (
         (λ h. h),
         (λ h. rest_no_open (sign_at tokens aliases n) h),
-        (λ e. (tt, λ s f. ((λ h. bare_semicolon f h), (λ h q. tt)))),
+        (λ e. (tt, λ s f. ((λ h. function_bare bodies (head_of t c s) f h), (λ h. function_goes bodies (head_of t c s) f)))),
         (λ e. (tt, λ x f. ((λ h. tt), (λ h. goes x f)))),
       )),
     ),
@@ -238,7 +238,30 @@ module _ (tokens : List Lexeme) where
       bare_semicolon : (f : ℕ) → sees tokens (a_semicolon aliases) f ≡ true → Bare tokens aliases f
       bare_semicolon f h = plain_no_attribute (sign_at tokens aliases f) (semicolon_plain (sign_at tokens aliases f) h)
 
-      goes : (x : Declared) (f : ℕ) → Good tokens some_items (declared aliases t) false (behind_global tokens aliases t x) f
+      -- no attribute stands where a function ends or its body begins
+      function_bare : (bodies : Bool) (h : Head) (f : ℕ)
+          → Next tokens some_items (Ends tokens some_items (declared aliases bodies t)) (function_end tokens aliases bodies h f) f → Bare tokens aliases f
+      function_bare false h f e = bare_semicolon f e
+      function_bare true h f (inl e) = bare_semicolon f e
+      function_bare true h f (inr (inl e)) = brace_no_attribute (sign_at tokens aliases f) e
+      function_bare true h f (inr (inr e)) = never tokens f e
+
+      no_semicolon : (f : ℕ) → (sees tokens (an_open_brace aliases) f ≡ true) ⊎ (sees tokens nothing f ≡ true)
+          → sees tokens (a_semicolon aliases) f ≡ false
+      no_semicolon f (inl e) = open_brace_no_semicolon (sign_at tokens aliases f) e
+      no_semicolon f (inr e) = never tokens f e
+
+      function_goes : (bodies : Bool) (h : Head) (f : ℕ)
+          → Good tokens some_items (declared aliases bodies t) false (function_end tokens aliases bodies h f) f
+      function_goes false h f = λ e. tt
+      function_goes true h f = (
+        (λ e. e),
+        (λ e. no_semicolon f e),
+        (λ e p. tt),
+        (λ e. ((λ e. e), (λ e. never tokens f e), (λ e. (e, λ p. (tt, λ xs n. ((λ h. tt), (λ h. tt))))), (λ e p. never tokens f p))),
+      )
+
+      goes : (x : Declared) (f : ℕ) → Good tokens some_items (declared aliases bodies t) false (behind_global tokens aliases t x) f
       goes x f = (
         (λ h. h.0),
         (λ h. not_true x.goes_on h.0),

@@ -1,5 +1,5 @@
--- The rows spell the items without a body that the productions spell.
-use Rattle.std.proofs.Common.{ℕ, ◌+◌, ◌≡◌, ap, sym, subst, refl, List, [], ◌∷◌, ◌++◌, map, Bool, true, false, ◌||◌, Some, None, arith}
+-- The rows spell the items that the productions spell.
+use Rattle.std.proofs.Common.{ℕ, ◌+◌, ◌≡◌, ap, sym, subst, refl, List, [], ◌∷◌, ◌++◌, map, Bool, true, false, ◌||◌, Some, None, arith, ◌-◌}
 use Rattle.std.specs.declared.option.Option.{Option}
 use Rattle.tsa_base.specs.Tokens.{Lexeme}
 use Rattle.tsa_tree.specs.declared.sign.Keyword.TheVariants as key
@@ -7,22 +7,26 @@ use Rattle.tsa_tree.specs.declared.sign.Sign.{Sign}
 use Rattle.tsa_tree.specs.declared.sign.Sign.TheVariants as sign
 use Rattle.tsa_tree.specs.Attributes.{Attribute}
 use Rattle.tsa_tree.specs.AttributeSpelling.{IsGroup, IsAttributes, of_no_group, of_group}
-use Rattle.tsa_tree.specs.Declarations.{Base, structure, enumerated, Specified, Declarator, Declaration, EnumConstant, Signature, StructBody, head_of, made_of, UnitItem, structure_item, alias_item, enumeration_item, global_item, function_item}
+use Rattle.tsa_tree.specs.Declarations.{Base, structure, enumerated, Specified, Declarator, Declaration, EnumConstant, Signature, StructBody, head_of, made_of}
+use Rattle.tsa_tree.specs.UnitItems.{UnitItem, structure_item, alias_item, enumeration_item, global_item, function_item, body_item}
 use Rattle.tsa_tree.specs.DeclarationSpelling as spells
 use Rattle.tsa_tree.specs.DeclarationSpelling.{a_global, IsConsts, no_const, of_const, IsBase, of_specifier, IsSpecifier, IsDeclarator, IsDeclarators, of_last_declarator, of_further_declarator}
 use Rattle.tsa_tree.specs.Expressions.{Identifier}
-use Rattle.tsa_tree.specs.ItemSpelling.{IsStorage, no_storage, of_storage, IsTag, no_tag, of_tag, IsSignature, of_head, IsStructBody, IsEnumBody, IsItem, of_structure, of_tag_alone, of_structure_alias, of_enumeration, of_enumeration_alias, of_alias_item, of_globals, of_function}
-use Rattle.tsa_tree.specs.Signs.{Aliases, sign_at, span_over, identifier_at, is_storage}
-use Rattle.tsa_tree.specs.Rows.{Sort, some_attributes, a_specifier, some_items, Node, Call, attributes, specifier, declared, item, a_name, a_semicolon, a_tag, is_keyword, sees, Row, behind_storage, structure_end, structure_alias_end, enumeration_end, enumeration_alias_end, alias_end, tagged_alias, typedef_row, item_row, rule}
+use Rattle.tsa_tree.specs.ItemSpelling.{IsStorage, no_storage, of_storage, IsTag, no_tag, of_tag, IsSignature, of_head, IsStructBody, IsEnumBody, IsItem, of_structure, of_tag_alone, of_structure_alias, of_enumeration, of_enumeration_alias, of_alias_item, of_globals, of_function, of_body_item}
+use Rattle.tsa_tree.specs.Signs.{Aliases, sign_at, span_over, identifier_at, is_storage, span_at}
+use Rattle.tsa_tree.specs.Rows.{Sort, some_attributes, a_specifier, some_items, Node, Call, attributes, specifier, declared, item, a_name, a_semicolon, a_tag, is_keyword, sees, Row, behind_storage, structure_end, structure_alias_end, enumeration_end, enumeration_alias_end, alias_end, tagged_alias, typedef_row, item_row, rule, function_end}
 use Rattle.tsa_tree.proofs.AttributeListsToRows.{attributes_rows}
 use Rattle.tsa_tree.proofs.AttributesAhead.{ahead-group, ahead-attributes}
 use Rattle.tsa_tree.proofs.AttributesKept.{never}
 use Rattle.tsa_tree.proofs.DeclarationsToRows.{consts_goes, qualified_rows, specifier_rows, declarator_rows, rest_rows_comma, rest_rows_semicolon, declarators_rows}
 use Rattle.tsa_tree.proofs.HeadsToRows.{storage_goes, signature_rows, struct_body_rows, enum_body_rows}
 use Rattle.tsa_tree.proofs.ProductionSigns.{seen}
+use Rattle.tsa_tree.specs.Statements.{Statements}
+use Rattle.tsa_tree.specs.StatementSpelling.{IsStatements}
+use Rattle.tsa_tree.proofs.BlocksToRows.{statements_rows}
 use Rattle.tsa_forms.specs.Form.{done, token, part, either}
 use Rattle.tsa_forms.specs.Spelling as forms
-use Rattle.tsa_forms.specs.Spelling.{by_rule, goes_done, goes_token, goes_part, goes_only, goes_left, goes_right}
+use Rattle.tsa_forms.specs.Spelling.{by_rule, goes_done, goes_token, goes_part, goes_only, goes_left, goes_right, goes_limit}
 
 -- a sign at which an item begins with storage words or a type, and not with a struct or an enum
 abbrev begins_type : Sign → Bool
@@ -37,7 +41,7 @@ storage_begins (sign.Keyword key.Enum) e = never e
 storage_begins (sign.Keyword key.Typedef) e = never e
 storage_begins _ e = refl
 
-module _ (tokens : List Lexeme) (aliases : Aliases) (fits : ℕ → Bool) where
+module _ (tokens : List Lexeme) (aliases : Aliases) (fits : ℕ → Bool) (bodies : Bool) where
   abbrev Spells : (s : Sort) → Call s → Node s → (a b : ℕ) → Type 0
   Spells s c x a b = forms.Spells (rule tokens) (sees tokens) fits s c x a b
 
@@ -52,13 +56,13 @@ module _ (tokens : List Lexeme) (aliases : Aliases) (fits : ℕ → Bool) where
 
   -- An item has the row of its first token's sign.
   item_by : (a b : ℕ) (xs : List UnitItem) (s : Sign) → sign_at tokens aliases a ≡ s
-      → Goes some_items (item_row tokens aliases a s) xs a b → Spells some_items (item aliases) xs a b
-  item_by a b xs s e g = by_rule (subst (λ s. Goes some_items (item_row tokens aliases a s) xs a b) (sym e) g)
+      → Goes some_items (item_row tokens aliases bodies a s) xs a b → Spells some_items (item aliases bodies) xs a b
+  item_by a b xs s e g = by_rule (subst (λ s. Goes some_items (item_row tokens aliases bodies a s) xs a b) (sym e) g)
 
   -- A typedef has the row of the sign behind its first token.
   typedef_by : (a b : ℕ) (xs : List UnitItem) (s : Sign) → sign_at tokens aliases a ≡ sign.Keyword key.Typedef
       → sign_at tokens aliases (a + 1) ≡ s → Goes some_items (typedef_row tokens aliases a s) xs (a + 1) b
-      → Spells some_items (item aliases) xs a b
+      → Spells some_items (item aliases bodies) xs a b
   typedef_by a b xs s q e g =
       item_by a b xs (sign.Keyword key.Typedef) q
       (goes_token (ap (is_keyword key.Typedef) q) (subst (λ s. Goes some_items (typedef_row tokens aliases a s) xs (a + 1) b) (sym e) g))
@@ -122,7 +126,7 @@ module _ (tokens : List Lexeme) (aliases : Aliases) (fits : ℕ → Bool) where
 
   -- The rows spell globals behind their type.
   pub globals_rows : {t : Specified} {xs : List Declaration} {a b : ℕ} → IsDeclarators tokens aliases fits a_global 0 t xs a b
-      → sign_at tokens aliases b ≡ sign.Semicolon → Spells some_items (declared aliases t) (map global_item xs) a (b + 1)
+      → sign_at tokens aliases b ≡ sign.Semicolon → Spells some_items (declared aliases bodies t) (map global_item xs) a (b + 1)
   globals_rows (of_last_declarator c i) semicolon =
       by_rule (goes_part (declarator_rows tokens aliases fits c) (goes_right
       (goes_part (rest_rows_semicolon tokens aliases fits i semicolon) (goes_right (goes_only refl goes_done)))))
@@ -134,27 +138,49 @@ module _ (tokens : List Lexeme) (aliases : Aliases) (fits : ℕ → Bool) where
   -- The rows spell a function behind its type.
   pub function_rows : {t : Specified} {c : Declarator} {s : Signature} {a m b : ℕ} → IsDeclarator tokens aliases c a m
       → IsSignature tokens aliases fits s m b → sign_at tokens aliases b ≡ sign.Semicolon
-      → Spells some_items (declared aliases t) (function_item (head_of t c s) ∷ []) a (b + 1)
-  function_rows {b = b} c s semicolon =
+      → Spells some_items (declared aliases bodies t) (function_item (head_of t c s) ∷ []) a (b + 1)
+  function_rows {t = t} {c = of} {s = signed} {b = b} c s semicolon =
       by_rule (goes_part (declarator_rows tokens aliases fits c)
-      (goes_left (goes_part (signature_rows tokens aliases fits s) (goes_token (sees_semicolon b semicolon) goes_done))))
+      (goes_left (goes_part (signature_rows tokens aliases fits s) (ended bodies))))
+    where
+      ended : (bodies : Bool) → Goes some_items (function_end tokens aliases bodies (head_of t of signed) b) (function_item (head_of t of signed) ∷ []) b (b + 1)
+      ended false = goes_token (sees_semicolon b semicolon) goes_done
+      ended true = goes_left (goes_token (sees_semicolon b semicolon) goes_done)
+
+  -- The rows spell a function with its body behind its type, where items may have bodies.
+  body_rows : {t : Specified} {c : Declarator} {s : Signature} {inner : Statements} {a m e b : ℕ} → bodies ≡ true → IsDeclarator tokens aliases c a m
+      → IsSignature tokens aliases fits s m e → sign_at tokens aliases e ≡ sign.OpenBrace → fits 0 ≡ true
+      → IsStatements tokens aliases fits 1 inner (e + 1) b → sign_at tokens aliases b ≡ sign.CloseBrace
+      → Spells some_items (declared aliases bodies t) (body_item (head_of t c s) inner (span_at tokens b) ∷ []) a (b + 1)
+  body_rows {t = t} {c = of} {s = signed} {inner = inner} {e = e} {b = b} q c s brace fit i close =
+      by_rule (goes_part (declarator_rows tokens aliases fits c) (goes_left (goes_part (signature_rows tokens aliases fits s)
+      (subst (λ w. Goes some_items (function_end tokens aliases w (head_of t of signed) e) (made b) e (b + 1)) (sym q)
+      (goes_right (goes_left (goes_limit fit (goes_token (seen tokens aliases 16 e sign.OpenBrace brace refl)
+      (goes_part (statements_rows tokens aliases fits i close)
+      (subst (λ k. Goes some_items (done (made (b + 1 - 1))) (made k) (b + 1) (b + 1)) back goes_done))))))))))
+    where
+      made : ℕ → List UnitItem
+      made k = body_item (head_of t of signed) inner (span_at tokens k) ∷ []
+
+      back : b + 1 - 1 ≡ b
+      back = omega arith
 
   -- the row of an item that begins with storage words or a type
   abbrev Typed : Row some_items
-  Typed = part a_specifier (specifier aliases) (λ t n. part some_items (declared aliases t) (λ xs e. done xs))
+  Typed = part a_specifier (specifier aliases) (λ t n. part some_items (declared aliases bodies t) (λ xs e. done xs))
 
   -- what stands behind a type that has a row of its own
   abbrev Behind : Base → Bool → ℕ → Row some_items
-  Behind base c n = part some_items (declared aliases (record { base = base; is_const = c })) (λ xs e. done xs)
+  Behind base c n = part some_items (declared aliases bodies (record { base = base; is_const = c })) (λ xs e. done xs)
 
-  typed_row : (m : ℕ) (s : Sign) → begins_type s ≡ true → item_row tokens aliases m s ≡ behind_storage tokens aliases m Typed
+  typed_row : (m : ℕ) (s : Sign) → begins_type s ≡ true → item_row tokens aliases bodies m s ≡ behind_storage tokens aliases m Typed
   typed_row m (sign.Keyword key.Struct) e = never e
   typed_row m (sign.Keyword key.Enum) e = never e
   typed_row m (sign.Keyword key.Typedef) e = never e
   typed_row m _ e = refl
 
   typed_by : (a b : ℕ) (xs : List UnitItem) → begins_type (sign_at tokens aliases a) ≡ true
-      → Goes some_items (behind_storage tokens aliases a Typed) xs a b → Spells some_items (item aliases) xs a b
+      → Goes some_items (behind_storage tokens aliases a Typed) xs a b → Spells some_items (item aliases bodies) xs a b
   typed_by a b xs e g =
       by_rule (subst (λ f. Goes some_items f xs a b) (sym (typed_row a (sign_at tokens aliases a) e)) g)
 
@@ -168,7 +194,7 @@ module _ (tokens : List Lexeme) (aliases : Aliases) (fits : ℕ → Bool) where
   aliased_row m _ e = refl
 
   aliased_by : (a b : ℕ) (xs : List UnitItem) → sign_at tokens aliases a ≡ sign.Keyword key.Typedef
-      → begins_type (sign_at tokens aliases (a + 1)) ≡ true → Goes some_items Aliased xs (a + 1) b → Spells some_items (item aliases) xs a b
+      → begins_type (sign_at tokens aliases (a + 1)) ≡ true → Goes some_items Aliased xs (a + 1) b → Spells some_items (item aliases bodies) xs a b
   aliased_by a b xs q e g =
       typedef_by a b xs (sign_at tokens aliases (a + 1)) q refl
       (subst (λ f. Goes some_items f xs (a + 1) b) (sym (aliased_row a (sign_at tokens aliases (a + 1)) e)) g)
@@ -194,8 +220,8 @@ module _ (tokens : List Lexeme) (aliases : Aliases) (fits : ℕ → Bool) where
   -- Where the rows go on behind a type, they spell an item from the type on.
   qualified_on : {base : Base} {before behind : Bool} {a m n e : ℕ} → IsConsts tokens aliases before a m → IsBase tokens aliases base m n
       → IsConsts tokens aliases behind n e → (xs : List UnitItem) (b : ℕ)
-      → Spells some_items (declared aliases (record { base = base; is_const = before || behind })) xs e b
-      → Spells some_items (item aliases) xs a b
+      → Spells some_items (declared aliases bodies (record { base = base; is_const = before || behind })) xs e b
+      → Spells some_items (item aliases bodies) xs a b
   qualified_on {a = a} (of_const q i) base behind xs b g =
       typed_by a b xs (ap begins_type q)
       (goes_right (goes_part (qualified_rows tokens aliases fits (of_const q i) base behind) (goes_part g goes_done)))
@@ -213,7 +239,7 @@ module _ (tokens : List Lexeme) (aliases : Aliases) (fits : ℕ → Bool) where
 
   -- Where the rows go on behind storage words and a type, they spell an item.
   typed_on : {t : Specified} {a m n : ℕ} → IsStorage tokens aliases a m → IsSpecifier tokens aliases t m n → (xs : List UnitItem) (b : ℕ)
-      → Spells some_items (declared aliases t) xs n b → Spells some_items (item aliases) xs a b
+      → Spells some_items (declared aliases bodies t) xs n b → Spells some_items (item aliases bodies) xs a b
   typed_on no_storage (of_specifier before base behind) xs b g = qualified_on before base behind xs b g
   typed_on {a = a} (of_storage q i) type xs b g =
       typed_by a b xs (storage_begins (sign_at tokens aliases a) q)
@@ -227,7 +253,7 @@ module _ (tokens : List Lexeme) (aliases : Aliases) (fits : ℕ → Bool) where
   aliased_on : {a : ℕ} {base : Base} {before behind : Bool} {m n e : ℕ} → sign_at tokens aliases a ≡ sign.Keyword key.Typedef
       → IsConsts tokens aliases before (a + 1) m → IsBase tokens aliases base m n → IsConsts tokens aliases behind n e
       → (xs : List UnitItem) (b : ℕ) → Goes some_items (alias_end tokens aliases (record { base = base; is_const = before || behind }) e) xs e b
-      → Spells some_items (item aliases) xs a b
+      → Spells some_items (item aliases bodies) xs a b
   aliased_on {a = a} q (of_const q' i) base behind xs b g =
       aliased_by a b xs q (ap begins_type q') (goes_part (qualified_rows tokens aliases fits (of_const q' i) base behind) g)
   aliased_on {a = a} {base = base} q no_const (spells.of_struct q' tag) behind xs b g =
@@ -242,7 +268,7 @@ module _ (tokens : List Lexeme) (aliases : Aliases) (fits : ℕ → Bool) where
       aliased_by a b xs q (untagged base refl) (goes_part (qualified_rows tokens aliases fits no_const base behind) g)
 
   -- The rows spell an item.
-  pub items_rows : {xs : List UnitItem} {a b : ℕ} → IsItem tokens aliases fits xs a b → Spells some_items (item aliases) xs a b
+  pub items_rows : {xs : List UnitItem} {a b : ℕ} → IsItem tokens aliases fits bodies xs a b → Spells some_items (item aliases bodies) xs a b
   items_rows {xs = xs} {a = a} {b = b} (of_structure q of_no_group tag i semicolon) =
       item_by a b xs (sign.Keyword key.Struct) q
       (goes_token (ap (is_keyword key.Struct) q) (goes_right (goes_token tag (goes_left (structure_goes i semicolon a [] _)))))
@@ -273,3 +299,5 @@ module _ (tokens : List Lexeme) (aliases : Aliases) (fits : ℕ → Bool) where
       aliased_on q before base behind xs b (alias_goes c semicolon _)
   items_rows {xs = xs} {b = b} (of_globals stored type ds semicolon) = typed_on stored type xs b (globals_rows ds semicolon)
   items_rows {xs = xs} {b = b} (of_function (of_head stored type c s) semicolon) = typed_on stored type xs b (function_rows c s semicolon)
+  items_rows {xs = xs} {b = b} (of_body_item q (of_head stored type c s) brace fit inner close) =
+      typed_on stored type xs b (body_rows q c s brace fit inner close)

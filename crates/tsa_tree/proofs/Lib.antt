@@ -11,6 +11,7 @@ pub mod RowsBegin
 pub mod StatementFacts
 pub mod StatementsMeet
 pub mod BlocksMeet
+pub mod UnitsMeet
 pub mod RowsMeet
 pub mod RowsRead
 pub mod ProductionSigns
@@ -31,6 +32,8 @@ pub mod SameSpelling
 pub mod Ahead
 pub mod AttributesAhead
 pub mod DeclarationsToRows
+pub mod SimplesToRows
+pub mod BlocksToRows
 pub mod HeadsToRows
 pub mod ItemsToRows
 pub mod Truncated
@@ -43,8 +46,7 @@ pub mod DeclarationMeanings
 pub mod DeclarationSigns
 pub mod DeclarationsKept
 pub mod ItemsKept
-pub mod SimplesToRows
-pub mod BlocksToRows
+pub mod ItemRowsKept
 pub mod StatementsKept
 pub mod RowsToDeclarations
 pub mod ReservedWords
@@ -52,7 +54,10 @@ pub mod AttributeAnswers
 pub mod AttributeLaws
 pub mod DeclarationsBroken
 pub mod StatementLaws
+pub mod UnitLaws
 pub mod DeclarationLaws
 pub mod AttributeExamples
 pub mod DeclarationExamples
 pub mod StatementExamples
+pub mod UnitExamples
+pub mod PointExamples

@@ -13,7 +13,7 @@ pub use Rattle.tsa_tree.specs.Signs.{begins_type, begins_operand, begins_stateme
 use Rattle.tsa_tree.specs.Attributes.{try_value}
 use Rattle.tsa_tree.specs.Declarations.{Initialiser, value, list, Declaration}
 use Rattle.tsa_tree.specs.Statements.{Ending, by_expression, by_operand, by_step, Statement, ends_short}
-use Rattle.tsa_tree.specs.Rows.{Sort, Node, Call, expression, operation, operand, postfix, series, attributes, group, entries, balanced, consts, storage, specifier, declarator, initialiser, initialisers, declared_rest, declarators, member_line, members, variable, variables, locals, parameter_list, parameters, signature, head, struct_body, constants, enum_body, declared, item, simple, for_init, statement, statements, rank, mark, Kind, kind, a_word, a_result, a_plain, a_keyword, a_tag, a_storage_word, a_star, an_assignment, is_assignment, nothing, a_name, an_open, an_open_bracket, an_open_brace, an_equals, a_comma, is_keyword, is_given, sees, is_postfix, is_attribute_sign, Row}
+use Rattle.tsa_tree.specs.Rows.{Sort, Node, Call, expression, operation, operand, postfix, series, attributes, group, entries, balanced, consts, storage, specifier, declarator, initialiser, initialisers, declared_rest, declarators, member_line, members, variable, variables, locals, parameter_list, parameters, signature, head, struct_body, constants, enum_body, declared, item, items, simple, for_init, statement, statements, rank, mark, Kind, kind, a_word, a_result, a_plain, a_keyword, a_tag, a_storage_word, a_star, an_assignment, is_assignment, nothing, a_name, an_open, an_open_bracket, an_open_brace, an_equals, a_comma, is_keyword, is_given, sees, is_postfix, is_attribute_sign, is_past, Row}
 use Rattle.tsa_forms.proofs.Good as g
 use Rattle.tsa_tree.proofs.SignFacts.{is_plain, plain_no_postfix, plain_no_operator, plain_no_open}
 
@@ -43,6 +43,11 @@ begins_rest sign.Equals = true
 begins_rest sign.Comma = true
 begins_rest sign.Semicolon = true
 begins_rest s = is_attribute_sign s
+
+-- An item can begin with this token.
+abbrev pub begins_item : Sign → Bool
+begins_item (sign.Keyword key.Typedef) = true
+begins_item s = begins_type s || is_storage s
 
 abbrev pub begins_simple : Sign → Bool
 begins_simple (sign.Step o) = true
@@ -110,8 +115,9 @@ module _ (tokens : List Lexeme) where
   First _ (struct_body aliases) m = sees tokens (an_open_brace aliases) m ≡ true
   First _ (constants aliases) m = sees tokens (a_name aliases) m ≡ true
   First _ (enum_body aliases) m = sees tokens (an_open_brace aliases) m ≡ true
-  First _ (declared aliases t) m = begins_declarator (sign_at tokens aliases m) ≡ true
-  First _ (item aliases) m = Unit {0}
+  First _ (declared aliases bodies t) m = begins_declarator (sign_at tokens aliases m) ≡ true
+  First _ (item aliases bodies) m = begins_item (sign_at tokens aliases m) ≡ true
+  First _ (items aliases) m = is_past tokens m ≡ false
   First _ (simple aliases d) m = begins_simple (sign_at tokens aliases m) ≡ true
   First _ (for_init aliases d) m = Unit {0}
   First _ (statement aliases d) m = begins_statement (sign_at tokens aliases m) ≡ true
@@ -180,6 +186,7 @@ module _ (tokens : List Lexeme) where
   Ends _ (struct_body aliases) x m = Bare aliases m
   Ends _ (simple aliases d) x m = EndsSimple aliases x.ending m
   Ends _ (statement aliases d) s m = EndsStatement aliases s m
+  Ends _ (items aliases) xs m = is_past tokens m ≡ true
   Ends _ other x m = Unit {0}
 
   -- A limit stands right before a statement alone, which begins with a token that is one of it.

@@ -7,13 +7,14 @@ use Rattle.tsa_tree.specs.declared.sign.Sign.{Sign}
 use Rattle.tsa_tree.specs.declared.sign.Sign.TheVariants as sign
 use Rattle.tsa_tree.specs.Expressions.{Expression}
 use Rattle.tsa_tree.specs.Signs.{Aliases, sign_at, operator, prefix_of, entry_meaning}
-use Rattle.tsa_tree.specs.Rows.{Sort, an_expression, Call, expression, operation, operand, postfix, series, attributes, group, entries, consts, storage, specifier, declarator, initialiser, initialisers, declared_rest, declarators, member_line, variable, variables, locals, parameter_list, signature, struct_body, constants, enum_body, declared, simple, statement, statements, Kind, an_operator, is_postfix, operation_row, postfix_row, prefix_row, operand_row, rule}
+use Rattle.tsa_tree.specs.Rows.{Sort, an_expression, Call, expression, operation, operand, postfix, series, attributes, group, entries, consts, storage, specifier, declarator, initialiser, initialisers, declared_rest, declarators, member_line, variable, variables, locals, parameter_list, signature, struct_body, constants, enum_body, declared, item, items, simple, statement, statements, Kind, an_operator, is_postfix, operation_row, postfix_row, prefix_row, operand_row, rule}
 use Rattle.tsa_tree.proofs.RowFacts.{is_prefix, begins_operand, First, Start, never}
 use Rattle.tsa_tree.proofs.AttributesMeet.{first_group, first_entry}
 use Rattle.tsa_tree.proofs.DeclarationsMeet.{first_specifier, first_declarator, first_initialiser}
 use Rattle.tsa_tree.proofs.DeclaratorsMeet.{first_rest}
 use Rattle.tsa_tree.proofs.StatementsMeet.{first_simple, first_statement}
 use Rattle.tsa_tree.proofs.BlocksMeet.{first_statements}
+use Rattle.tsa_tree.proofs.UnitsMeet.{first_item, first_items}
 use Rattle.tsa_tree.proofs.ItemsMeet.{first_signature, first_struct_body, first_enum_body}
 
 module _ (tokens : List Lexeme) where
@@ -74,9 +75,11 @@ module _ (tokens : List Lexeme) where
   firsts _ (variables aliases d t) m h = h
   firsts _ (parameter_list aliases) m h = h
   firsts _ (constants aliases) m h = h
-  firsts _ (declared aliases t) m h = h
+  firsts _ (declared aliases bodies t) m h = h
   firsts _ (locals aliases false d) m h = h
   firsts _ (locals aliases true d) m h = h
+  firsts _ (item aliases bodies) m h = first_item tokens aliases bodies m (sign_at tokens aliases m) refl h
+  firsts _ (items aliases) m h = first_items tokens aliases m h
   firsts _ (simple aliases d) m h = first_simple tokens aliases d m (sign_at tokens aliases m) h
   firsts _ (statement aliases d) m h = first_statement tokens aliases d m (sign_at tokens aliases m) refl h
   firsts _ (statements aliases d) m h = first_statements tokens aliases d m h

@@ -129,6 +129,15 @@ module _ (tokens : List Lexeme) (fits : ℕ → Bool) where
       (inside tokens) (firsts tokens) (good tokens) low (moves tokens))
       reading_steps i le le' h
 
+  -- What is spelled stands at a place where its part may begin.
+  pub first_there : {s : Sort} {c : Call s} {x : Node s} {a b : ℕ} → Spells (rule tokens) (sees tokens) fits s c x a b → First tokens s c a
+  first_there h =
+      pieces.first (sees tokens) fits (rule tokens) (First tokens) (Ends tokens) (Moves tokens) rank (length tokens)
+      (inside tokens) (firsts tokens) (good tokens) reading
+      (answers.ok (sees tokens) fits (rule tokens) (First tokens) (Ends tokens) (Moves tokens) rank (length tokens)
+      (inside tokens) (firsts tokens) (good tokens) low (moves tokens))
+      reading_steps h
+
   -- Where a text goes on no further, a reader without limits refuses the same token.
   pub broken_free : (s : Sort) (c : Call s) (a i : ℕ) → reading s c a ≡ Err (refuse syntax i)
       → run (sees tokens) all (rule tokens) rank (length tokens) s c a ≡ Err (refuse syntax i)

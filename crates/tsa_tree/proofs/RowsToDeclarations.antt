@@ -1,10 +1,14 @@
 -- The productions spell whatever declarations, items and statements the rows spell.
 use Rattle.std.proofs.Common.{ℕ, List, Bool, ◌⊎◌, inl, inr}
 use Rattle.tsa_base.specs.Tokens.{Lexeme}
-use Rattle.tsa_tree.specs.Rows.{Sort, Node, Call, consts, storage, specifier, declarator, initialiser, initialisers, declared_rest, declarators, member_line, members, variable, variables, locals, parameter_list, parameters, signature, head, struct_body, constants, enum_body, declared, item, simple, for_init, statement, statements, Row, sees, rule}
+use Rattle.tsa_tree.specs.Signs.{Aliases}
+use Rattle.tsa_tree.specs.UnitSpelling.{no_items, of_items}
+use Rattle.tsa_tree.specs.Rows.{some_items}
+use Rattle.tsa_tree.specs.Rows.{Sort, Node, Call, consts, storage, specifier, declarator, initialiser, initialisers, declared_rest, declarators, member_line, members, variable, variables, locals, parameter_list, parameters, signature, head, struct_body, constants, enum_body, declared, item, items, simple, for_init, statement, statements, Row, sees, rule}
 use Rattle.tsa_tree.proofs.DeclarationMeanings.{Keeps, Means}
 use Rattle.tsa_tree.proofs.DeclarationsKept.{keeps_consts, keeps_specifier, keeps_declarator, keeps_initialiser, keeps_initialisers, keeps_rest, keeps_declarators, keeps_member_line, keeps_members, keeps_variable, keeps_variables, keeps_locals}
-use Rattle.tsa_tree.proofs.ItemsKept.{keeps_storage, keeps_parameter_list, keeps_parameters, keeps_signature, keeps_head, keeps_struct_body, keeps_constants, keeps_enum_body, keeps_declared, keeps_item}
+use Rattle.tsa_tree.proofs.ItemsKept.{keeps_storage, keeps_parameter_list, keeps_parameters, keeps_signature, keeps_head, keeps_struct_body, keeps_constants, keeps_enum_body, keeps_declared}
+use Rattle.tsa_tree.proofs.ItemRowsKept.{keeps_item}
 use Rattle.tsa_tree.proofs.StatementsKept.{keeps_simple, keeps_for_init, keeps_statement, keeps_statements}
 use Rattle.tsa_forms.specs.Spelling as forms
 use Rattle.tsa_forms.specs.Spelling.{by_rule, goes_done, goes_token, goes_part, goes_bar, goes_limit, goes_only, goes_left, goes_right}
@@ -18,6 +22,17 @@ module _ (tokens : List Lexeme) (fits : ℕ → Bool) where
   Kept s c a =
       Keeps tokens fits s (λ x b. Means tokens fits s c x a b) (rule tokens s c a) a
       ⊎ ((x : Node s) (b : ℕ) → Spells s c x a b → Means tokens fits s c x a b)
+
+  -- Items up to the last token.
+  keeps_items : (aliases : Aliases) (a : ℕ) → Keeps tokens fits some_items (λ xs b. Means tokens fits some_items (items aliases) xs a b)
+      (rule tokens some_items (items aliases) a) a
+  keeps_items aliases a = (
+    tt,
+    λ xs n i. (
+      (λ past. (of_items i no_items, past)),
+      (tt, λ ys e more. (of_items i more.0, more.1)),
+    ),
+  )
 
   -- Every row of declarations, items and statements keeps to its production. Parts of expressions and attributes are what their rows spell.
   keeps : (s : Sort) (c : Call s) (a : ℕ) → Kept s c a
@@ -41,8 +56,9 @@ module _ (tokens : List Lexeme) (fits : ℕ → Bool) where
   keeps _ (struct_body aliases) a = inl (keeps_struct_body tokens aliases fits a)
   keeps _ (constants aliases) a = inl (keeps_constants tokens aliases fits a)
   keeps _ (enum_body aliases) a = inl (keeps_enum_body tokens aliases fits a)
-  keeps _ (declared aliases t) a = inl (keeps_declared tokens aliases fits t a)
-  keeps _ (item aliases) a = inl (keeps_item tokens aliases fits a)
+  keeps _ (declared aliases bodies t) a = inl (keeps_declared tokens aliases fits bodies t a)
+  keeps _ (item aliases bodies) a = inl (keeps_item tokens aliases fits bodies a)
+  keeps _ (items aliases) a = inl (keeps_items aliases a)
   keeps _ (simple aliases d) a = inl (keeps_simple tokens aliases fits d a)
   keeps _ (for_init aliases d) a = inl (keeps_for_init tokens aliases fits d a)
   keeps _ (statement aliases d) a = inl (keeps_statement tokens aliases fits d a)

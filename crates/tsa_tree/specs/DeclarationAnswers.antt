@@ -1,8 +1,9 @@
 -- What a reader of an item, a function's head or locals has to answer. What is spelled goes by the productions, and what begins
 -- a part or is refused in it by the rows.
-use Rattle.std.specs.Prelude.{ℕ, ◌≡◌, ◌≤◌, List, Bool, Some, None, length}
+use Rattle.std.specs.Prelude.{ℕ, ◌≡◌, ◌≤◌, List, Bool, false, Some, None, length}
 use Rattle.tsa_base.specs.Tokens.{Lexeme}
-use Rattle.tsa_tree.specs.Declarations.{Specified, UnitItem}
+use Rattle.tsa_tree.specs.Declarations.{Specified}
+use Rattle.tsa_tree.specs.UnitItems.{UnitItem}
 use Rattle.tsa_tree.specs.DeclarationSpelling.{IsSpecifier, IsLocals}
 use Rattle.tsa_tree.specs.ItemSpelling.{IsHead, IsItem}
 use Rattle.tsa_tree.specs.Rows.{Sort, a_specifier, some_declarations, a_head, some_items, Node, Call, specifier, locals, head, item, sees, rule}
@@ -24,13 +25,13 @@ sort_of a_head_alone = a_head
 sort_of (some_locals single depth) = some_declarations
 
 abbrev pub call_of : (p : Part) → Aliases → Call (sort_of p)
-call_of an_item aliases = item aliases
+call_of an_item aliases = item aliases false
 call_of a_head_alone aliases = head aliases
 call_of (some_locals single depth) aliases = locals aliases single depth
 
 -- the tokens from a on up to before b spell it
 abbrev pub Spells : List Lexeme → Aliases → (ℕ → Bool) → (p : Part) → Node (sort_of p) → (a b : ℕ) → Type 0
-Spells tokens aliases fits an_item xs a b = IsItem tokens aliases fits xs a b
+Spells tokens aliases fits an_item xs a b = IsItem tokens aliases fits false xs a b
 Spells tokens aliases fits a_head_alone h a b = IsHead tokens aliases fits h a b
 Spells tokens aliases fits (some_locals single depth) xs a b = IsLocals tokens aliases fits single depth xs a b
 
@@ -90,7 +91,7 @@ OneSpelled = (tokens : List Lexeme) (aliases : Aliases) (p : Part) (x y : Node (
 -- an item ends with its `;`: two lists of items that the same tokens spell are equal, whatever follows
 abbrev pub OneItem : Type 0
 OneItem = (tokens : List Lexeme) (aliases : Aliases) (xs ys : List UnitItem) (a b : ℕ) →
-    IsItem tokens aliases all xs a b → IsItem tokens aliases all ys a b → xs ≡ ys
+    IsItem tokens aliases all false xs a b → IsItem tokens aliases all false ys a b → xs ≡ ys
 
 -- every first piece of what is spelled begins it
 abbrev pub PiecesBegin : Type 0

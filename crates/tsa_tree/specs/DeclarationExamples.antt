@@ -12,11 +12,12 @@ use Rattle.tsa_tree.specs.AttributeExamples.{names, one}
 use Rattle.tsa_tree.specs.AttributeRefusals.{left_out, lacking}
 use Rattle.tsa_tree.specs.Attributes.{Attribute}
 use Rattle.tsa_tree.specs.DeclarationAnswers.{Part, an_item, a_head_alone, some_locals, sort_of, call_of}
-use Rattle.tsa_tree.specs.Declarations.{Base, int, unsigned, void, structure, enumerated, alias, DeclaredType, Initialiser, value, list, Initialisers, no_more, one_more, Declaration, Parameter, EnumConstant, Head, UnitItem, structure_item, alias_item, enumeration_item, global_item, function_item}
+use Rattle.tsa_tree.specs.Declarations.{Base, int, unsigned, void, structure, enumerated, alias, DeclaredType, Initialiser, value, list, Initialisers, no_more, one_more, Declaration, Parameter, EnumConstant, Head}
+use Rattle.tsa_tree.specs.UnitItems.{UnitItem, structure_item, alias_item, enumeration_item, global_item, function_item}
 use Rattle.tsa_tree.specs.Examples as trees
 use Rattle.tsa_tree.specs.Examples.{word, name, bytes}
 use Rattle.tsa_tree.specs.Expressions.{Identifier, Expression, number, unary, none, nowhere}
-use Rattle.tsa_tree.specs.PlainDeclarations.{plain_part}
+use Rattle.tsa_tree.specs.PlainItems.{plain_part}
 use Rattle.tsa_tree.specs.Reads.{read}
 use Rattle.tsa_tree.specs.Rows.{Node}
 use Rattle.tsa_tree.specs.Signs.{Aliases}

@@ -63,14 +63,6 @@ pub record Head : Type 0 where
   pub params : List Parameter
   pub attrs : List Attribute
 
--- an item without a body
-pub data UnitItem : Type 0 where
-  structure_item : (tag alias : Option Identifier) (attrs : List Attribute) (members : List Declaration) (span : Span) → UnitItem
-  alias_item : (name : Identifier) (ctype : DeclaredType) (span : Span) → UnitItem
-  enumeration_item : (tag alias : Option Identifier) (values : List EnumConstant) (span : Span) → UnitItem
-  global_item : (declaration : Declaration) → UnitItem
-  function_item : (head : Head) → UnitItem
-
 -- the same type with `const`
 abbrev pub constant : Specified → Specified
 constant t = record { base = t.base; is_const = true }

@@ -1,5 +1,5 @@
--- The grammar of parameters, heads, enumerators, struct bodies and items without a body as rows of forms.
-use Rattle.std.specs.Prelude.{ℕ, ◌+◌, List, [], ◌∷◌, ◌++◌, map, not, Some, None}
+-- The grammar of parameters, heads, enumerators, struct bodies and items as rows of forms.
+use Rattle.std.specs.Prelude.{ℕ, ◌+◌, ◌-◌, List, [], ◌∷◌, ◌++◌, map, not, Some, None, Bool, true, false}
 use Rattle.std.specs.declared.option.Option.{Option}
 use Rattle.tsa_base.specs.Tokens.{Lexeme}
 use Rattle.tsa_tree.specs.declared.sign.Keyword.TheVariants as key
@@ -7,13 +7,14 @@ use Rattle.tsa_tree.specs.declared.sign.Sign.{Sign}
 use Rattle.tsa_tree.specs.declared.sign.Sign.TheVariants as sign
 use Rattle.tsa_tree.specs.AttributeRows.{opens}
 use Rattle.tsa_tree.specs.Attributes.{Attribute}
-use Rattle.tsa_tree.specs.Declarations.{structure, enumerated, Base, Specified, Declared, Parameter, EnumConstant, head_of, made_of, structure_item, alias_item, enumeration_item, global_item, function_item}
+use Rattle.tsa_tree.specs.Declarations.{structure, enumerated, Base, Specified, Declared, Parameter, EnumConstant, head_of, made_of, Head}
+use Rattle.tsa_tree.specs.UnitItems.{structure_item, alias_item, enumeration_item, global_item, function_item, body_item}
 use Rattle.tsa_tree.specs.DeclarationRows.{behind_consts, behind_star, behind_attributes}
 use Rattle.tsa_tree.specs.DeclarationSpelling.{a_global}
 use Rattle.tsa_tree.specs.Expressions.{Identifier}
 use Rattle.tsa_tree.specs.ItemSpelling.{parameter, parameter_start}
-use Rattle.tsa_tree.specs.Signs.{Aliases, sign_at, span_over, identifier_at, is_lone_void, is_storage}
-use Rattle.tsa_tree.specs.Sorts.{Sort, an_expression, some_attributes, a_skip, a_specifier, a_declarator, a_declared, some_declarations, some_parameters, a_signature, a_head, a_struct_body, some_constants, some_items, expression, attributes, storage, specifier, declarator, declared_rest, declarators, members, parameter_list, parameters, signature, struct_body, constants, enum_body, declared, nothing, a_name, an_open, a_close, a_comma, an_open_brace, a_close_brace, a_semicolon, an_equals, a_keyword, a_tag, a_storage_word, sees, is_attribute_sign, Row}
+use Rattle.tsa_tree.specs.Signs.{Aliases, sign_at, span_at, span_over, identifier_at, is_lone_void, is_storage}
+use Rattle.tsa_tree.specs.Sorts.{Sort, an_expression, some_attributes, a_skip, a_specifier, a_declarator, a_declared, some_declarations, some_parameters, a_signature, a_head, a_struct_body, some_constants, some_items, some_statements, expression, attributes, storage, specifier, declarator, declared_rest, declarators, members, parameter_list, parameters, signature, struct_body, constants, enum_body, declared, statements, nothing, a_name, an_open, a_close, a_comma, an_open_brace, a_close_brace, a_semicolon, an_equals, a_keyword, a_tag, a_storage_word, sees, is_attribute_sign, Row}
 use Rattle.tsa_forms.specs.Form.{done, token, part, limit, only, either}
 
 module _ (tokens : List Lexeme) where
@@ -93,17 +94,25 @@ module _ (tokens : List Lexeme) where
       (only x.goes_on (part some_declarations (declarators aliases a_global 0 t) (λ xs e. done (global_item x.declaration ∷ map global_item xs))))
       (only (not x.goes_on) (done (global_item x.declaration ∷ [])))
 
+  -- behind a function's head: a `;`, or a body where there may be one
+  abbrev pub function_end : (aliases : Aliases) (bodies : Bool) → Head → (m : ℕ) → Row some_items
+  function_end aliases false h m = token (a_semicolon aliases) (done (function_item h ∷ []))
+  function_end aliases true h m =
+      either (sees tokens (a_semicolon aliases) m)
+      (token (a_semicolon aliases) (done (function_item h ∷ [])))
+      (opens_brace aliases 0 m (part some_statements (statements aliases 1) (λ xs n. done (body_item h xs (span_at tokens (n - 1)) ∷ []))))
+
   -- behind a type and a name: a function or globals
-  abbrev pub declared_row : (aliases : Aliases) → Specified → Row some_items
-  declared_row aliases t =
+  abbrev pub declared_row : (aliases : Aliases) (bodies : Bool) → Specified → Row some_items
+  declared_row aliases bodies t =
       part a_declarator (declarator aliases) (λ c n. either (sees tokens (an_open aliases) n)
-      (part a_signature (signature aliases) (λ s e. token (a_semicolon aliases) (done (function_item (head_of t c s) ∷ []))))
+      (part a_signature (signature aliases) (λ s e. function_end aliases bodies (head_of t c s) e))
       (part a_declared (declared_rest aliases a_global 0 t c) (λ x e. behind_global aliases t x)))
 
   -- the item goes on behind a base with its declarators
-  abbrev pub declared_of : (aliases : Aliases) → Base → (m : ℕ) → Row some_items
-  declared_of aliases base m =
-      behind_consts tokens aliases m (λ c n. part some_items (declared aliases (record { base = base; is_const = c })) (λ xs e. done xs))
+  abbrev pub declared_of : (aliases : Aliases) (bodies : Bool) → Base → (m : ℕ) → Row some_items
+  declared_of aliases bodies base m =
+      behind_consts tokens aliases m (λ c n. part some_items (declared aliases bodies (record { base = base; is_const = c })) (λ xs e. done xs))
 
   -- a struct's body and what stands behind it, with what stands before it: a struct without an alias
   abbrev pub structure_end : (aliases : Aliases) (start : ℕ) → List Attribute → Option Identifier → Row some_items
@@ -139,24 +148,24 @@ module _ (tokens : List Lexeme) where
   alias_of aliases base m = behind_consts tokens aliases m (λ c n. alias_end aliases (record { base = base; is_const = c }) n)
 
   -- behind `struct` at m
-  abbrev pub structure_row : (aliases : Aliases) (m : ℕ) → Row some_items
-  structure_row aliases m =
+  abbrev pub structure_row : (aliases : Aliases) (bodies : Bool) (m : ℕ) → Row some_items
+  structure_row aliases bodies m =
       either (is_attribute_sign (sign_at tokens aliases (m + 1)))
       (part some_attributes (attributes aliases 0) (λ xs n. token (a_tag aliases) (structure_end aliases m xs (Some (identifier_at tokens n)))))
       (token (a_tag aliases) (either (sees tokens (an_open_brace aliases) (m + 1 + 1))
       (structure_end aliases m [] (Some (identifier_at tokens (m + 1))))
       (either (sees tokens (a_semicolon aliases) (m + 1 + 1))
       (token (a_semicolon aliases) (done []))
-      (declared_of aliases (structure (identifier_at tokens (m + 1))) (m + 1 + 1)))))
+      (declared_of aliases bodies (structure (identifier_at tokens (m + 1))) (m + 1 + 1)))))
 
   -- behind `enum` at m
-  abbrev pub enumeration_row : (aliases : Aliases) (m : ℕ) → Row some_items
-  enumeration_row aliases m =
+  abbrev pub enumeration_row : (aliases : Aliases) (bodies : Bool) (m : ℕ) → Row some_items
+  enumeration_row aliases bodies m =
       either (sees tokens (an_open_brace aliases) (m + 1))
       (enumeration_end aliases m None)
       (token (a_tag aliases) (either (sees tokens (an_open_brace aliases) (m + 1 + 1))
       (enumeration_end aliases m (Some (identifier_at tokens (m + 1))))
-      (declared_of aliases (enumerated (identifier_at tokens (m + 1))) (m + 1 + 1))))
+      (declared_of aliases bodies (enumerated (identifier_at tokens (m + 1))) (m + 1 + 1))))
 
   -- behind `typedef struct` and attributes up to before n
   abbrev pub tagged_alias : (aliases : Aliases) (start : ℕ) → List Attribute → (n : ℕ) → Row some_items
@@ -192,9 +201,9 @@ module _ (tokens : List Lexeme) where
   typedef_row aliases m _ = part a_specifier (specifier aliases) (λ t n. alias_end aliases t n)
 
   -- an item by its first sign
-  abbrev pub item_row : (aliases : Aliases) (m : ℕ) → Sign → Row some_items
-  item_row aliases m (sign.Keyword key.Struct) = token (a_keyword aliases key.Struct) (structure_row aliases m)
-  item_row aliases m (sign.Keyword key.Enum) = token (a_keyword aliases key.Enum) (enumeration_row aliases m)
-  item_row aliases m (sign.Keyword key.Typedef) = token (a_keyword aliases key.Typedef) (typedef_row aliases m (sign_at tokens aliases (m + 1)))
-  item_row aliases m _ =
-      behind_storage aliases m (part a_specifier (specifier aliases) (λ t n. part some_items (declared aliases t) (λ xs e. done xs)))
+  abbrev pub item_row : (aliases : Aliases) (bodies : Bool) (m : ℕ) → Sign → Row some_items
+  item_row aliases bodies m (sign.Keyword key.Struct) = token (a_keyword aliases key.Struct) (structure_row aliases bodies m)
+  item_row aliases bodies m (sign.Keyword key.Enum) = token (a_keyword aliases key.Enum) (enumeration_row aliases bodies m)
+  item_row aliases bodies m (sign.Keyword key.Typedef) = token (a_keyword aliases key.Typedef) (typedef_row aliases m (sign_at tokens aliases (m + 1)))
+  item_row aliases bodies m _ =
+      behind_storage aliases m (part a_specifier (specifier aliases) (λ t n. part some_items (declared aliases bodies t) (λ xs e. done xs)))

@@ -6,13 +6,11 @@ use Rattle.tsa_tree.specs.declared.decl.CType.{CType}
 use Rattle.tsa_tree.specs.declared.decl.Decl.{Decl}
 use Rattle.tsa_tree.specs.declared.decl.Init.{Init, Row_of-Init, end_of-Init, more_of-Init}
 use Rattle.tsa_tree.specs.declared.decl.Init.TheVariants.{Value, List'}
-use Rattle.tsa_tree.specs.declared.item.Item.{Item}
-use Rattle.tsa_tree.specs.declared.item.Item.TheVariants as item
 use Rattle.tsa_tree.specs.declared.item.Param.{Param}
 use Rattle.tsa_tree.specs.declared.item.FnTree.{FnTree}
 use Rattle.tsa_tree.specs.declared.item.Enumerator.{Enumerator}
 use Rattle.tsa_tree.specs.Attributes.{attr_shapes}
-use Rattle.tsa_tree.specs.Declarations.{Base, int, unsigned, void, structure, enumerated, alias, DeclaredType, Initialiser, value, list, Initialisers, no_more, one_more, Declaration, Parameter, EnumConstant, Head, UnitItem, structure_item, alias_item, enumeration_item, global_item, function_item}
+use Rattle.tsa_tree.specs.Declarations.{Base, int, unsigned, void, structure, enumerated, alias, DeclaredType, Initialiser, value, list, Initialisers, no_more, one_more, Declaration, Parameter, EnumConstant, Head}
 use Rattle.tsa_tree.specs.Shapes.{name_shape, shape}
 
 abbrev pub base_shape : BaseType → Base
@@ -80,15 +78,3 @@ head_shape f =
       params = param_shapes f.params.now;
       attrs = attr_shapes f.attrs.now;
     }
-
-abbrev pub item_shape : Item → UnitItem
-item_shape (item.Structure s) =
-    structure_item (option_map name_shape s.tag) (option_map name_shape s.alias) (attr_shapes s.attrs.now) (decl_shapes s.members.now) s.span
-item_shape (item.Alias a) = alias_item (name_shape a.name) (type_shape a.ctype) a.span
-item_shape (item.Enumeration e) =
-    enumeration_item (option_map name_shape e.tag) (option_map name_shape e.alias) (enumerator_shapes e.values.now) e.span
-item_shape (item.Global d) = global_item (decl_shape d)
-item_shape (item.Function f) = function_item (head_shape f)
-
-abbrev pub item_shapes : List Item → List UnitItem
-item_shapes items = map item_shape items

@@ -1,4 +1,4 @@
--- The grammar of parameters, heads, enumerators, struct bodies and items without a body, one constructor a production
+-- The grammar of parameters, heads, enumerators, struct bodies and items, one constructor a production
 -- (C11 6.7, 6.9). Places and limits are as in the grammar of expressions. An item begins where no construct is open.
 use Rattle.std.specs.Prelude.{ℕ, ◌+◌, ◌≡◌, List, [], ◌∷◌, ◌++◌, map, Bool, true, false, Some, None}
 use Rattle.std.specs.declared.option.Option.{Option}
@@ -7,11 +7,14 @@ use Rattle.tsa_tree.specs.declared.sign.Keyword.TheVariants as key
 use Rattle.tsa_tree.specs.declared.sign.Sign.TheVariants as sign
 use Rattle.tsa_tree.specs.Attributes.{Attribute}
 use Rattle.tsa_tree.specs.AttributeSpelling.{IsAttributes}
-use Rattle.tsa_tree.specs.Declarations.{Specified, Declaration, Declarator, Parameter, EnumConstant, Signature, StructBody, Head, head_of, made_of, UnitItem, structure_item, alias_item, enumeration_item, global_item, function_item}
+use Rattle.tsa_tree.specs.Declarations.{Specified, Declaration, Declarator, Parameter, EnumConstant, Signature, StructBody, Head, head_of, made_of}
+use Rattle.tsa_tree.specs.UnitItems.{UnitItem, structure_item, alias_item, enumeration_item, global_item, function_item, body_item}
 use Rattle.tsa_tree.specs.DeclarationSpelling.{a_global, IsSpecifier, IsStar, IsDeclarator, IsDeclarators, IsMembers}
 use Rattle.tsa_tree.specs.Expressions.{Identifier, Expression}
-use Rattle.tsa_tree.specs.Signs.{Aliases, sign_at, span_over, identifier_at, is_tag, is_storage, is_lone_void}
+use Rattle.tsa_tree.specs.Signs.{Aliases, sign_at, span_at, span_over, identifier_at, is_tag, is_storage, is_lone_void}
 use Rattle.tsa_tree.specs.Spelling.{IsExpression}
+use Rattle.tsa_tree.specs.Statements.{Statements}
+use Rattle.tsa_tree.specs.StatementSpelling.{IsStatements}
 
 module _ (tokens : List Lexeme) (aliases : Aliases) where
   -- a parameter from its declarator's first token on, or from its type's where it has neither star nor name
@@ -99,36 +102,40 @@ module _ (tokens : List Lexeme) (aliases : Aliases) (fits : ℕ → Bool) where
         sign_at tokens aliases a ≡ sign.OpenBrace → fits 0 ≡ true →
         IsConstants xs (a + 1) b → sign_at tokens aliases b ≡ sign.CloseBrace → IsEnumBody xs a (b + 1)
 
-  -- an item without a body, from its first word to its `;`
-  pub data IsItem : List UnitItem → (a b : ℕ) → Type 0 where
-    of_structure : {xs : List Attribute} {body : StructBody} {a m n : ℕ} →
+  -- an item from its first word to its `;`, or to the brace of its body where items may have one
+  pub data IsItem : (bodies : Bool) → List UnitItem → (a b : ℕ) → Type 0 where
+    of_structure : {w : Bool} {xs : List Attribute} {body : StructBody} {a m n : ℕ} →
         sign_at tokens aliases a ≡ sign.Keyword key.Struct → IsAttributes tokens aliases fits 0 xs (a + 1) m →
         is_tag (sign_at tokens aliases m) ≡ true → IsStructBody body (m + 1) n → sign_at tokens aliases n ≡ sign.Semicolon →
-        IsItem (structure_item (Some (identifier_at tokens m)) None (xs ++ body.attrs) body.members (span_over tokens a (n + 1)) ∷ []) a (n + 1)
+        IsItem w (structure_item (Some (identifier_at tokens m)) None (xs ++ body.attrs) body.members (span_over tokens a (n + 1)) ∷ []) a (n + 1)
     -- a tag by itself leaves no node
-    of_tag_alone : {a : ℕ} →
+    of_tag_alone : {w : Bool} {a : ℕ} →
         sign_at tokens aliases a ≡ sign.Keyword key.Struct → is_tag (sign_at tokens aliases (a + 1)) ≡ true →
-        sign_at tokens aliases (a + 1 + 1) ≡ sign.Semicolon → IsItem [] a (a + 1 + 1 + 1)
-    of_structure_alias : {xs : List Attribute} {tag : Option Identifier} {body : StructBody} {a m n e : ℕ} →
+        sign_at tokens aliases (a + 1 + 1) ≡ sign.Semicolon → IsItem w [] a (a + 1 + 1 + 1)
+    of_structure_alias : {w : Bool} {xs : List Attribute} {tag : Option Identifier} {body : StructBody} {a m n e : ℕ} →
         sign_at tokens aliases a ≡ sign.Keyword key.Typedef → sign_at tokens aliases (a + 1) ≡ sign.Keyword key.Struct →
         IsAttributes tokens aliases fits 0 xs (a + 1 + 1) m → IsTag tokens aliases tag m n → IsStructBody body n e →
         sign_at tokens aliases e ≡ sign.Name → sign_at tokens aliases (e + 1) ≡ sign.Semicolon →
-        IsItem (structure_item tag (Some (identifier_at tokens e)) (xs ++ body.attrs) body.members (span_over tokens a (e + 1 + 1)) ∷ []) a (e + 1 + 1)
-    of_enumeration : {tag : Option Identifier} {xs : List EnumConstant} {a m n : ℕ} →
+        IsItem w (structure_item tag (Some (identifier_at tokens e)) (xs ++ body.attrs) body.members (span_over tokens a (e + 1 + 1)) ∷ []) a (e + 1 + 1)
+    of_enumeration : {w : Bool} {tag : Option Identifier} {xs : List EnumConstant} {a m n : ℕ} →
         sign_at tokens aliases a ≡ sign.Keyword key.Enum → IsTag tokens aliases tag (a + 1) m → IsEnumBody xs m n →
         sign_at tokens aliases n ≡ sign.Semicolon →
-        IsItem (enumeration_item tag None xs (span_over tokens a (n + 1)) ∷ []) a (n + 1)
-    of_enumeration_alias : {tag : Option Identifier} {xs : List EnumConstant} {a m n : ℕ} →
+        IsItem w (enumeration_item tag None xs (span_over tokens a (n + 1)) ∷ []) a (n + 1)
+    of_enumeration_alias : {w : Bool} {tag : Option Identifier} {xs : List EnumConstant} {a m n : ℕ} →
         sign_at tokens aliases a ≡ sign.Keyword key.Typedef → sign_at tokens aliases (a + 1) ≡ sign.Keyword key.Enum →
         IsTag tokens aliases tag (a + 1 + 1) m → IsEnumBody xs m n →
         sign_at tokens aliases n ≡ sign.Name → sign_at tokens aliases (n + 1) ≡ sign.Semicolon →
-        IsItem (enumeration_item tag (Some (identifier_at tokens n)) xs (span_over tokens a (n + 1 + 1)) ∷ []) a (n + 1 + 1)
-    of_alias_item : {t : Specified} {c : Declarator} {a m n : ℕ} →
+        IsItem w (enumeration_item tag (Some (identifier_at tokens n)) xs (span_over tokens a (n + 1 + 1)) ∷ []) a (n + 1 + 1)
+    of_alias_item : {w : Bool} {t : Specified} {c : Declarator} {a m n : ℕ} →
         sign_at tokens aliases a ≡ sign.Keyword key.Typedef → IsSpecifier tokens aliases t (a + 1) m →
         IsDeclarator tokens aliases c m n → sign_at tokens aliases n ≡ sign.Semicolon →
-        IsItem (alias_item c.name (made_of t c.pointer c.pointer_const None) (span_over tokens m n) ∷ []) a (n + 1)
-    of_globals : {t : Specified} {xs : List Declaration} {a m n b : ℕ} →
+        IsItem w (alias_item c.name (made_of t c.pointer c.pointer_const None) (span_over tokens m n) ∷ []) a (n + 1)
+    of_globals : {w : Bool} {t : Specified} {xs : List Declaration} {a m n b : ℕ} →
         IsStorage tokens aliases a m → IsSpecifier tokens aliases t m n → IsDeclarators tokens aliases fits a_global 0 t xs n b →
-        sign_at tokens aliases b ≡ sign.Semicolon → IsItem (map global_item xs) a (b + 1)
-    of_function : {h : Head} {a b : ℕ} →
-        IsHead h a b → sign_at tokens aliases b ≡ sign.Semicolon → IsItem (function_item h ∷ []) a (b + 1)
+        sign_at tokens aliases b ≡ sign.Semicolon → IsItem w (map global_item xs) a (b + 1)
+    of_function : {w : Bool} {h : Head} {a b : ℕ} →
+        IsHead h a b → sign_at tokens aliases b ≡ sign.Semicolon → IsItem w (function_item h ∷ []) a (b + 1)
+    of_body_item : {w : Bool} {h : Head} {xs : Statements} {a m b : ℕ} →
+        w ≡ true → IsHead h a m → sign_at tokens aliases m ≡ sign.OpenBrace → fits 0 ≡ true →
+        IsStatements tokens aliases fits 1 xs (m + 1) b → sign_at tokens aliases b ≡ sign.CloseBrace →
+        IsItem w (body_item h xs (span_at tokens b) ∷ []) a (b + 1)

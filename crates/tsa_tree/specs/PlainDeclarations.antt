@@ -1,10 +1,8 @@
 -- Declarations and items with all spans at 0: two are equal but for spans where their plain ones are equal.
 use Rattle.std.specs.Prelude.{map, option_map}
 use Rattle.tsa_tree.specs.Attributes.{plain_attribute}
-use Rattle.tsa_tree.specs.DeclarationAnswers.{Part, an_item, a_head_alone, some_locals, sort_of}
-use Rattle.tsa_tree.specs.Declarations.{Base, structure, enumerated, alias, DeclaredType, Initialiser, value, list, Initialisers, no_more, one_more, Declaration, Parameter, EnumConstant, Head, UnitItem, structure_item, alias_item, enumeration_item, global_item, function_item}
+use Rattle.tsa_tree.specs.Declarations.{Base, structure, enumerated, alias, DeclaredType, Initialiser, value, list, Initialisers, no_more, one_more, Declaration, Parameter, EnumConstant, Head}
 use Rattle.tsa_tree.specs.Expressions.{nowhere, plain_name, plain}
-use Rattle.tsa_tree.specs.Rows.{Node}
 
 abbrev pub plain_base : Base → Base
 plain_base (structure tag) = structure (plain_name tag)
@@ -55,18 +53,3 @@ plain_head h =
       params = map plain_parameter h.params;
       attrs = map plain_attribute h.attrs;
     }
-
-abbrev pub plain_item : UnitItem → UnitItem
-plain_item (structure_item tag other attrs members span) =
-    structure_item (option_map plain_name tag) (option_map plain_name other) (map plain_attribute attrs) (map plain_declaration members) nowhere
-plain_item (alias_item name ctype span) = alias_item (plain_name name) (plain_type ctype) nowhere
-plain_item (enumeration_item tag other values span) =
-    enumeration_item (option_map plain_name tag) (option_map plain_name other) (map plain_constant values) nowhere
-plain_item (global_item declaration) = global_item (plain_declaration declaration)
-plain_item (function_item head) = function_item (plain_head head)
-
--- what a reader makes of a part
-abbrev pub plain_part : (p : Part) → Node (sort_of p) → Node (sort_of p)
-plain_part an_item items = map plain_item items
-plain_part a_head_alone head = plain_head head
-plain_part (some_locals single depth) declarations = map plain_declaration declarations

@@ -18,7 +18,7 @@ abbrev mutual
   plain_statement (block items span) = block (plain_statements items) nowhere
   plain_statement (empty span) = empty nowhere
   plain_statement (local x) = local (plain_declaration x)
-  plain_statement (simple x span) = simple (plain_simple x) nowhere
+  plain_statement (simple x) = simple (plain_simple x)
   plain_statement (if_alone test arm span) = if_alone (plain test) (plain_statement arm) nowhere
   plain_statement (if_else test arm other span) = if_else (plain test) (plain_statement arm) (plain_statement other) nowhere
   plain_statement (while_loop test body span) = while_loop (plain test) (plain_statement body) nowhere

@@ -8,10 +8,11 @@ use Rattle.tsa_tree.specs.declared.sign.Keyword.TheVariants as key
 use Rattle.tsa_tree.specs.declared.sign.Sign.{Sign}
 use Rattle.tsa_tree.specs.declared.sign.Sign.TheVariants as sign
 use Rattle.tsa_tree.specs.Attributes.{Attribute, try_value}
-use Rattle.tsa_tree.specs.Declarations.{Specified, Declarator, Declared, Declaration, Initialiser, Initialisers, EnumConstant, Parameter, Signature, Head, StructBody, UnitItem}
+use Rattle.tsa_tree.specs.Declarations.{Specified, Declarator, Declared, Declaration, Initialiser, Initialisers, EnumConstant, Parameter, Signature, Head, StructBody}
 use Rattle.tsa_tree.specs.DeclarationSpelling.{Role}
 use Rattle.tsa_tree.specs.Expressions.{Expression, Arguments}
 use Rattle.tsa_tree.specs.Signs.{Aliases, sign_at, identifier_at, is_word_at, is_plain_sign, is_tag, is_storage, is_star, assigns}
+use Rattle.tsa_tree.specs.UnitItems.{UnitItem}
 use Rattle.tsa_tree.specs.Statements.{SimplePart, ForInit, Statement, Statements}
 use Rattle.tsa_forms.specs.Form.{Form}
 
@@ -131,10 +132,12 @@ pub data Call : Sort → Type 0 where
   constants : (aliases : Aliases) → Call some_constants
   -- enumerators with both braces
   enum_body : (aliases : Aliases) → Call some_constants
-  -- behind a type: the declarators of globals or a function, and the `;`
-  declared : (aliases : Aliases) (type : Specified) → Call some_items
-  -- an item without a body
-  item : (aliases : Aliases) → Call some_items
+  -- behind a type: the declarators of globals or a function, and the `;`; or a function with its body, where bodies are asked for
+  declared : (aliases : Aliases) (bodies : Bool) (type : Specified) → Call some_items
+  -- an item, with a body only where bodies are asked for
+  item : (aliases : Aliases) (bodies : Bool) → Call some_items
+  -- items, one or more, up to the last token, where these names of types are known before the first
+  items : (aliases : Aliases) → Call some_items
   -- an expression or an assignment
   simple : (aliases : Aliases) (depth : ℕ) → Call a_simple
   -- what stands before the first `;` of a `for`, and the `;`
@@ -166,8 +169,9 @@ rank _ (locals aliases single depth) = 1
 rank _ (parameter_list aliases) = 1
 rank _ (parameters aliases) = 2
 rank _ (head aliases) = 1
-rank _ (declared aliases type) = 1
-rank _ (item aliases) = 1
+rank _ (declared aliases bodies type) = 1
+rank _ (item aliases bodies) = 1
+rank _ (items aliases) = 2
 rank _ (simple aliases depth) = 2
 rank _ (for_init aliases depth) = 3
 rank _ (statement aliases depth) = 3

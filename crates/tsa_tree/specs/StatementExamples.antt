@@ -37,7 +37,7 @@ abbrev pub assigns : Expression → Option BinaryOp → Expression → Simple
 assigns left op right = assignment left op right nowhere
 
 abbrev pub does : Simple → Statement
-does x = simple x nowhere
+does x = simple x
 
 abbrev pub nothing : Statement
 nothing = empty nowhere

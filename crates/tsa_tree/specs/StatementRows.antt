@@ -12,7 +12,7 @@ use Rattle.tsa_tree.specs.Expressions.{Expression, nowhere}
 use Rattle.tsa_tree.specs.Signs.{Aliases, sign_at, span_over, identifier_at, assigns, begins_type, begins_statement}
 use Rattle.tsa_tree.specs.Sorts.{Sort, an_expression, a_specifier, some_declarations, a_variable, a_simple, a_statement, some_statements, a_for_init, expression, operand, specifier, variable, locals, simple, statement, statements, for_init, nothing, a_name, a_close, an_open_brace, a_close_brace, a_semicolon, a_colon, a_keyword, a_step, an_assignment, sees, Row, tightest}
 use Rattle.tsa_tree.specs.StatementSpelling.{one_at}
-use Rattle.tsa_tree.specs.Statements.{Simple, evaluation, assignment, ForInit, no_init, simple_init, local_init, Statement, Statements, SimplePart, by_expression, by_operand, by_step, block, empty, if_alone, if_else, while_loop, do_loop, for_loop, switch, case, otherwise, label, break, continue, goto, return, none, more, ends_short, locals_before}
+use Rattle.tsa_tree.specs.Statements.{Simple, evaluation, assignment, ForInit, no_init, simple_init, local_init, Statement, Statements, SimplePart, by_expression, by_operand, by_step, block, empty, if_alone, if_else, while_loop, do_loop, for_loop, switch, case, otherwise, label, break, continue, goto, return, none, more, ends_short, locals_before, spanning}
 use Rattle.tsa_tree.specs.Statements as plain
 use Rattle.tsa_forms.specs.Form.{done, token, part, limit, only, either}
 
@@ -83,7 +83,7 @@ module _ (tokens : List Lexeme) where
   -- a simple statement and its `;`
   abbrev pub simple_statement : (aliases : Aliases) (d m : ℕ) → Row a_statement
   simple_statement aliases d m =
-      part a_simple (simple aliases d) (λ x n. token (a_semicolon aliases) (done (plain.simple x.simple (span_over tokens m (n + 1)))))
+      part a_simple (simple aliases d) (λ x n. token (a_semicolon aliases) (done (plain.simple (spanning x.simple (span_over tokens m (n + 1))))))
 
   abbrev pub statement_row : (aliases : Aliases) (d m : ℕ) → Sign → Row a_statement
   statement_row aliases d m sign.OpenBrace =

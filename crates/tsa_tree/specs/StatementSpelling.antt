@@ -11,7 +11,7 @@ use Rattle.tsa_tree.specs.DeclarationSpelling.{IsSpecifier, IsVariable, IsLocals
 use Rattle.tsa_tree.specs.Expressions.{Expression, number}
 use Rattle.tsa_tree.specs.Signs.{Aliases, sign_at, span_at, span_over, identifier_at, assigns}
 use Rattle.tsa_tree.specs.Spelling.{IsExpression, IsUnary}
-use Rattle.tsa_tree.specs.Statements.{Simple, evaluation, assignment, ForInit, no_init, simple_init, local_init, Statement, block, empty, simple, if_alone, if_else, while_loop, do_loop, for_loop, switch, case, otherwise, label, break, continue, goto, return, Statements, none, more, ends_short, locals_before}
+use Rattle.tsa_tree.specs.Statements.{Simple, evaluation, assignment, ForInit, no_init, simple_init, local_init, Statement, block, empty, simple, if_alone, if_else, while_loop, do_loop, for_loop, switch, case, otherwise, label, break, continue, goto, return, Statements, none, more, ends_short, locals_before, spanning}
 
 -- the 1 that a `++` or `--` at a place adds or takes
 abbrev pub one_at : List Lexeme → ℕ → Expression
@@ -61,7 +61,7 @@ module _ (tokens : List Lexeme) (aliases : Aliases) (fits : ℕ → Bool) where
           sign_at tokens aliases b ≡ sign.CloseBrace → IsStatement d (block xs (span_over tokens a (b + 1))) a (b + 1)
       of_empty : {d a : ℕ} → sign_at tokens aliases a ≡ sign.Semicolon → IsStatement d (empty (span_over tokens a (a + 1))) a (a + 1)
       of_simple : {d : ℕ} {x : Simple} {a b : ℕ} →
-          IsSimple d x a b → sign_at tokens aliases b ≡ sign.Semicolon → IsStatement d (simple x (span_over tokens a (b + 1))) a (b + 1)
+          IsSimple d x a b → sign_at tokens aliases b ≡ sign.Semicolon → IsStatement d (simple (spanning x (span_over tokens a (b + 1)))) a (b + 1)
       of_if : {d : ℕ} {x : Expression} {arm : Statement} {a m b : ℕ} →
           sign_at tokens aliases a ≡ sign.Keyword key.If → IsTest d x (a + 1) m → IsBody d arm m b →
           IsStatement d (if_alone x arm (span_over tokens a b)) a b

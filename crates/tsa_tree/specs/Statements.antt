@@ -11,6 +11,11 @@ pub data Simple : Type 0 where
   evaluation : (tree : Expression) (span : Span) → Simple
   assignment : (left : Expression) (op : Option BinaryOp) (right : Expression) (span : Span) → Simple
 
+-- the same with this span: that of a statement has the `;` behind it
+abbrev pub spanning : Simple → Span → Simple
+spanning (evaluation tree other) span = evaluation tree span
+spanning (assignment left op right other) span = assignment left op right span
+
 -- what may follow a simple statement: nothing that would go on with the expression or the operand that ends it
 pub data Ending : Type 0 where
   by_expression : (tree : Expression) → Ending
@@ -33,7 +38,7 @@ mutual
     block : (items : Statements) (span : Span) → Statement
     empty : (span : Span) → Statement
     local : (declaration : Declaration) → Statement
-    simple : (what : Simple) (span : Span) → Statement
+    simple : (what : Simple) → Statement
     if_alone : (test : Expression) (arm : Statement) (span : Span) → Statement
     if_else : (test : Expression) (arm other : Statement) (span : Span) → Statement
     while_loop : (test : Expression) (body : Statement) (span : Span) → Statement
@@ -65,7 +70,7 @@ ends_short (label name body span) = ends_short body
 ends_short (block items span) = false
 ends_short (empty span) = false
 ends_short (local declaration) = false
-ends_short (simple what span) = false
+ends_short (simple what) = false
 ends_short (do_loop body test span) = false
 ends_short (break span) = false
 ends_short (continue span) = false

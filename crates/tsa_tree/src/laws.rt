@@ -7,6 +7,9 @@ ghost use Rattle.tsa_tree.specs.AttributeExamples.{AttributesAreRead};
 ghost use Rattle.tsa_tree.specs.DeclarationAnswers as declarations;
 ghost use Rattle.tsa_tree.specs.StatementLaws as statements;
 ghost use Rattle.tsa_tree.specs.StatementExamples.{StatementsAreRead};
+ghost use Rattle.tsa_tree.specs.UnitAnswers as units;
+ghost use Rattle.tsa_tree.specs.PointExamples.{PointsAreInOrder};
+ghost use Rattle.tsa_tree.specs.UnitExamples.{UnitsAreRead};
 ghost use Rattle.tsa_tree.specs.DeclarationExamples.{DeclarationsAreRead};
 
 /// The rows that readers go by spell the same trees as the productions of the grammar, and the same lists begin them.
@@ -119,4 +122,34 @@ pub fn first_pieces_begin_statements()
 #[tactic(auto, using(crate::proofs::StatementExamples::statements_are_read))]
 pub fn statements_are_as_written()
     ensures { StatementsAreRead }
+{}
+
+/// The rows of whole units spell what the productions spell, to the last token.
+#[tactic(auto, using(crate::proofs::UnitLaws::spell_the_same))]
+pub fn rows_of_units_are_productions()
+    ensures { units.SpellTheSame }
+{}
+
+/// Two units that the same tokens spell are equal.
+#[tactic(auto, using(crate::proofs::UnitLaws::one_unit))]
+pub fn one_unit_is_spelled()
+    ensures { units.OneUnit }
+{}
+
+/// For every list of tokens there is a right answer of a reader of units.
+#[tactic(auto, using(crate::proofs::UnitLaws::an_answer))]
+pub fn units_have_an_answer()
+    ensures { units.AnAnswer }
+{}
+
+/// Units are read as they are written: a text for each production, and one for each kind of refusal.
+#[tactic(auto, using(crate::proofs::UnitExamples::units_are_read))]
+pub fn units_are_as_written()
+    ensures { UnitsAreRead }
+{}
+
+/// The points of statements come in order of the text, and stand where they are written.
+#[tactic(auto, using(crate::proofs::PointExamples::points_are_in_order))]
+pub fn points_are_as_written()
+    ensures { PointsAreInOrder }
 {}

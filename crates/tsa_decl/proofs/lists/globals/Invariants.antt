@@ -1,5 +1,5 @@
 use Rattle.std.proofs.Common.{◌≡◌, ◌≤◌, ◌<◌, length, ◌-◌}
-use Rattle.tsa_tree.specs.ItemShapes.{item_shapes}
+use Rattle.tsa_tree.specs.UnitShapes.{item_shapes}
 use Rattle.tsa_tree.specs.Signs.{lexemes}
 use Rattle.tsa_expr.specs.Known.{known}
 use Rattle.tsa_decl.specs.Outcomes.{after, globals_at}
