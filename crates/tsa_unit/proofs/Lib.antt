@@ -1,0 +1,3 @@
+pub mod SimpleLaws
+pub mod PointLaws
+pub mod LeafLaws
