@@ -60,7 +60,7 @@ abbrev mutual
   if_shape test arm None' span = if_alone test arm span
   if_shape test arm (Some' pointer other point other_span) span = if_else test arm (stmt_shape other other_span) span
 
-  stmt_row_shape : {count : _} → Row_of-Stmt count → Statements
+  pub stmt_row_shape : {count : _} → Row_of-Stmt count → Statements
   stmt_row_shape end_of-Stmt = none
   stmt_row_shape (more_of-Stmt kind point span rest) = more (stmt_shape kind span) (stmt_row_shape rest)
 
@@ -83,22 +83,22 @@ abbrev pub point_shape : Point → PlacedDeed
 point_shape p = record { deed = action_shape p.action; span = p.span }
 
 -- how many points a statement has
-abbrev counted : StmtKind → Span → ℕ
+abbrev pub counted : StmtKind → Span → ℕ
 counted kind span = length (points_of (stmt_shape kind span))
 
-abbrev counted_held : Held-StmtKind-If-2 → ℕ
+abbrev pub counted_held : Held-StmtKind-If-2 → ℕ
 counted_held None' = 0
 counted_held (Some' pointer kind point span) = counted kind span
 
 -- what may be a part of a `for`
-abbrev is_part : StmtKind → Bool
+abbrev pub is_part : StmtKind → Bool
 is_part (Local d) = true
 is_part (Eval x) = true
 is_part (Assign left op right) = true
 is_part kind = false
 
 -- the part of a `for` is one that may stand there, and its point has this number
-abbrev IsPart : Held-StmtKind-If-2 → ℕ → Type 0
+abbrev pub IsPart : Held-StmtKind-If-2 → ℕ → Type 0
 IsPart None' n = Unit {0}
 IsPart (Some' pointer kind point span) n = (is_part kind ≡ true) × (point ≡ Some n)
 
@@ -133,7 +133,7 @@ abbrev mutual
   IsNumberedHeld None' n = Unit {0}
   IsNumberedHeld (Some' pointer kind point span) n = IsNumbered kind point span n
 
-  AreNumberedInRow : {count : _} → Row_of-Stmt count → (n : ℕ) → Type 0
+  pub AreNumberedInRow : {count : _} → Row_of-Stmt count → (n : ℕ) → Type 0
   AreNumberedInRow end_of-Stmt n = Unit {0}
   AreNumberedInRow (more_of-Stmt kind point span rest) n = IsNumbered kind point span n × AreNumberedInRow rest (n + counted kind span)
 

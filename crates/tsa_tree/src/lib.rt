@@ -7,6 +7,7 @@ pub mod decl;
 pub mod expr;
 pub mod item;
 mod laws;
+mod parsed;
 pub mod sign;
 pub mod stmt;
 
@@ -20,6 +21,7 @@ pub use laws::{
     rows_of_statements_are_productions, rows_of_units_are_productions, statements_are_as_written,
     units_are_as_written, units_have_an_answer,
 };
+pub use parsed::Parsed;
 use tsa_base::Span;
 
 /// A unit of the thin language, in plain vectors. Its spans name bytes of the input.
