@@ -1,5 +1,5 @@
--- Items without a body, by their first tokens.
-use Rattle.std.proofs.Common.{ℕ, ◌+◌, ◌≡◌, ◌≢◌, ◌∙◌, ap, sym, refl, List, [], ◌∷◌, ◌++◌, Ok, nat_eq, false, None, option_map}
+-- Items by their first tokens: whether a function may have a body is told behind its head alone.
+use Rattle.std.proofs.Common.{ℕ, ◌+◌, ◌≡◌, ◌≢◌, ◌∙◌, ap, sym, refl, List, Ok, nat_eq, Bool, Some}
 use Rattle.tsa_base.specs.Tokens.{Lexeme}
 use Rattle.tsa_forms.proofs.Cases.{chosen, other, goes}
 use Rattle.tsa_forms.specs.Form.{done, part}
@@ -7,97 +7,130 @@ use Rattle.tsa_forms.specs.Reading.{Outcome, then, choose}
 use Rattle.tsa_tree.proofs.RowsRead.{read_steps}
 use Rattle.tsa_tree.specs.declared.item.FnTree.{FnTree}
 use Rattle.tsa_tree.specs.declared.item.Item.{Item}
-use Rattle.tsa_tree.specs.declared.item.Item.TheVariants.{Function}
 use Rattle.tsa_tree.specs.declared.sign.Keyword.TheVariants as key
 use Rattle.tsa_tree.specs.declared.sign.Sign.{Sign}
 use Rattle.tsa_tree.specs.declared.sign.Sign.TheVariants as sign
 use Rattle.tsa_tree.specs.Declarations.{Base, Specified, Declarator, Signature, head_of}
-use Rattle.tsa_tree.specs.UnitItems.{UnitItem, function_item}
+use Rattle.tsa_tree.specs.UnitItems.{UnitItem}
 use Rattle.tsa_tree.specs.ItemShapes.{head_shape}
-use Rattle.tsa_tree.specs.UnitShapes.{shape_with, function_shape, item_shape, item_shapes}
+use Rattle.tsa_tree.specs.UnitShapes.{item_shapes}
 use Rattle.tsa_tree.specs.Reads.{read}
-use Rattle.tsa_tree.specs.Rows.{a_specifier, a_declarator, a_signature, some_items, specifier, declarator, signature, declared, item, mark, is_keyword, sees, a_keyword, an_open, a_semicolon, declared_of, alias_of, alias_end, structure_row, enumeration_row, structure_alias_row, enumeration_alias_row, typedef_row, item_row}
+use Rattle.tsa_tree.specs.Rows.{a_specifier, a_declarator, a_signature, some_items, specifier, declarator, signature, declared, item, mark, is_keyword, sees, a_keyword, an_open, function_end, declared_of, alias_of, alias_end, structure_row, enumeration_row, structure_alias_row, enumeration_alias_row, typedef_row, item_row}
 use Rattle.tsa_tree.specs.Signs.{Aliases, sign_at}
 use Rattle.tsa_expr.specs.declared.refusal.SyntaxRefusal.{SyntaxRefusal}
 use Rattle.tsa_expr.specs.Gives.{Fails}
 use Rattle.tsa_expr.proofs.Answering.{fails_then, fails_same, gives_same, not_open, then_done}
-use Rattle.tsa_attr.proofs.Joining.{then-then, then-same, then-ok, token-law}
-use Rattle.tsa_decl.specs.Outcomes.{after, going_items, one_token, storage_at, specified_at, globals_at, other_item_at}
-use Rattle.tsa_decl.proofs.ListLaws.{map-push}
+use Rattle.tsa_attr.proofs.Joining.{then-then, then-same, then-ok}
+use Rattle.tsa_decl.specs.Outcomes.{after, finished, going_items, storage_at, specified_at, globals_at, other_item_at}
 use Rattle.tsa_decl.proofs.Pieces.{consts_then, storage_then}
 
--- A function without a body is its head.
-bodiless : (x : FnTree) → x.body ≡ None → function_shape x ≡ function_item (head_shape x)
-bodiless x e = ap (λ b. shape_with x (option_map (λ body. body.now) b)) e
-
-module _ (ts : List Lexeme) (aliases : Aliases) where
+module _ (ts : List Lexeme) (aliases : Aliases) (bodies : Bool) where
   -- behind a type
+  abbrev function_rest : Specified → Declarator → Signature → ℕ → Outcome (List UnitItem)
+  function_rest t c s e = going_items ts (function_end ts aliases bodies (head_of t c s) e) e
+
   abbrev behind_name : Specified → Declarator → ℕ → Outcome (List UnitItem)
   behind_name t c n =
-      choose (sees ts (an_open aliases) n)
-      (then (read ts a_signature (signature aliases) n) (λ s e. then (one_token ts (a_semicolon aliases) e) (λ u f. Ok (function_item (head_of t c s) ∷ [], e + 1))))
-      (globals_at ts aliases t c n)
+      choose (sees ts (an_open aliases) n) (then (read ts a_signature (signature aliases) n) (function_rest t c)) (globals_at ts aliases t c n)
 
   declared_is : (t : Specified) (m : ℕ)
-      → read ts some_items (declared aliases false t) m ≡ then (read ts a_declarator (declarator aliases) m) (behind_name t)
-  unfolding globals_at one_token
-  declared_is t m =
-      read_steps ts some_items (declared aliases false t) m
-      ∙ then-same (read ts a_declarator (declarator aliases) m) _ _ (λ c n. ap (λ r. choose (sees ts (an_open aliases) n) r (globals_at ts aliases t c n))
-      (then-same (read ts a_signature (signature aliases) n) _ _ (λ s e. token-law (sees ts (a_semicolon aliases) e) e _)))
+      → read ts some_items (declared aliases bodies t) m ≡ then (read ts a_declarator (declarator aliases) m) (behind_name t)
+  unfolding globals_at
+  declared_is t m = read_steps ts some_items (declared aliases bodies t) m
 
   pub declared_nameless : (xs : List Item) (t : Specified) (m : ℕ) (e : SyntaxRefusal) → Fails e (read ts a_declarator (declarator aliases) m)
-      → Fails e (after (item_shapes xs) (read ts some_items (declared aliases false t) m))
+      → Fails e (after (item_shapes xs) (read ts some_items (declared aliases bodies t) m))
   declared_nameless xs t m e f = fails_then e _ _ (fails_same e _ _ (declared_is t m) (fails_then e _ _ f))
 
   pub declared_globals : (xs : List Item) (t : Specified) (m : ℕ) (c : Declarator) (n : ℕ) → read ts a_declarator (declarator aliases) m ≡ Ok (c, n)
       → sign_at ts aliases n ≢ sign.Open
-      → after (item_shapes xs) (read ts some_items (declared aliases false t) m) ≡ after (item_shapes xs) (globals_at ts aliases t c n)
+      → after (item_shapes xs) (read ts some_items (declared aliases bodies t) m) ≡ after (item_shapes xs) (globals_at ts aliases t c n)
   declared_globals xs t m c n h k =
       ap (after (item_shapes xs)) (declared_is t m ∙ goes _ _ c n h ∙ other _ _ _ (not_open (sign_at ts aliases n) k))
 
   function_at : (t : Specified) (m : ℕ) (c : Declarator) (n : ℕ) → read ts a_declarator (declarator aliases) m ≡ Ok (c, n)
       → sign_at ts aliases n ≡ sign.Open
-      → read ts some_items (declared aliases false t) m
-      ≡ then (read ts a_signature (signature aliases) n) (λ s e. then (one_token ts (a_semicolon aliases) e) (λ u f. Ok (function_item (head_of t c s) ∷ [], e + 1)))
+      → read ts some_items (declared aliases bodies t) m ≡ then (read ts a_signature (signature aliases) n) (function_rest t c)
   function_at t m c n h k = declared_is t m ∙ goes _ _ c n h ∙ chosen _ _ _ (ap (λ s. nat_eq (mark s) 6) k)
 
   pub function_unsigned : (xs : List Item) (t : Specified) (m : ℕ) (c : Declarator) (n : ℕ) (e : SyntaxRefusal) → read ts a_declarator (declarator aliases) m ≡ Ok (c, n)
       → sign_at ts aliases n ≡ sign.Open → Fails e (read ts a_signature (signature aliases) n)
-      → Fails e (after (item_shapes xs) (read ts some_items (declared aliases false t) m))
+      → Fails e (after (item_shapes xs) (read ts some_items (declared aliases bodies t) m))
   function_unsigned xs t m c n e h k f = fails_then e _ _ (fails_same e _ _ (function_at t m c n h k) (fails_then e _ _ f))
 
-  pub function_endless : (xs : List Item) (t : Specified) (m : ℕ) (c : Declarator) (n : ℕ) (s : Signature) (i : ℕ) (e : SyntaxRefusal)
+  pub function_begins : (xs : List Item) (t : Specified) (m : ℕ) (c : Declarator) (n : ℕ) (s : Signature) (i : ℕ) (x : FnTree)
       → read ts a_declarator (declarator aliases) m ≡ Ok (c, n) → sign_at ts aliases n ≡ sign.Open
-      → read ts a_signature (signature aliases) n ≡ Ok (s, i) → Fails e (one_token ts (a_semicolon aliases) i)
-      → Fails e (after (item_shapes xs) (read ts some_items (declared aliases false t) m))
-  function_endless xs t m c n s i e h k l f =
-      fails_then e _ _ (fails_same e _ _ (function_at t m c n h k ∙ goes _ _ s i l) (fails_then e _ _ f))
-
-  pub function_goes : (xs : List Item) (t : Specified) (m : ℕ) (c : Declarator) (n : ℕ) (s : Signature) (i j : ℕ) (x : FnTree)
-      → read ts a_declarator (declarator aliases) m ≡ Ok (c, n) → sign_at ts aliases n ≡ sign.Open
-      → read ts a_signature (signature aliases) n ≡ Ok (s, i) → one_token ts (a_semicolon aliases) i ≡ Ok (tt, j) → j ≡ i + 1
-      → head_shape x ≡ head_of t c s → x.body ≡ None
-      → after (item_shapes xs) (read ts some_items (declared aliases false t) m) ≡ Ok (item_shapes (xs ++ Function x ∷ []), j)
-  function_goes xs t m c n s i j x h k l o p q r =
-      goes _ _ (function_shape x ∷ []) j
-      (function_at t m c n h k ∙ goes _ _ s i l ∙ goes _ _ tt j o ∙ ap (λ j. Ok (function_item (head_of t c s) ∷ [], j)) (sym p)
-      ∙ ap (λ head. Ok (function_item head ∷ [], j)) (sym q) ∙ ap (λ shape. Ok (shape ∷ [], j)) (sym (bodiless x r)))
-      ∙ ap (λ ys. Ok (ys, j)) (sym (map-push item_shape xs (Function x)))
+      → read ts a_signature (signature aliases) n ≡ Ok (s, i) → head_shape x ≡ head_of t c s
+      → after (item_shapes xs) (read ts some_items (declared aliases bodies t) m) ≡ finished ts aliases bodies (item_shapes xs, Some (head_shape x)) i
+  function_begins xs t m c n s i x h k l q =
+      ap (after (item_shapes xs))
+      (function_at t m c n h k ∙ goes _ _ s i l ∙ ap (λ head. going_items ts (function_end ts aliases bodies head i) i) (sym q))
 
   -- behind a tag
   declared_of_is : (base : Base) (m : ℕ)
-      → going_items ts (declared_of ts aliases false base m) m ≡ then (specified_at ts aliases base m) (λ t n. read ts some_items (declared aliases false t) n)
+      → going_items ts (declared_of ts aliases bodies base m) m ≡ then (specified_at ts aliases base m) (λ t n. read ts some_items (declared aliases bodies t) n)
   unfolding specified_at
   declared_of_is base m =
-      consts_then ts aliases some_items m (λ c n. part some_items (declared aliases false (record { base = base; is_const = c })) (λ xs e. done xs))
-      ∙ then-same _ _ _ (λ u n. then_done _ ∙ sym (then-ok (record { base = base; is_const = sees ts (a_keyword aliases key.Const) m }) n (λ t n. read ts some_items (declared aliases false t) n)))
+      consts_then ts aliases some_items m (λ c n. part some_items (declared aliases bodies (record { base = base; is_const = c })) (λ xs e. done xs))
+      ∙ then-same _ _ _ (λ u n. then_done _ ∙ sym (then-ok (record { base = base; is_const = sees ts (a_keyword aliases key.Const) m }) n (λ t n. read ts some_items (declared aliases bodies t) n)))
       ∙ sym (then-then _ _ _)
 
   pub declared_of_same : (xs : List Item) (base : Base) (m : ℕ) (t : Specified) (n : ℕ) → specified_at ts aliases base m ≡ Ok (t, n)
-      → after (item_shapes xs) (going_items ts (declared_of ts aliases false base m) m) ≡ after (item_shapes xs) (read ts some_items (declared aliases false t) n)
+      → after (item_shapes xs) (going_items ts (declared_of ts aliases bodies base m) m) ≡ after (item_shapes xs) (read ts some_items (declared aliases bodies t) n)
   declared_of_same xs base m t n h = ap (after (item_shapes xs)) (declared_of_is base m ∙ goes _ _ t n h)
 
+  -- storage words or a type
+  other_is : (m : ℕ)
+      → other_item_at ts aliases bodies m
+      ≡ then (storage_at ts aliases m) (λ u n. then (read ts a_specifier (specifier aliases) n) (λ t e. read ts some_items (declared aliases bodies t) e))
+  unfolding other_item_at
+  other_is m =
+      storage_then ts aliases some_items m (part a_specifier (specifier aliases) (λ t n. part some_items (declared aliases bodies t) (λ xs e. done xs)))
+      ∙ then-same (storage_at ts aliases m) _ _ (λ u n. then-same (read ts a_specifier (specifier aliases) n) _ _ (λ t e. then_done _))
+
+  pub other_typeless : (xs : List Item) (m n : ℕ) (e : SyntaxRefusal) → storage_at ts aliases m ≡ Ok (tt, n) → Fails e (read ts a_specifier (specifier aliases) n)
+      → Fails e (after (item_shapes xs) (other_item_at ts aliases bodies m))
+  other_typeless xs m n e h f = fails_then e _ _ (fails_same e _ _ (other_is m ∙ goes _ _ tt n h) (fails_then e _ _ f))
+
+  pub other_same : (xs : List Item) (m n : ℕ) (t : Specified) (i : ℕ) → storage_at ts aliases m ≡ Ok (tt, n) → read ts a_specifier (specifier aliases) n ≡ Ok (t, i)
+      → after (item_shapes xs) (other_item_at ts aliases bodies m) ≡ after (item_shapes xs) (read ts some_items (declared aliases bodies t) i)
+  other_same xs m n t i h k = ap (after (item_shapes xs)) (other_is m ∙ goes _ _ tt n h ∙ goes _ _ t i k)
+
+  -- by the first sign
+  item_is : (m : ℕ) (s : Sign) → sign_at ts aliases m ≡ s → read ts some_items (item aliases bodies) m ≡ going_items ts (item_row ts aliases bodies m s) m
+  item_is m s e = read_steps ts some_items (item aliases bodies) m ∙ ap (λ s. going_items ts (item_row ts aliases bodies m s) m) e
+
+  pub item_struct : (xs : List Item) (m : ℕ) → sign_at ts aliases m ≡ sign.Keyword key.Struct
+      → after (item_shapes xs) (read ts some_items (item aliases bodies) m) ≡ after (item_shapes xs) (going_items ts (structure_row ts aliases bodies m) (m + 1))
+  item_struct xs m e =
+      ap (after (item_shapes xs)) (item_is m (sign.Keyword key.Struct) e ∙ chosen _ _ _ (ap (is_keyword key.Struct) e))
+
+  pub item_enum : (xs : List Item) (m : ℕ) → sign_at ts aliases m ≡ sign.Keyword key.Enum
+      → after (item_shapes xs) (read ts some_items (item aliases bodies) m) ≡ after (item_shapes xs) (going_items ts (enumeration_row ts aliases bodies m) (m + 1))
+  item_enum xs m e =
+      ap (after (item_shapes xs)) (item_is m (sign.Keyword key.Enum) e ∙ chosen _ _ _ (ap (is_keyword key.Enum) e))
+
+  pub item_typedef : (xs : List Item) (m : ℕ) → sign_at ts aliases m ≡ sign.Keyword key.Typedef
+      → after (item_shapes xs) (read ts some_items (item aliases bodies) m)
+      ≡ after (item_shapes xs) (going_items ts (typedef_row ts aliases m (sign_at ts aliases (m + 1))) (m + 1))
+  item_typedef xs m e =
+      ap (after (item_shapes xs)) (item_is m (sign.Keyword key.Typedef) e ∙ chosen _ _ _ (ap (is_keyword key.Typedef) e))
+
+  other_row : (m : ℕ) (s : Sign) → s ≢ sign.Keyword key.Struct → s ≢ sign.Keyword key.Enum → s ≢ sign.Keyword key.Typedef
+      → going_items ts (item_row ts aliases bodies m s) m ≡ other_item_at ts aliases bodies m
+  unfolding other_item_at
+  other_row m (sign.Keyword key.Struct) a b c = absurd (a refl)
+  other_row m (sign.Keyword key.Enum) a b c = absurd (b refl)
+  other_row m (sign.Keyword key.Typedef) a b c = absurd (c refl)
+  other_row m _ a b c = refl
+
+  pub item_other : (xs : List Item) (m : ℕ) → sign_at ts aliases m ≢ sign.Keyword key.Struct → sign_at ts aliases m ≢ sign.Keyword key.Enum
+      → sign_at ts aliases m ≢ sign.Keyword key.Typedef
+      → after (item_shapes xs) (read ts some_items (item aliases bodies) m) ≡ after (item_shapes xs) (other_item_at ts aliases bodies m)
+  item_other xs m a b c = ap (after (item_shapes xs)) (item_is m (sign_at ts aliases m) refl ∙ other_row m (sign_at ts aliases m) a b c)
+
+module _ (ts : List Lexeme) (aliases : Aliases) where
+  -- an alias behind a tag
   alias_of_is : (base : Base) (m : ℕ)
       → going_items ts (alias_of ts aliases base m) m ≡ then (specified_at ts aliases base m) (λ t n. going_items ts (alias_end ts aliases t n) n)
   unfolding specified_at
@@ -109,56 +142,6 @@ module _ (ts : List Lexeme) (aliases : Aliases) where
   pub alias_of_same : (xs : List Item) (base : Base) (m : ℕ) (t : Specified) (n : ℕ) → specified_at ts aliases base m ≡ Ok (t, n)
       → after (item_shapes xs) (going_items ts (alias_of ts aliases base m) m) ≡ after (item_shapes xs) (going_items ts (alias_end ts aliases t n) n)
   alias_of_same xs base m t n h = ap (after (item_shapes xs)) (alias_of_is base m ∙ goes _ _ t n h)
-
-  -- storage words or a type
-  other_is : (m : ℕ)
-      → other_item_at ts aliases m
-      ≡ then (storage_at ts aliases m) (λ u n. then (read ts a_specifier (specifier aliases) n) (λ t e. read ts some_items (declared aliases false t) e))
-  unfolding other_item_at
-  other_is m =
-      storage_then ts aliases some_items m (part a_specifier (specifier aliases) (λ t n. part some_items (declared aliases false t) (λ xs e. done xs)))
-      ∙ then-same (storage_at ts aliases m) _ _ (λ u n. then-same (read ts a_specifier (specifier aliases) n) _ _ (λ t e. then_done _))
-
-  pub other_typeless : (xs : List Item) (m n : ℕ) (e : SyntaxRefusal) → storage_at ts aliases m ≡ Ok (tt, n) → Fails e (read ts a_specifier (specifier aliases) n)
-      → Fails e (after (item_shapes xs) (other_item_at ts aliases m))
-  other_typeless xs m n e h f = fails_then e _ _ (fails_same e _ _ (other_is m ∙ goes _ _ tt n h) (fails_then e _ _ f))
-
-  pub other_same : (xs : List Item) (m n : ℕ) (t : Specified) (i : ℕ) → storage_at ts aliases m ≡ Ok (tt, n) → read ts a_specifier (specifier aliases) n ≡ Ok (t, i)
-      → after (item_shapes xs) (other_item_at ts aliases m) ≡ after (item_shapes xs) (read ts some_items (declared aliases false t) i)
-  other_same xs m n t i h k = ap (after (item_shapes xs)) (other_is m ∙ goes _ _ tt n h ∙ goes _ _ t i k)
-
-  -- by the first sign
-  item_is : (m : ℕ) (s : Sign) → sign_at ts aliases m ≡ s → read ts some_items (item aliases false) m ≡ going_items ts (item_row ts aliases false m s) m
-  item_is m s e = read_steps ts some_items (item aliases false) m ∙ ap (λ s. going_items ts (item_row ts aliases false m s) m) e
-
-  pub item_struct : (xs : List Item) (m : ℕ) → sign_at ts aliases m ≡ sign.Keyword key.Struct
-      → after (item_shapes xs) (read ts some_items (item aliases false) m) ≡ after (item_shapes xs) (going_items ts (structure_row ts aliases false m) (m + 1))
-  item_struct xs m e =
-      ap (after (item_shapes xs)) (item_is m (sign.Keyword key.Struct) e ∙ chosen _ _ _ (ap (is_keyword key.Struct) e))
-
-  pub item_enum : (xs : List Item) (m : ℕ) → sign_at ts aliases m ≡ sign.Keyword key.Enum
-      → after (item_shapes xs) (read ts some_items (item aliases false) m) ≡ after (item_shapes xs) (going_items ts (enumeration_row ts aliases false m) (m + 1))
-  item_enum xs m e =
-      ap (after (item_shapes xs)) (item_is m (sign.Keyword key.Enum) e ∙ chosen _ _ _ (ap (is_keyword key.Enum) e))
-
-  pub item_typedef : (xs : List Item) (m : ℕ) → sign_at ts aliases m ≡ sign.Keyword key.Typedef
-      → after (item_shapes xs) (read ts some_items (item aliases false) m)
-      ≡ after (item_shapes xs) (going_items ts (typedef_row ts aliases m (sign_at ts aliases (m + 1))) (m + 1))
-  item_typedef xs m e =
-      ap (after (item_shapes xs)) (item_is m (sign.Keyword key.Typedef) e ∙ chosen _ _ _ (ap (is_keyword key.Typedef) e))
-
-  other_row : (m : ℕ) (s : Sign) → s ≢ sign.Keyword key.Struct → s ≢ sign.Keyword key.Enum → s ≢ sign.Keyword key.Typedef
-      → going_items ts (item_row ts aliases false m s) m ≡ other_item_at ts aliases m
-  unfolding other_item_at
-  other_row m (sign.Keyword key.Struct) a b c = absurd (a refl)
-  other_row m (sign.Keyword key.Enum) a b c = absurd (b refl)
-  other_row m (sign.Keyword key.Typedef) a b c = absurd (c refl)
-  other_row m _ a b c = refl
-
-  pub item_other : (xs : List Item) (m : ℕ) → sign_at ts aliases m ≢ sign.Keyword key.Struct → sign_at ts aliases m ≢ sign.Keyword key.Enum
-      → sign_at ts aliases m ≢ sign.Keyword key.Typedef
-      → after (item_shapes xs) (read ts some_items (item aliases false) m) ≡ after (item_shapes xs) (other_item_at ts aliases m)
-  item_other xs m a b c = ap (after (item_shapes xs)) (item_is m (sign_at ts aliases m) refl ∙ other_row m (sign_at ts aliases m) a b c)
 
   -- behind `typedef`
   abbrev alias_behind : (m : ℕ) → Sign → Outcome (List UnitItem)
@@ -187,7 +170,7 @@ module _ (ts : List Lexeme) (aliases : Aliases) where
       → after (item_shapes xs) (alias_behind m (sign_at ts aliases (m + 1))) ≡ after (item_shapes xs) (going_items ts (alias_end ts aliases t n) n)
   typedef_plain xs m t n a b h = ap (after (item_shapes xs)) (plain_row m (sign_at ts aliases (m + 1)) a b ∙ goes _ _ t n h)
 
-pub ruleset declared_items = (declared_nameless, declared_globals, function_unsigned, function_endless, function_goes, gives_same)
+pub ruleset declared_items = (declared_nameless, declared_globals, function_unsigned, function_begins)
 
 pub ruleset told_by_tag = (declared_of_same, alias_of_same, gives_same)
 

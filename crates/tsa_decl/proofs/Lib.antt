@@ -12,6 +12,7 @@ pub mod DeclaredLaws
 pub mod MemberLaws
 pub mod GlobalLaws
 pub mod LocalLaws
+pub mod BegunLaws
 pub mod BodyLaws
 pub mod ItemLaws
 pub mod TagLaws

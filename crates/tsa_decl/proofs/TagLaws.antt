@@ -111,100 +111,6 @@ module _ (ts : List Lexeme) (aliases : Aliases) where
   at_use body uses None x n e = none_use (sees ts (an_open_brace aliases) n) x _ _ e
   at_use body uses (Some t) x n e = some_use (sees ts (an_open_brace aliases) n) t x _ (λ tag. uses tag n) e
 
-  -- behind `struct`
-  abbrev struct_by : (m : ℕ) → Bool → List Attribute → ℕ → Outcome (List UnitItem)
-  struct_by m marked xs n =
-      then (tag_at ts aliases n) (λ tag e. choose marked (structure_at ts aliases false m xs (Some tag) e)
-      (choose (sees ts (an_open_brace aliases) e) (structure_at ts aliases false m xs (Some tag) e)
-      (choose (sees ts (a_semicolon aliases) e) (Ok ([], e + 1)) (going_items ts (declared_of ts aliases false (structure tag) e) e))))
-
-  struct_is : (m : ℕ) → going_items ts (structure_row ts aliases false m) (m + 1) ≡ then (read_any ts aliases 0 (m + 1)) (struct_by m (is_attribute_sign (sign_at ts aliases (m + 1))))
-  unfolding read_any tag_at structure_at choose
-  struct_is m =
-      marked-law (is_attribute_sign (sign_at ts aliases (m + 1))) (read ts some_attributes (attributes aliases 0) (m + 1)) (m + 1) _ _ (struct_by m)
-      (λ xs n. tag-law (is_tag (sign_at ts aliases n)) n (identifier_at ts n) _ _ refl)
-      (tag-law (is_tag (sign_at ts aliases (m + 1))) (m + 1) (identifier_at ts (m + 1)) _ _
-      (ap (choose (sees ts (an_open_brace aliases) (m + 1 + 1)) (structure_at ts aliases false m [] (Some (identifier_at ts (m + 1))) (m + 1 + 1)))
-      (twice-law (sees ts (a_semicolon aliases) (m + 1 + 1)) _ _ _)))
-
-  abbrev struct_at : ℕ → Outcome (List UnitItem)
-  struct_at m = going_items ts (structure_row ts aliases false m) (m + 1)
-
-  pub struct_unmarked : (xs : List Item) (m : ℕ) (e : SyntaxRefusal) → Fails e (marks.after [] (read_any ts aliases 0 (m + 1)))
-      → Fails e (after (item_shapes xs) (struct_at m))
-  struct_unmarked xs m e f = fails_then e _ _ (fails_same e _ _ (struct_is m) (fails_then e _ _ (fails_same e _ _ (sym (after-nothing _)) f)))
-
-  struct_marks : (m : ℕ) (ys : List Attribute) (n : ℕ) → marks.after [] (read_any ts aliases 0 (m + 1)) ≡ Ok (ys, n)
-      → struct_at m ≡ struct_by m (is_attribute_sign (sign_at ts aliases (m + 1))) ys n
-  struct_marks m ys n h = struct_is m ∙ goes _ _ ys n (sym (after-nothing _) ∙ h)
-
-  pub struct_tagless : (xs : List Item) (m : ℕ) (ys : List Attribute) (n : ℕ) (e : SyntaxRefusal) → marks.after [] (read_any ts aliases 0 (m + 1)) ≡ Ok (ys, n)
-      → Fails e (tag_at ts aliases n) → Fails e (after (item_shapes xs) (struct_at m))
-  struct_tagless xs m ys n e h f = fails_then e _ _ (fails_same e _ _ (struct_marks m ys n h) (fails_then e _ _ f))
-
-  pub struct_marked : (xs : List Item) (m : ℕ) (ys : List Attribute) (n : ℕ) (tag : Identifier) (i : ℕ) → marks.after [] (read_any ts aliases 0 (m + 1)) ≡ Ok (ys, n)
-      → tag_at ts aliases n ≡ Ok (tag, i) → is_attribute_sign (sign_at ts aliases (m + 1)) ≡ true
-      → after (item_shapes xs) (struct_at m) ≡ after (item_shapes xs) (structure_at ts aliases false m ys (Some tag) i)
-  struct_marked xs m ys n tag i h k a = ap (after (item_shapes xs)) (struct_marks m ys n h ∙ goes _ _ tag i k ∙ chosen _ _ _ a)
-
-  struct_plain : (m : ℕ) (ys : List Attribute) (n : ℕ) (tag : Identifier) (i : ℕ) → marks.after [] (read_any ts aliases 0 (m + 1)) ≡ Ok (ys, n)
-      → tag_at ts aliases n ≡ Ok (tag, i) → is_attribute_sign (sign_at ts aliases (m + 1)) ≡ false
-      → struct_at m
-      ≡ choose (sees ts (an_open_brace aliases) i) (structure_at ts aliases false m ys (Some tag) i)
-      (choose (sees ts (a_semicolon aliases) i) (Ok ([], i + 1)) (going_items ts (declared_of ts aliases false (structure tag) i) i))
-  struct_plain m ys n tag i h k a = struct_marks m ys n h ∙ goes _ _ tag i k ∙ other _ _ _ a
-
-  pub struct_bodied : (xs : List Item) (m : ℕ) (ys : List Attribute) (n : ℕ) (tag : Identifier) (i : ℕ) → marks.after [] (read_any ts aliases 0 (m + 1)) ≡ Ok (ys, n)
-      → tag_at ts aliases n ≡ Ok (tag, i) → is_attribute_sign (sign_at ts aliases (m + 1)) ≡ false → sign_at ts aliases i ≡ sign.OpenBrace
-      → after (item_shapes xs) (struct_at m) ≡ after (item_shapes xs) (structure_at ts aliases false m ys (Some tag) i)
-  struct_bodied xs m ys n tag i h k a e =
-      ap (after (item_shapes xs)) (struct_plain m ys n tag i h k a ∙ chosen _ _ _ (ap (λ s. nat_eq (mark s) 17) e))
-
-  pub struct_alone : (xs : List Item) (m : ℕ) (ys : List Attribute) (n : ℕ) (tag : Identifier) (i : ℕ) → marks.after [] (read_any ts aliases 0 (m + 1)) ≡ Ok (ys, n)
-      → tag_at ts aliases n ≡ Ok (tag, i) → is_attribute_sign (sign_at ts aliases (m + 1)) ≡ false → sign_at ts aliases i ≡ sign.Semicolon
-      → after (item_shapes xs) (struct_at m) ≡ Ok (item_shapes xs, i + 1)
-  struct_alone xs m ys n tag i h k a e =
-      goes _ _ [] (i + 1)
-      (struct_plain m ys n tag i h k a ∙ other _ _ _ (ap (λ s. nat_eq (mark s) 17) e) ∙ chosen _ _ _ (ap (λ s. nat_eq (mark s) 19) e))
-      ∙ ap (λ ys. Ok (ys, i + 1)) (append-nil (item_shapes xs))
-
-  pub struct_named : (xs : List Item) (m : ℕ) (ys : List Attribute) (n : ℕ) (tag : Identifier) (i : ℕ) → marks.after [] (read_any ts aliases 0 (m + 1)) ≡ Ok (ys, n)
-      → tag_at ts aliases n ≡ Ok (tag, i) → is_attribute_sign (sign_at ts aliases (m + 1)) ≡ false
-      → sign_at ts aliases i ≢ sign.OpenBrace → sign_at ts aliases i ≢ sign.Semicolon
-      → after (item_shapes xs) (struct_at m) ≡ after (item_shapes xs) (going_items ts (declared_of ts aliases false (structure tag) i) i)
-  struct_named xs m ys n tag i h k a b c =
-      ap (after (item_shapes xs))
-      (struct_plain m ys n tag i h k a ∙ other _ _ _ (not_open_brace (sign_at ts aliases i) b) ∙ other _ _ _ (not_semicolon (sign_at ts aliases i) c))
-
-  -- behind `enum`
-  abbrev enum_at : ℕ → Outcome (List UnitItem)
-  enum_at m = going_items ts (enumeration_row ts aliases false m) (m + 1)
-
-  abbrev of_enum : Identifier → ℕ → Outcome (List UnitItem)
-  of_enum tag n = going_items ts (declared_of ts aliases false (enumerated tag) n) n
-
-  abbrev enum_by : (m : ℕ) → Option Identifier → ℕ → Outcome (List UnitItem)
-  enum_by m = at_tag (enumeration_at ts aliases false m) of_enum
-
-  enum_is : (m : ℕ) → enum_at m ≡ then (opening_at ts aliases (m + 1)) (enum_by m)
-  unfolding opening_at tag_at enumeration_at
-  enum_is m =
-      opening-law (sees ts (an_open_brace aliases) (m + 1)) (is_tag (sign_at ts aliases (m + 1))) (m + 1) (identifier_at ts (m + 1)) _ _ (enum_by m) refl refl
-
-  pub enum_unopened : (xs : List Item) (m : ℕ) (e : SyntaxRefusal) → Fails e (opening_at ts aliases (m + 1)) → Fails e (after (item_shapes xs) (enum_at m))
-  enum_unopened xs m e f = fails_then e _ _ (fails_same e _ _ (enum_is m) (fails_then e _ _ f))
-
-  pub enum_bodied : (xs : List Item) (m start : ℕ) (t : Option Name) (n : ℕ) → opening_at ts aliases (m + 1) ≡ Ok (option_map name_shape t, n)
-      → used_at t n ≡ None → start ≡ m
-      → after (item_shapes xs) (enum_at m) ≡ after (item_shapes xs) (enumeration_at ts aliases false start (option_map name_shape t) n)
-  enum_bodied xs m start t n h e q =
-      ap (after (item_shapes xs)) (enum_is m ∙ goes _ _ (option_map name_shape t) n h ∙ at_body (enumeration_at ts aliases false m) of_enum t n e)
-      ∙ ap (λ start. after (item_shapes xs) (enumeration_at ts aliases false start (option_map name_shape t) n)) (sym q)
-
-  pub enum_named : (xs : List Item) (m : ℕ) (t : Option Name) (x : Name) (n : ℕ) → opening_at ts aliases (m + 1) ≡ Ok (option_map name_shape t, n) → used_at t n ≡ Some x
-      → after (item_shapes xs) (enum_at m) ≡ after (item_shapes xs) (going_items ts (declared_of ts aliases false (enumerated (name_shape x)) n) n)
-  enum_named xs m t x n h e = ap (after (item_shapes xs)) (enum_is m ∙ goes _ _ (option_map name_shape t) n h ∙ at_use (enumeration_at ts aliases false m) of_enum t x n e)
-
   -- behind `typedef enum`
   abbrev enum_alias_at : ℕ → Outcome (List UnitItem)
   enum_alias_at m = going_items ts (enumeration_alias_row ts aliases m) (m + 1 + 1)
@@ -296,6 +202,101 @@ module _ (ts : List Lexeme) (aliases : Aliases) where
       → after (item_shapes xs) (struct_alias_at m) ≡ after (item_shapes xs) (going_items ts (alias_of ts aliases (structure (name_shape x)) i) i)
   struct_alias_named xs m ys n t x i h k a e =
       ap (after (item_shapes xs)) (struct_alias_open m ys n t i h k ∙ other _ _ _ a ∙ at_use (structure_at ts aliases true m ys) alias_of_struct t x i e)
+
+module _ (ts : List Lexeme) (aliases : Aliases) (bodies : Bool) where
+  -- behind `struct`
+  abbrev struct_by : (m : ℕ) → Bool → List Attribute → ℕ → Outcome (List UnitItem)
+  struct_by m marked xs n =
+      then (tag_at ts aliases n) (λ tag e. choose marked (structure_at ts aliases false m xs (Some tag) e)
+      (choose (sees ts (an_open_brace aliases) e) (structure_at ts aliases false m xs (Some tag) e)
+      (choose (sees ts (a_semicolon aliases) e) (Ok ([], e + 1)) (going_items ts (declared_of ts aliases bodies (structure tag) e) e))))
+
+  struct_is : (m : ℕ) → going_items ts (structure_row ts aliases bodies m) (m + 1) ≡ then (read_any ts aliases 0 (m + 1)) (struct_by m (is_attribute_sign (sign_at ts aliases (m + 1))))
+  unfolding read_any tag_at structure_at choose
+  struct_is m =
+      marked-law (is_attribute_sign (sign_at ts aliases (m + 1))) (read ts some_attributes (attributes aliases 0) (m + 1)) (m + 1) _ _ (struct_by m)
+      (λ xs n. tag-law (is_tag (sign_at ts aliases n)) n (identifier_at ts n) _ _ refl)
+      (tag-law (is_tag (sign_at ts aliases (m + 1))) (m + 1) (identifier_at ts (m + 1)) _ _
+      (ap (choose (sees ts (an_open_brace aliases) (m + 1 + 1)) (structure_at ts aliases false m [] (Some (identifier_at ts (m + 1))) (m + 1 + 1)))
+      (twice-law (sees ts (a_semicolon aliases) (m + 1 + 1)) _ _ _)))
+
+  abbrev struct_at : ℕ → Outcome (List UnitItem)
+  struct_at m = going_items ts (structure_row ts aliases bodies m) (m + 1)
+
+  pub struct_unmarked : (xs : List Item) (m : ℕ) (e : SyntaxRefusal) → Fails e (marks.after [] (read_any ts aliases 0 (m + 1)))
+      → Fails e (after (item_shapes xs) (struct_at m))
+  struct_unmarked xs m e f = fails_then e _ _ (fails_same e _ _ (struct_is m) (fails_then e _ _ (fails_same e _ _ (sym (after-nothing _)) f)))
+
+  struct_marks : (m : ℕ) (ys : List Attribute) (n : ℕ) → marks.after [] (read_any ts aliases 0 (m + 1)) ≡ Ok (ys, n)
+      → struct_at m ≡ struct_by m (is_attribute_sign (sign_at ts aliases (m + 1))) ys n
+  struct_marks m ys n h = struct_is m ∙ goes _ _ ys n (sym (after-nothing _) ∙ h)
+
+  pub struct_tagless : (xs : List Item) (m : ℕ) (ys : List Attribute) (n : ℕ) (e : SyntaxRefusal) → marks.after [] (read_any ts aliases 0 (m + 1)) ≡ Ok (ys, n)
+      → Fails e (tag_at ts aliases n) → Fails e (after (item_shapes xs) (struct_at m))
+  struct_tagless xs m ys n e h f = fails_then e _ _ (fails_same e _ _ (struct_marks m ys n h) (fails_then e _ _ f))
+
+  pub struct_marked : (xs : List Item) (m : ℕ) (ys : List Attribute) (n : ℕ) (tag : Identifier) (i : ℕ) → marks.after [] (read_any ts aliases 0 (m + 1)) ≡ Ok (ys, n)
+      → tag_at ts aliases n ≡ Ok (tag, i) → is_attribute_sign (sign_at ts aliases (m + 1)) ≡ true
+      → after (item_shapes xs) (struct_at m) ≡ after (item_shapes xs) (structure_at ts aliases false m ys (Some tag) i)
+  struct_marked xs m ys n tag i h k a = ap (after (item_shapes xs)) (struct_marks m ys n h ∙ goes _ _ tag i k ∙ chosen _ _ _ a)
+
+  struct_plain : (m : ℕ) (ys : List Attribute) (n : ℕ) (tag : Identifier) (i : ℕ) → marks.after [] (read_any ts aliases 0 (m + 1)) ≡ Ok (ys, n)
+      → tag_at ts aliases n ≡ Ok (tag, i) → is_attribute_sign (sign_at ts aliases (m + 1)) ≡ false
+      → struct_at m
+      ≡ choose (sees ts (an_open_brace aliases) i) (structure_at ts aliases false m ys (Some tag) i)
+      (choose (sees ts (a_semicolon aliases) i) (Ok ([], i + 1)) (going_items ts (declared_of ts aliases bodies (structure tag) i) i))
+  struct_plain m ys n tag i h k a = struct_marks m ys n h ∙ goes _ _ tag i k ∙ other _ _ _ a
+
+  pub struct_bodied : (xs : List Item) (m : ℕ) (ys : List Attribute) (n : ℕ) (tag : Identifier) (i : ℕ) → marks.after [] (read_any ts aliases 0 (m + 1)) ≡ Ok (ys, n)
+      → tag_at ts aliases n ≡ Ok (tag, i) → is_attribute_sign (sign_at ts aliases (m + 1)) ≡ false → sign_at ts aliases i ≡ sign.OpenBrace
+      → after (item_shapes xs) (struct_at m) ≡ after (item_shapes xs) (structure_at ts aliases false m ys (Some tag) i)
+  struct_bodied xs m ys n tag i h k a e =
+      ap (after (item_shapes xs)) (struct_plain m ys n tag i h k a ∙ chosen _ _ _ (ap (λ s. nat_eq (mark s) 17) e))
+
+  pub struct_alone : (xs : List Item) (m : ℕ) (ys : List Attribute) (n : ℕ) (tag : Identifier) (i : ℕ) → marks.after [] (read_any ts aliases 0 (m + 1)) ≡ Ok (ys, n)
+      → tag_at ts aliases n ≡ Ok (tag, i) → is_attribute_sign (sign_at ts aliases (m + 1)) ≡ false → sign_at ts aliases i ≡ sign.Semicolon
+      → after (item_shapes xs) (struct_at m) ≡ Ok (item_shapes xs, i + 1)
+  struct_alone xs m ys n tag i h k a e =
+      goes _ _ [] (i + 1)
+      (struct_plain m ys n tag i h k a ∙ other _ _ _ (ap (λ s. nat_eq (mark s) 17) e) ∙ chosen _ _ _ (ap (λ s. nat_eq (mark s) 19) e))
+      ∙ ap (λ ys. Ok (ys, i + 1)) (append-nil (item_shapes xs))
+
+  pub struct_named : (xs : List Item) (m : ℕ) (ys : List Attribute) (n : ℕ) (tag : Identifier) (i : ℕ) → marks.after [] (read_any ts aliases 0 (m + 1)) ≡ Ok (ys, n)
+      → tag_at ts aliases n ≡ Ok (tag, i) → is_attribute_sign (sign_at ts aliases (m + 1)) ≡ false
+      → sign_at ts aliases i ≢ sign.OpenBrace → sign_at ts aliases i ≢ sign.Semicolon
+      → after (item_shapes xs) (struct_at m) ≡ after (item_shapes xs) (going_items ts (declared_of ts aliases bodies (structure tag) i) i)
+  struct_named xs m ys n tag i h k a b c =
+      ap (after (item_shapes xs))
+      (struct_plain m ys n tag i h k a ∙ other _ _ _ (not_open_brace (sign_at ts aliases i) b) ∙ other _ _ _ (not_semicolon (sign_at ts aliases i) c))
+
+  -- behind `enum`
+  abbrev enum_at : ℕ → Outcome (List UnitItem)
+  enum_at m = going_items ts (enumeration_row ts aliases bodies m) (m + 1)
+
+  abbrev of_enum : Identifier → ℕ → Outcome (List UnitItem)
+  of_enum tag n = going_items ts (declared_of ts aliases bodies (enumerated tag) n) n
+
+  abbrev enum_by : (m : ℕ) → Option Identifier → ℕ → Outcome (List UnitItem)
+  enum_by m = at_tag ts aliases (enumeration_at ts aliases false m) of_enum
+
+  enum_is : (m : ℕ) → enum_at m ≡ then (opening_at ts aliases (m + 1)) (enum_by m)
+  unfolding opening_at tag_at enumeration_at
+  enum_is m =
+      opening-law (sees ts (an_open_brace aliases) (m + 1)) (is_tag (sign_at ts aliases (m + 1))) (m + 1) (identifier_at ts (m + 1)) _ _ (enum_by m) refl refl
+
+  pub enum_unopened : (xs : List Item) (m : ℕ) (e : SyntaxRefusal) → Fails e (opening_at ts aliases (m + 1)) → Fails e (after (item_shapes xs) (enum_at m))
+  enum_unopened xs m e f = fails_then e _ _ (fails_same e _ _ (enum_is m) (fails_then e _ _ f))
+
+  pub enum_bodied : (xs : List Item) (m start : ℕ) (t : Option Name) (n : ℕ) → opening_at ts aliases (m + 1) ≡ Ok (option_map name_shape t, n)
+      → used_at ts aliases t n ≡ None → start ≡ m
+      → after (item_shapes xs) (enum_at m) ≡ after (item_shapes xs) (enumeration_at ts aliases false start (option_map name_shape t) n)
+  enum_bodied xs m start t n h e q =
+      ap (after (item_shapes xs)) (enum_is m ∙ goes _ _ (option_map name_shape t) n h ∙ at_body ts aliases (enumeration_at ts aliases false m) of_enum t n e)
+      ∙ ap (λ start. after (item_shapes xs) (enumeration_at ts aliases false start (option_map name_shape t) n)) (sym q)
+
+  pub enum_named : (xs : List Item) (m : ℕ) (t : Option Name) (x : Name) (n : ℕ) → opening_at ts aliases (m + 1) ≡ Ok (option_map name_shape t, n) → used_at ts aliases t n ≡ Some x
+      → after (item_shapes xs) (enum_at m) ≡ after (item_shapes xs) (going_items ts (declared_of ts aliases bodies (enumerated (name_shape x)) n) n)
+  enum_named xs m t x n h e = ap (after (item_shapes xs)) (enum_is m ∙ goes _ _ (option_map name_shape t) n h ∙ at_use ts aliases (enumeration_at ts aliases false m) of_enum t x n e)
 
 pub ruleset used = (used_none, used_tag)
 

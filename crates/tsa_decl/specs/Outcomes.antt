@@ -7,13 +7,13 @@ use Rattle.tsa_tree.specs.declared.sign.Sign.{Sign}
 use Rattle.tsa_tree.specs.declared.sign.Sign.TheVariants as sign
 use Rattle.tsa_tree.specs.Answers.{below_limit}
 use Rattle.tsa_tree.specs.Attributes.{Attribute}
-use Rattle.tsa_tree.specs.Declarations.{Base, int, unsigned, void, structure, enumerated, alias, Specified, Declarator, Declaration, Initialiser, value, Initialisers, no_more, one_more, Parameter, EnumConstant, StructBody}
+use Rattle.tsa_tree.specs.Declarations.{Base, int, unsigned, void, structure, enumerated, alias, Specified, Declarator, Declaration, Initialiser, value, Initialisers, no_more, one_more, Parameter, EnumConstant, StructBody, Head}
 use Rattle.tsa_tree.specs.UnitItems.{UnitItem}
 use Rattle.tsa_tree.specs.DeclarationSpelling.{Role, a_member, a_global}
 use Rattle.tsa_tree.specs.Expressions.{Identifier, Expression}
 use Rattle.tsa_tree.specs.ItemSpelling.{parameter, parameter_start}
 use Rattle.tsa_tree.specs.Reads.{read}
-use Rattle.tsa_tree.specs.Rows.{Sort, an_expression, a_skip, a_specifier, an_initialiser, some_initialisers, a_declared, a_variable, some_variables, a_struct_body, some_items, Node, Row, Kind, expression, consts, storage, specifier, initialiser, initialisers, declared_rest, variable, variables, struct_body, declared, a_keyword, a_name, an_open, a_comma, a_semicolon, an_open_bracket, a_close_bracket, an_open_brace, a_close_brace, an_equals, sees, behind_global, structure_end, structure_alias_end, enumeration_end, enumeration_alias_end, behind_storage}
+use Rattle.tsa_tree.specs.Rows.{Sort, an_expression, a_skip, a_specifier, an_initialiser, some_initialisers, a_declared, a_variable, some_variables, a_struct_body, some_items, Node, Row, Kind, expression, consts, storage, specifier, initialiser, initialisers, declared_rest, variable, variables, struct_body, declared, a_keyword, a_name, an_open, a_comma, a_semicolon, an_open_bracket, a_close_bracket, an_open_brace, a_close_brace, an_equals, sees, behind_global, structure_end, structure_alias_end, enumeration_end, enumeration_alias_end, behind_storage, function_end}
 use Rattle.tsa_tree.specs.Signs.{Aliases, sign_at, identifier_at, is_tag, is_storage, is_star}
 use Rattle.tsa_forms.specs.Form.{done, part}
 use Rattle.tsa_forms.specs.Reading.{Outcome, refuse, syntax, deep, then, choose, follow}
@@ -176,7 +176,12 @@ module _ (tokens : List Lexeme) (aliases : Aliases) where
   enumeration_at false start tag m = going_items tokens (enumeration_end tokens aliases start tag) m
 
   -- globals or a function that begin with storage words or a type
-  unfoldable pub other_item_at : (m : ℕ) → Outcome (List UnitItem)
-  other_item_at m =
+  unfoldable pub other_item_at : (bodies : Bool) (m : ℕ) → Outcome (List UnitItem)
+  other_item_at bodies m =
       going_items tokens
-      (behind_storage tokens aliases m (part a_specifier (specifier aliases) (λ t n. part some_items (declared aliases false t) (λ xs e. done xs)))) m
+      (behind_storage tokens aliases m (part a_specifier (specifier aliases) (λ t n. part some_items (declared aliases bodies t) (λ xs e. done xs)))) m
+
+  -- what is left of an item behind what was begun: nothing, or what stands behind a function's head
+  abbrev pub finished : (bodies : Bool) → List UnitItem × Option Head → (m : ℕ) → Outcome (List UnitItem)
+  finished bodies (xs, None) m = Ok (xs, m)
+  finished bodies (xs, Some head) m = after xs (going_items tokens (function_end tokens aliases bodies head m) m)

@@ -1,13 +1,16 @@
 -- What the readers' results are without the arena.
-use Rattle.std.specs.Prelude.{ℕ, ◌+◌, Bool, option_map}
+use Rattle.std.specs.Prelude.{ℕ, ◌+◌, List, Bool, option_map}
 use Rattle.std.specs.declared.option.Option.{Option}
 use Rattle.tsa_tree.specs.declared.expr.Name.{Name}
+use Rattle.tsa_tree.specs.declared.item.Item.{Item}
 use Rattle.tsa_tree.specs.Attributes.{attr_shapes}
-use Rattle.tsa_tree.specs.Declarations.{Base, Specified, Declarator, Declared, Declaration, Initialiser, Parameter, EnumConstant, Signature, StructBody}
+use Rattle.tsa_tree.specs.Declarations.{Base, Specified, Declarator, Declared, Declaration, Initialiser, Parameter, EnumConstant, Signature, StructBody, Head}
 use Rattle.tsa_tree.specs.DeclarationSpelling.{Role, a_member, a_global}
 use Rattle.tsa_tree.specs.Expressions.{Identifier, Expression}
-use Rattle.tsa_tree.specs.ItemShapes.{base_shape, init_shape, decl_shape, decl_shapes, param_shape, param_shapes, enumerator_shape}
+use Rattle.tsa_tree.specs.ItemShapes.{base_shape, init_shape, decl_shape, decl_shapes, param_shape, param_shapes, enumerator_shape, head_shape}
 use Rattle.tsa_tree.specs.Shapes.{name_shape, shape}
+use Rattle.tsa_tree.specs.UnitItems.{UnitItem}
+use Rattle.tsa_tree.specs.UnitShapes.{item_shapes}
 use Rattle.tsa_decl.specs.declared.bodies.Body.{Body}
 use Rattle.tsa_decl.specs.declared.bodies.Named.{Named}
 use Rattle.tsa_decl.specs.declared.bodies.Opening.{Opening}
@@ -22,6 +25,7 @@ use Rattle.tsa_decl.specs.declared.declared.Declared as read_declared
 use Rattle.tsa_decl.specs.declared.heads.Parameter as read_parameter
 use Rattle.tsa_decl.specs.declared.heads.Signature as read_signature
 use Rattle.tsa_decl.specs.declared.initialisers.Valued.{Valued}
+use Rattle.tsa_decl.specs.declared.items.Begun.{Begun}
 use Rattle.tsa_decl.specs.declared.locals.Local.{Local}
 use Rattle.tsa_decl.specs.declared.types.Specified as read_specified
 use Rattle.tsa_decl.specs.declared.types.Based.{Based}
@@ -98,3 +102,7 @@ seen_named r = (option_map name_shape r.name, r.next)
 
 abbrev pub seen_opening : Opening → Option Identifier × ℕ
 seen_opening r = (option_map name_shape r.tag, r.next)
+
+-- what was begun of an item: the items that stand in the list, and the head of a function
+abbrev pub seen_begun : List Item → Begun → (List UnitItem × Option Head) × ℕ
+seen_begun items r = ((item_shapes items, option_map head_shape r.head), r.next)

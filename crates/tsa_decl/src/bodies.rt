@@ -2,7 +2,7 @@
 ghost use Rattle.std.specs.Prelude.{◌≡◌, ◌+◌, ◌≤◌, ◌<◌, length, option_map, IfOk};
 ghost use Rattle.tsa_base.specs.declared.limits.TheConstants.{INPUT_LIMIT};
 ghost use Rattle.tsa_tree.specs.Attributes.{attr_shapes};
-ghost use Rattle.tsa_tree.specs.UnitShapes.{item_shapes};
+ghost use Rattle.tsa_tree.specs.UnitShapes.{item_shapes, HaveTheirPoints};
 ghost use Rattle.tsa_tree.specs.Rows.{alias_end};
 ghost use Rattle.tsa_tree.specs.Shapes.{name_shape};
 ghost use Rattle.tsa_tree.specs.Signs.{lexemes};
@@ -151,6 +151,7 @@ pub fn structure<'a>(
     requires within { opening.next ≤ length tokens.now }
     requires begun { opening.start < opening.next }
     ensures gives { Gives (λ next. (item_shapes list.new.items, next)) result (after (item_shapes list.old.items) (structure_at (lexemes tokens.now) (known aliases.entry) aliased opening.entry.start (attr_shapes attrs.entry.items) (option_map name_shape opening.entry.tag) opening.entry.next)) }
+    ensures pointed { IfOk result (λ next. HaveTheirPoints list.old.items → HaveTheirPoints list.new.items) }
     ensures ends { IfOk result (λ next. (opening.entry.next < next) × (next ≤ length tokens.now)) }
 {
     let body = struct_body(bump, tokens, opening.next, aliases, attrs)?;
@@ -182,6 +183,7 @@ pub fn enumeration<'a>(
     requires within { opening.next ≤ length tokens.now }
     requires begun { opening.start < opening.next }
     ensures gives { Gives (λ next. (item_shapes list.new.items, next)) result (after (item_shapes list.old.items) (enumeration_at (lexemes tokens.now) (known aliases.entry) aliased opening.entry.start (option_map name_shape opening.entry.tag) opening.entry.next)) }
+    ensures pointed { IfOk result (λ next. HaveTheirPoints list.old.items → HaveTheirPoints list.new.items) }
     ensures ends { IfOk result (λ next. (opening.entry.next < next) × (next ≤ length tokens.now)) }
 {
     let (values, behind) = enum_body(bump, tokens, opening.next, aliases)?;
@@ -210,6 +212,7 @@ pub fn plain_alias<'a>(
     requires room { length tokens.now ≤ INPUT_LIMIT }
     requires within { specified.next ≤ length tokens.now }
     ensures gives { Gives (λ next. (item_shapes list.new.items, next)) result (after (item_shapes list.old.items) (going_items (lexemes tokens.now) (alias_end (lexemes tokens.now) (known aliases.entry) (row_type specified.entry) specified.entry.next) specified.entry.next)) }
+    ensures pointed { IfOk result (λ next. HaveTheirPoints list.old.items → HaveTheirPoints list.new.items) }
     ensures ends { IfOk result (λ next. (specified.entry.next < next) × (next ≤ length tokens.now)) }
 {
     let of = declarator_at(bump, tokens, specified.next, aliases)?;

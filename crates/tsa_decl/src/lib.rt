@@ -15,9 +15,11 @@ mod read;
 mod types;
 mod view;
 
+pub use items::{Begun, begin_item};
 pub use locals::read_locals;
+pub use nodes::{keep, listed};
 pub use read::{read_declaration, read_head, read_local};
-pub use view::{name, open, semicolon};
+pub use view::{is_close_brace_at, name, open, open_brace, semicolon};
 
 #[cfg(test)]
 mod item_tests;

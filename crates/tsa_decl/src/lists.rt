@@ -3,7 +3,7 @@ ghost use Rattle.std.specs.Prelude.{◌≡◌, ◌+◌, ◌≤◌, ◌<◌, leng
 ghost use Rattle.tsa_base.specs.declared.limits.TheConstants.{INPUT_LIMIT};
 ghost use Rattle.tsa_tree.specs.DeclarationSpelling.{a_member};
 ghost use Rattle.tsa_tree.specs.ItemShapes.{decl_shapes};
-ghost use Rattle.tsa_tree.specs.UnitShapes.{item_shapes};
+ghost use Rattle.tsa_tree.specs.UnitShapes.{item_shapes, HaveTheirPoints};
 ghost use Rattle.tsa_tree.specs.Reads.{read};
 ghost use Rattle.tsa_tree.specs.Rows.{some_declarations, declarators as declarators_call, member_line as line_call, members as members_call};
 ghost use Rattle.tsa_tree.specs.Signs.{lexemes};
@@ -104,6 +104,7 @@ pub fn globals<'a>(
     requires within { first.next ≤ count tokens.now }
     requires begun { first.start < first.next }
     ensures gives { Gives (λ next. (item_shapes list.new.items, next)) result (after (item_shapes list.old.items) (globals_at (lexemes tokens.now) (known aliases.entry) (row_type specified.entry) (row_declarator first.entry) first.entry.next)) }
+    ensures pointed { IfOk result (λ next. HaveTheirPoints list.old.items → HaveTheirPoints list.new.items) }
     ensures ends { IfOk result (λ next. (first.entry.next < next) × (next ≤ count tokens.now)) }
 {
     let mut of = first;

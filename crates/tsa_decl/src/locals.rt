@@ -96,6 +96,7 @@ fn variables<'a>(
     requires within { specified.next ≤ count tokens.now }
     requires shallow { depth ≤ NESTING_LIMIT }
     ensures gives { Gives (λ next. (decl_shapes list.new.items, next)) result (after (decl_shapes list.old.items) (variables_at (lexemes tokens.now) (known aliases.entry) single depth (row_type specified.entry) specified.entry.next)) }
+    ensures few { IfOk result (λ next. count list.new.items + specified.entry.next ≤ count list.old.items + next) }
     ensures ends { IfOk result (λ next. (specified.entry.next < next) × (next ≤ count tokens.now)) }
 {
     let mut next = specified.next;
@@ -127,6 +128,7 @@ pub fn read_locals<'a>(
     requires within { at ≤ count tokens.now }
     requires shallow { depth ≤ NESTING_LIMIT }
     ensures gives { Gives (λ found. (decl_shapes found.0.now, found.1)) result (read (lexemes tokens.now) some_declarations (locals_call (known aliases.entry) single depth) at) }
+    ensures few { IfOk result (λ found. count found.0.now + at ≤ found.1) }
     ensures ends { IfOk result (λ found. (at < found.1) × (found.1 ≤ count tokens.now)) }
 {
     let specified = specifier(bump, tokens, at, aliases)?;

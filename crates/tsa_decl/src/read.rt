@@ -1,5 +1,6 @@
 //! Items without a body, heads of functions and locals, as the parts of a unit ask for them.
-ghost use Rattle.std.specs.Prelude.{◌≡◌, ◌≤◌, ◌<◌, ℕ, length, [], None, IfOk, IsErrOf, false};
+ghost use Rattle.std.specs.Prelude.{◌≡◌, ◌≤◌, ◌<◌, ℕ, length, [], None, option_map, IfOk, IsErrOf, false};
+ghost use Rattle.std.specs.Option.{ForSome};
 ghost use Rattle.tsa_base.specs.declared.limits.TheConstants.{INPUT_LIMIT, NESTING_LIMIT};
 ghost use Rattle.tsa_tree.specs.AttributeRefusals as reason;
 ghost use Rattle.tsa_tree.specs.DeclarationAnswers.{an_item, a_head_alone, some_locals, IsLongest, IsBroken, IsRefused, IsTooDeep};
@@ -9,12 +10,15 @@ ghost use Rattle.tsa_tree.specs.Signs.{lexemes};
 ghost use Rattle.tsa_tree.specs.Reads.{read};
 ghost use Rattle.tsa_tree.specs.Rows.{some_items, item as item_call};
 ghost use Rattle.tsa_expr.specs.Gives.{Gives};
+ghost use Rattle.tsa_expr.specs.Known.{known};
 ghost use Rattle.tsa_attr.specs.Outcomes.{IsOfAttributes};
+ghost use Rattle.tsa_decl.specs.Outcomes.{finished};
 
 use crate::heads::head;
-use crate::items::item;
+use crate::items::{Begun, begin_item};
 use crate::locals::read_locals;
-use crate::nodes::listed;
+use crate::nodes::{keep, listed};
+use crate::view::semicolon;
 use bumpalo::Bump;
 use tsa_base::Token;
 use tsa_expr::{Aliases, SyntaxCode, SyntaxRefusal};
@@ -58,9 +62,32 @@ fn read_items<'a>(
     ensures ends { IfOk result (λ found. (at < found.1) × (found.1 ≤ length tokens.now)) }
 {
     let mut list = Vec::new(bump);
-    let next = item(bump, tokens, at, Some(aliases), &mut list)?;
+    let begun = begin_item(bump, tokens, at, Some(aliases), &mut list)?;
+    let next = finish(tokens, Some(aliases), begun, &mut list)?;
     let items = listed(list);
     Ok((items, next))
+}
+
+/// The end of an item without a body: a function ends with its `;`, and is then at the end of the list.
+#[tactic(auto, using(crate::proofs::BegunLaws::finishes))]
+fn finish<'a>(
+    tokens: &[Token<'_>],
+    aliases: Option<&Aliases>,
+    begun: Begun<'a>,
+    list: &mut Vec<Item<'a>, &'a Bump>,
+) -> Result<u32, SyntaxRefusal>
+    requires room { length tokens.now ≤ INPUT_LIMIT }
+    requires within { begun.next ≤ length tokens.now }
+    requires bodiless { ForSome begun.head (λ head. head.body ≡ None) }
+    ensures gives { Gives (λ next. (item_shapes list.new.items, next)) result (finished (lexemes tokens.now) (known aliases.entry) false (item_shapes list.old.items, option_map head_shape begun.entry.head) begun.entry.next) }
+    ensures ends { IfOk result (λ next. (begun.entry.next ≤ next) × (next ≤ length tokens.now)) }
+{
+    let Some(head) = begun.head else {
+        return Ok(begun.next);
+    };
+    let next = semicolon(tokens, begun.next, aliases)?;
+    keep(list, Item::Function(head))?;
+    Ok(next)
 }
 
 /// The head of the function that begins at a token, up to before its `;` or block, and that token; refused as

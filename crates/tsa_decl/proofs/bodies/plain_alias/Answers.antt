@@ -1,6 +1,7 @@
 use Rattle.std.proofs.Common.{◌∙◌, sym, ap, refl, Ok}
 use Rattle.tsa_tree.specs.ItemShapes.{base_shape}
 use Rattle.tsa_tree.specs.UnitShapes.{item_shapes}
+use Rattle.tsa_decl.proofs.BegunLaws.{more_pointed}
 use Rattle.tsa_decl.proofs.BodyLaws.{gives_failed, plain_nameless, plain_endless, plain_goes}
 use Rattle.tsa_decl.proofs.bodies.plain_alias.Goals as goal
 
@@ -19,3 +20,6 @@ returns-clause-gives c =
     plain_goes _ _ c.args.list.now.items (base_shape c.args.specified.base) c.args.specified.is_const c.args.specified.next _ _ _ _ c.ctype.result c.span_over-span.result
     c.in_ok-of.ensures.gives c.in_ok-next.ensures.gives c.in_ok-next.ensures.ends.0 c.span_over-span.ensures c.ctype.ensures refl
     ∙ ap (λ l. Ok (item_shapes l, c.in_ok-next.next)) (sym c.in_ok-keep.ensures.gives)
+
+pub returns-clause-pointed : goal.returns-clause-pointed
+returns-clause-pointed c = more_pointed _ _ _ c.in_ok-keep.ensures.gives tt

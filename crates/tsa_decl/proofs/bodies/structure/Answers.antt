@@ -1,5 +1,6 @@
 use Rattle.std.proofs.Common.{◌∙◌, sym, ap, refl, Ok}
 use Rattle.tsa_tree.specs.UnitShapes.{item_shapes}
+use Rattle.tsa_decl.proofs.BegunLaws.{more_pointed}
 use Rattle.tsa_decl.proofs.BodyLaws.{structure_goes}
 use Rattle.tsa_decl.proofs.bodies.structure.Goals as goal
 
@@ -8,3 +9,6 @@ returns-clause-gives c =
     structure_goes _ _ _ _ _ _ _ _ _ _ _ _ _ _ c.span_over-span.result c.in_ok-body.ensures.gives c.in_ok-alias.ensures.gives c.in_ok-next.ensures.gives
     c.in_ok-next.ensures.ends.0 c.span_over-span.ensures refl
     ∙ ap (λ l. Ok (item_shapes l, c.in_ok-next.next)) (sym c.in_ok-keep.ensures.gives)
+
+pub returns-clause-pointed : goal.returns-clause-pointed
+returns-clause-pointed c = more_pointed _ _ _ c.in_ok-keep.ensures.gives tt

@@ -1,5 +1,5 @@
 use Rattle.std.proofs.Common.{◌≡◌, ◌≤◌, ◌<◌, length, ◌-◌}
-use Rattle.tsa_tree.specs.UnitShapes.{item_shapes}
+use Rattle.tsa_tree.specs.UnitShapes.{item_shapes, HaveTheirPoints}
 use Rattle.tsa_tree.specs.Signs.{lexemes}
 use Rattle.tsa_expr.specs.Known.{known}
 use Rattle.tsa_decl.specs.Outcomes.{after, globals_at}
@@ -11,6 +11,7 @@ invariant-globals l =
     (l.first.next ≤ l.of.next) × (l.of.next ≤ length l.tokens) × (l.of.start < l.of.next)
     × (after (item_shapes l.fn.list.items) (globals_at (lexemes l.tokens) (known l.aliases) (row_type l.specified) (row_declarator l.first) l.first.next)
     ≡ after (item_shapes l.list.items) (globals_at (lexemes l.tokens) (known l.aliases) (row_type l.specified) (row_declarator l.of) l.of.next))
+    × (HaveTheirPoints l.fn.list.items → HaveTheirPoints l.list.items)
 
 abbrev pub decreases-globals : goal.decreases-globals
 decreases-globals l = length l.tokens - l.of.next
