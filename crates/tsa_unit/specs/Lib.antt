@@ -1,3 +1,9 @@
 pub mod Outcomes
 pub mod Seen
 pub mod Pointed
+pub mod Parsing
+pub mod Heads
+pub mod Openings
+pub mod Names
+pub mod Functions
+pub mod Items

@@ -1,9 +1,17 @@
 -- What the readers' results are without the arena.
-use Rattle.std.specs.Prelude.{ℕ}
+use Rattle.std.specs.Prelude.{ℕ, option_map, Some, None}
+use Rattle.std.specs.Borrow.{Bor}
+use Rattle.std.specs.declared.option.Option.{Option}
 use Rattle.tsa_base.specs.declared.token.Span.{Span}
 use Rattle.tsa_tree.specs.Shapes.{shape}
-use Rattle.tsa_tree.specs.StatementShapes.{stmt_shape}
-use Rattle.tsa_tree.specs.Statements.{Simple, evaluation, assignment, Statement}
+use Rattle.tsa_tree.specs.StatementShapes.{stmt_shape, init_of, step_of}
+use Rattle.tsa_tree.specs.declared.stmt.Stmt.{Stmt}
+use Rattle.tsa_tree.specs.Statements.{Simple, evaluation, assignment, ForInit, no_init, Statement}
+use Rattle.tsa_tree.specs.Expressions.{Expression}
+use Rattle.tsa_unit.specs.declared.conditions.Tested.{Tested}
+use Rattle.tsa_unit.specs.declared.conditions.Value.{Value}
+use Rattle.tsa_unit.specs.declared.parts.Body.{Body}
+use Rattle.tsa_unit.specs.declared.parts.Part.{Part}
 use Rattle.tsa_unit.specs.declared.points.Read.{Read}
 use Rattle.tsa_unit.specs.declared.simple.Simple as read_simple
 use Rattle.tsa_unit.specs.declared.simple.SimpleKind.{SimpleKind}
@@ -21,3 +29,27 @@ seen_simple r = (simple_shape r, r.next)
 
 abbrev pub seen_statement : Read → Statement × ℕ
 seen_statement r = (stmt_shape r.stmt.kind r.stmt.span, r.next)
+
+abbrev pub seen_tested : Tested → Expression × ℕ
+seen_tested r = (shape r.tree.now, r.next)
+
+abbrev pub seen_value : Value → Option Expression × ℕ
+seen_value r = (option_map shape r.tree, r.next)
+
+abbrev pub seen_body : Body → Statement × ℕ
+seen_body r = (stmt_shape r.stmt.now.kind r.stmt.now.span, r.next)
+
+-- a part of a `for`, as the first one and as the third one
+abbrev pub init_seen : Option (Bor Stmt) → ForInit
+init_seen None = no_init
+init_seen (Some s) = init_of s.now.kind s.now.span
+
+abbrev pub step_seen : Option (Bor Stmt) → Option Simple
+step_seen None = None
+step_seen (Some s) = step_of s.now.kind s.now.span
+
+abbrev pub seen_init : Part → ForInit × ℕ
+seen_init r = (init_seen r.stmt, r.next)
+
+abbrev pub seen_step : Part → Option Simple × ℕ
+seen_step r = (step_seen r.stmt, r.next)

@@ -29,7 +29,7 @@ pub struct Deed<'a> {
 }
 
 /// The statement that a simple one is, and what is done there.
-fn done_at<'a>(bump: &'a Bump, simple: SimpleKind<'a>) -> Result<Deed<'a>, SyntaxRefusal>
+pub fn done_at<'a>(bump: &'a Bump, simple: SimpleKind<'a>) -> Result<Deed<'a>, SyntaxRefusal>
     ensures is { IfOk result (λ deed. (span : span_type) → stmt_shape deed.kind span ≡ simple_statement_of (kind_shape simple.entry span)) }
     ensures single { IfOk result (λ deed. (span : span_type) → IsAlone deed.kind deed.action span) }
     ensures memory { OnErr result (result ≡ Err SyntaxRefusal.NoMemory) }
@@ -73,6 +73,7 @@ pub fn simple_statement<'a>(
     requires few { length points.now.items ≤ at }
     ensures gives { Gives seen_statement result (simple_statement_at (lexemes tokens.now) (known aliases.entry) depth at) }
     ensures pointed { IfOk result (λ r. IsPointed points.old.items points.new.items r.stmt) }
+    ensures few { IfOk result (λ r. length points.new.items ≤ r.next) }
     ensures ends { IfOk result (λ r. (at < r.next) × (r.next ≤ length tokens.now)) }
 {
     let simple = read_simple(bump, tokens, at, depth, aliases)?;
@@ -98,6 +99,7 @@ fn closed<'a>(
     requires few { length points.now.items ≤ start }
     ensures gives { Gives seen_statement result (closed_at (lexemes tokens.now) (known aliases.entry) (stmt_shape deed.entry.kind) start at) }
     ensures pointed { IfOk result (λ r. IsPointed points.old.items points.new.items r.stmt) }
+    ensures few { IfOk result (λ r. length points.new.items ≤ r.next) }
     ensures ends { IfOk result (λ r. (at < r.next) × (r.next ≤ length tokens.now)) }
 {
     let next = semicolon(tokens, at, aliases)?;
@@ -117,6 +119,7 @@ pub fn empty<'a>(
     requires few { length points.now.items ≤ at }
     ensures gives { Gives seen_statement result (closed_at (lexemes tokens.now) (known aliases.entry) nothing_done at at) }
     ensures pointed { IfOk result (λ r. IsPointed points.old.items points.new.items r.stmt) }
+    ensures few { IfOk result (λ r. length points.new.items ≤ r.next) }
     ensures ends { IfOk result (λ r. (at < r.next) × (r.next ≤ length tokens.now)) }
 {
     let deed = Deed {
@@ -140,6 +143,7 @@ pub fn jump<'a>(
     requires few { length points.now.items ≤ start }
     ensures gives { Gives seen_statement result (closed_at (lexemes tokens.now) (known aliases.entry) (stmt_shape kind.entry) start (start + 1)) }
     ensures pointed { IfOk result (λ r. IsPointed points.old.items points.new.items r.stmt) }
+    ensures few { IfOk result (λ r. length points.new.items ≤ r.next) }
     ensures ends { IfOk result (λ r. (start < r.next) × (r.next ≤ length tokens.now)) }
 {
     let deed = Deed {
@@ -163,6 +167,7 @@ pub fn goto<'a>(
     requires few { length points.now.items ≤ start }
     ensures gives { Gives seen_statement result (goto_at (lexemes tokens.now) (known aliases.entry) start) }
     ensures pointed { IfOk result (λ r. IsPointed points.old.items points.new.items r.stmt) }
+    ensures few { IfOk result (λ r. length points.new.items ≤ r.next) }
     ensures ends { IfOk result (λ r. (start < r.next) × (r.next ≤ length tokens.now)) }
 {
     let label = name(bump, tokens, start + 1, aliases)?;
@@ -189,6 +194,7 @@ pub fn return_statement<'a>(
     requires few { length points.now.items ≤ start }
     ensures gives { Gives seen_statement result (return_at (lexemes tokens.now) (known aliases.entry) depth start) }
     ensures pointed { IfOk result (λ r. IsPointed points.old.items points.new.items r.stmt) }
+    ensures few { IfOk result (λ r. length points.new.items ≤ r.next) }
     ensures ends { IfOk result (λ r. (start < r.next) × (r.next ≤ length tokens.now)) }
 {
     if let Sign::Semicolon = sign_at(tokens, start + 1, aliases) {

@@ -9,5 +9,6 @@ returns c = record {
       return_answers _ _ _ _ _ _ _ (subst (λ s. s ≢ sign.Semicolon) c.sign_at.ensures.is c.in_default.not-Semicolon) c.in_ok-value.ensures.gives
       c.closed-2.ensures.gives;
   pointed = search rules;
+  few = search rules;
   ends = search rules;
 }
