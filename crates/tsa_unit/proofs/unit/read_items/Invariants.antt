@@ -1,0 +1,14 @@
+use Rattle.std.proofs.Common.{◌≡◌, ◌≤◌, length, ◌-◌}
+use Rattle.tsa_tree.specs.Signs.{lexemes}
+use Rattle.tsa_tree.specs.UnitAnswers.{read_unit}
+use Rattle.tsa_tree.specs.UnitShapes.{HaveTheirPoints}
+use Rattle.tsa_unit.specs.Items.{on_from}
+use Rattle.tsa_unit.proofs.unit.read_items.Given as goal
+
+abbrev pub invariant-items : goal.invariant-items
+invariant-items l =
+    (l.next ≤ length l.tokens) × HaveTheirPoints l.list.items
+    × (read_unit (lexemes l.tokens) ≡ on_from (lexemes l.tokens) l.list.items l.aliases l.next)
+
+abbrev pub decreases-items : goal.decreases-items
+decreases-items l = length l.tokens - l.next

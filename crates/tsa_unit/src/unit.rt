@@ -1,0 +1,136 @@
+//! A whole unit is read (C11 6.9).
+ghost use Rattle.std.specs.Prelude.{◌≡◌, ◌≤◌, ◌<◌, ℕ, None, length, IfOk, IsErrOf};
+ghost use Rattle.tsa_base.specs.declared.limits.TheConstants.{INPUT_LIMIT};
+ghost use Rattle.tsa_base.specs.declared.token.Span.{Span as span_type};
+ghost use Rattle.tsa_tree.specs.AttributeRefusals as reason;
+ghost use Rattle.tsa_tree.specs.Signs.{lexemes};
+ghost use Rattle.tsa_tree.specs.UnitAnswers.{read_unit};
+ghost use Rattle.tsa_tree.specs.UnitLimits.{past_functions, past_points};
+ghost use Rattle.tsa_tree.specs.UnitShapes.{item_shapes, HaveTheirPoints};
+ghost use Rattle.tsa_tree.specs.WellRead.{IsWellRead};
+ghost use Rattle.tsa_expr.specs.Gives.{Gives, Leads};
+ghost use Rattle.tsa_unit.specs.Outcomes.{AreNear};
+ghost use Rattle.tsa_unit.specs.Items.{passed, on_from};
+ghost use Rattle.tsa_unit.specs.Parsing.{IsParsed, IsLongest, IsBroken, IsRefused, IsTooDeep, HasTooManyFunctions, HasTooManyPoints, IsOfUnits, IsTold};
+
+use crate::items::item;
+use crate::limits::within_limits;
+use crate::names::learn_from;
+use bumpalo::Bump;
+use bumpalo::collections::into_bump_slice;
+use std::alloc::Global;
+use tsa_base::Token;
+use tsa_expr::{Aliases, SyntaxCode, SyntaxRefusal};
+use tsa_tree::Parsed;
+use tsa_tree::item::{Item, UnitTree};
+
+/// The unit that the tokens spell, kept in the arena; each token begins inside a text of a size that is taken. A name of a
+/// type is known from the item behind its own one on. Of the tokens the longest list of first ones that begins a unit
+/// decides: SY1 stands at the token after it where it is no unit; AT1, AT2 and LM2 stand at the first such token in it, or
+/// at the one after it. Where all the tokens spell a unit, LM5 stands at the name of the 1025th function, and else LM3 at
+/// that of the first function of more than 4096 points (C11 6.9).
+pub fn parse<'a>(
+    alloc: Global,
+    bump: &'a Bump,
+    tokens: &[Token<'_>],
+) -> Result<Parsed<'a>, SyntaxRefusal>
+    requires room { length tokens.now ≤ INPUT_LIMIT }
+    requires near { AreNear (lexemes tokens.now) }
+    ensures gives { IsParsed result (lexemes tokens.now) }
+    ensures well_read { IfOk result (λ parsed. IsWellRead parsed.unit.now.items.now) }
+
+    // The unit.
+    ensures found { IfOk result (λ parsed. IsLongest (lexemes tokens.now) (item_shapes parsed.unit.now.items.now) (length tokens.now)) }
+    ensures points { IfOk result (λ parsed. HaveTheirPoints parsed.unit.now.items.now) }
+    ensures few { IfOk result (λ parsed. (past_functions (item_shapes parsed.unit.now.items.now) ≡ None) × (past_points (item_shapes parsed.unit.now.items.now) ≡ None)) }
+
+    // A token is refused.
+    ensures broken { (token : ℕ) → IsErrOf result (SyntaxRefusal.At SyntaxCode.SY1 token) → IsBroken (lexemes tokens.now) token }
+    ensures left_out { (token : ℕ) → IsErrOf result (SyntaxRefusal.At SyntaxCode.AT1 token) → IsRefused (lexemes tokens.now) reason.left_out token }
+    ensures lacking { (token : ℕ) → IsErrOf result (SyntaxRefusal.At SyntaxCode.AT2 token) → IsRefused (lexemes tokens.now) reason.lacking token }
+    ensures too_deep { (token : ℕ) → IsErrOf result (SyntaxRefusal.At SyntaxCode.LM2 token) → IsTooDeep (lexemes tokens.now) token }
+
+    // A function is refused.
+    ensures too_many { (span : span_type) → IsErrOf result (SyntaxRefusal.Function SyntaxCode.LM5 span) → HasTooManyFunctions (lexemes tokens.now) span }
+    ensures too_long { (span : span_type) → IsErrOf result (SyntaxRefusal.Function SyntaxCode.LM3 span) → HasTooManyPoints (lexemes tokens.now) span }
+    ensures no_other { (refusal : _) → IsErrOf result refusal → IsOfUnits refusal }
+{
+    read_parsed(alloc, bump, tokens)
+}
+
+/// The unit that the rows give.
+#[tactic(auto, using(crate::proofs::ParsedLaws::kept))]
+fn read_parsed<'a>(
+    alloc: Global,
+    bump: &'a Bump,
+    tokens: &[Token<'_>],
+) -> Result<Parsed<'a>, SyntaxRefusal>
+    requires room { length tokens.now ≤ INPUT_LIMIT }
+    requires near { AreNear (lexemes tokens.now) }
+    ensures told { IsTold (λ parsed. item_shapes parsed.unit.now.items.now) result (lexemes tokens.now) }
+    ensures points { IfOk result (λ parsed. HaveTheirPoints parsed.unit.now.items.now) }
+{
+    let items = within(alloc, bump, tokens)?;
+    let unit: &'a UnitTree<'a> = bump.try_alloc(UnitTree { items })?;
+    Ok(Parsed::new(unit))
+}
+
+/// The items, where they are within the limits of a unit.
+fn within<'a>(
+    alloc: Global,
+    bump: &'a Bump,
+    tokens: &[Token<'_>],
+) -> Result<&'a [Item<'a>], SyntaxRefusal>
+    requires room { length tokens.now ≤ INPUT_LIMIT }
+    requires near { AreNear (lexemes tokens.now) }
+    ensures told { IsTold (λ items. item_shapes items.now) result (lexemes tokens.now) }
+    ensures points { IfOk result (λ items. HaveTheirPoints items.now) }
+{
+    let list = read_items(alloc, bump, tokens)?;
+    let items = into_bump_slice(list);
+    within_limits(items)?;
+    Ok(items)
+}
+
+/// The items one behind another, up to the last token.
+#[tactic(auto, using(crate::proofs::UnitLaws::whole))]
+fn read_items<'a>(
+    alloc: Global,
+    bump: &'a Bump,
+    tokens: &[Token<'_>],
+) -> Result<Vec<Item<'a>, &'a Bump>, SyntaxRefusal>
+    requires room { length tokens.now ≤ INPUT_LIMIT }
+    requires near { AreNear (lexemes tokens.now) }
+    ensures gives { Gives (λ list. (item_shapes list.items, length tokens.now)) result (read_unit (lexemes tokens.now)) }
+    ensures points { IfOk result (λ list. HaveTheirPoints list.items) }
+{
+    let mut aliases = Aliases::new(alloc);
+    let mut list = Vec::new(bump);
+    let mut next = 0;
+    'items: while (next as usize) < tokens.len() {
+        next = next_item(bump, tokens, next, &mut aliases, &mut list)?;
+    }
+    Ok(list)
+}
+
+/// One item, and the names of types that it gives are known behind it.
+#[tactic(auto, using(crate::proofs::UnitLaws::steps))]
+fn next_item<'a>(
+    bump: &'a Bump,
+    tokens: &[Token<'_>],
+    at: u32,
+    aliases: &mut Aliases,
+    list: &mut Vec<Item<'a>, &'a Bump>,
+) -> Result<u32, SyntaxRefusal>
+    requires room { length tokens.now ≤ INPUT_LIMIT }
+    requires near { AreNear (lexemes tokens.now) }
+    requires within { at < length tokens.now }
+    ensures leads { Leads passed result (on_from (lexemes tokens.now) list.old.items aliases.old at) (λ u next. on_from (lexemes tokens.now) list.new.items aliases.new next) }
+    ensures pointed { IfOk result (λ next. HaveTheirPoints list.old.items → HaveTheirPoints list.new.items) }
+    ensures ends { IfOk result (λ next. (at < next) × (next ≤ length tokens.now)) }
+{
+    let before = list.len();
+    let next = item(bump, tokens, at, Some(&*aliases), list)?;
+    learn_from(aliases, list, before)?;
+    Ok(next)
+}
