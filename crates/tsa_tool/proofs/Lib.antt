@@ -1,13 +1,6 @@
-pub mod Lists
 pub mod Rows
 pub mod Points
 pub mod Judged
-pub mod Marks
-pub mod MoreMarks
-pub mod SpelledItems
-pub mod ReadItems
-pub mod Braces
-pub mod Spelled
 pub mod PathLists
 pub mod Places
 pub mod Scopes
@@ -20,4 +13,11 @@ pub mod NamedLemmas
 pub mod WarningLemmas
 pub mod WarningLaw
 pub mod Onces
+pub mod Thins
+pub mod Ahead
+pub mod AheadItems
+pub mod SeenTrees
+pub mod FormedTrees
+pub mod FormedItems
 pub mod ThinLaw
+pub mod CheckExamples

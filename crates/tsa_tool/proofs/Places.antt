@@ -4,7 +4,7 @@ use Rattle.std.specs.List.{position, position_from}
 use Rattle.std.specs.Map.{update}
 use Rattle.std.proofs.lemmas.Iterator.Adapters.{position_from-zero}
 use Rattle.std.proofs.lemmas.Slice.Eq.{bytes_eq-Decides}
-use Rattle.tsa_tree.specs.Items.{Item}
+use Rattle.tsa_tool.specs.Items.{Item}
 
 module _ {X : Type 0} (p : X → Bool) (x : X) where
   other_behind : (i : ℕ) (ys : List X) (b : Bool) → position_from p (i + 1) (ys ++ x ∷ []) ≡ position_from p (i + 1) ys → cond b (Some i) (position_from p (i + 1) (ys ++ x ∷ [])) ≡ cond b (Some i) (position_from p (i + 1) ys)

@@ -3,7 +3,7 @@ use Rattle.std.proofs.Common.{◌≡◌, ℕ, Bool, true, false, ◌&&◌, not, 
 use Rattle.std.specs.Map.{update}
 use Rattle.tsa_base.specs.declared.token.Span.{Span}
 use Rattle.tsa_base.specs.Spans.{span_text}
-use Rattle.tsa_tree.specs.Items.{Item, number}
+use Rattle.tsa_tool.specs.Items.{Item, number}
 use Rattle.tsa_tool.specs.declared.scope.Scope.{Scope}
 use Rattle.tsa_tool.specs.Names.{has_tag, has_name, has_struct, is_new, named, struct_named, head_fits}
 use Rattle.tsa_tool.specs.Scopes.{place_in, Knows}

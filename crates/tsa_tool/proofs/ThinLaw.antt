@@ -1,22 +1,32 @@
--- What is warned of is a thin unit, and each thin unit is.
-use Rattle.std.proofs.Common.{◌≡◌, ◌⊎◌, inl, inr, Bool, true, false, ◌&&◌, List, [], ◌∷◌, ◌++◌, Option, Some, None, Result, Ok, Err, refl, sym, subst, ap, ◌∙◌, append_assoc, ℕ}
+-- What is warned of is a thin unit, and each thin unit is. All others are refused.
+use Rattle.std.proofs.Common.{◌≡◌, Bool, true, false, List, [], ◌∷◌, ◌++◌, Option, Some, None, Result, Ok, Err, refl, sym, subst, ap, ◌∙◌, append_assoc, ℕ}
 use Rattle.std.proofs.lemmas.List.{append-nil}
 use Rattle.tsa_base.specs.Tokens.{BadByte, Lexeme, tokens_of}
-use Rattle.tsa_tree.specs.Items.{Item}
+use Rattle.tsa_tree.specs.Expressions.{Identifier}
+use Rattle.tsa_tree.specs.UnitAnswers.{read_unit}
+use Rattle.tsa_tree.specs.UnitItems.{UnitItem}
+use Rattle.tsa_tree.specs.UnitLimits.{past_functions, past_points}
+use Rattle.tsa_forms.specs.Reading.{Outcome}
+use Rattle.tsa_expr.specs.declared.refusal.SyntaxRefusal.{SyntaxRefusal}
+use Rattle.tsa_expr.specs.declared.refusal.SyntaxRefusal.TheVariants.{At, Function, NoMemory}
+use Rattle.tsa_unit.specs.Parsing.{within_points, within_limits, parsed_of, unit_of}
 use Rattle.tsa_tool.specs.declared.check.Refusal.{Refusal}
 use Rattle.tsa_tool.specs.declared.check.Refusal.TheVariants.{Lex, NotBuilt}
-use Rattle.tsa_tool.specs.Reading.{items_of}
+use Rattle.tsa_tool.specs.Items.{Item}
 use Rattle.tsa_tool.specs.Names.{fits, all_fit}
 use Rattle.tsa_tool.specs.Program.{bodies_of}
 use Rattle.tsa_tool.specs.Limits.{is_thin_unit, items_are_within}
 use Rattle.tsa_tool.specs.Lines.{Warned, unit_warned}
-use Rattle.tsa_tool.specs.Checks.{◌>>=◌, ok_or, lexed, items_in, judged_items, warned_in}
-use Rattle.tsa_tool.specs.ThinUnits.{IsThin, ThinUnitsAreWarnedOf}
-use Rattle.tsa_tool.proofs.Spelled.{reading_law}
+use Rattle.tsa_tool.specs.Checks.{lexed, refusal_of, items_in, judged_items, warned_in}
+use Rattle.tsa_tool.specs.ThinTrees.{ThinTreesAreSeen}
+use Rattle.tsa_tool.specs.ThinUnits.{IsThin, IsNotBuilt, ThinUnitsAreWarnedOf}
+use Rattle.tsa_tool.specs.Trees.{thin_of}
+use Rattle.tsa_tool.proofs.FormedTrees.{both}
+use Rattle.tsa_tool.proofs.SeenTrees.{items_seen}
+use Rattle.tsa_tool.proofs.FormedItems.{items_formed}
 
-both : (a b : Bool) → (a && b) ≡ true → (a ≡ true) × (b ≡ true)
-both true b e = (refl, e)
-both false b e = cc
+pub trees_law : ThinTreesAreSeen
+trees_law = record { seen = items_seen; formed = items_formed }
 
 -- each item fits behind those before it, where all do
 fits_at : (text : List ℕ) (front before : List Item) (item : Item) (behind : List Item) → all_fit text front (before ++ item ∷ behind) ≡ true → fits text (front ++ before) item ≡ true
@@ -38,96 +48,151 @@ thin_is text items unit = rw (all_at text [] items unit.fits_each, unit.items_wi
 
 items_are : (text : List ℕ) (items : List Item) → IsThin text items → items_in text ≡ Ok items
 unfolding items_in
-items_are text items unit =
-    let read : items_of unit.tokens ≡ Some items = reading_law.read text unit.tokens items unit.lexed unit.spelled in
-    rw (unit.lexed, read) refl
+items_are text items unit = rw (unit.lexed, unit.parsed, items_seen unit.tree items unit.formed) refl
 
 warned : (text : List ℕ) (items : List Item) → IsThin text items → warned_in text ≡ Ok (unit_warned text items (bodies_of text items))
 unfolding warned_in judged_items
 warned text items unit = rw (items_are text items unit, thin_is text items unit) refl
 
--- The other way.
+-- The other way: what each step gives.
 
-abbrev then_ok : {A : Type 0} → Result A Refusal → Result A Refusal
-then_ok r = r >>= (λ x. Ok x)
-
-record Found (text : List ℕ) (items : List Item) : Type 0 where
-  pub tokens : List Lexeme
-  pub lexed : tokens_of text ≡ Ok tokens
-  pub read : items_of tokens ≡ Some items
-
-found_items : (text : List ℕ) (tokens : List Lexeme) (items : List Item) (o : Option (List Item)) → tokens_of text ≡ Ok tokens → items_of tokens ≡ o → ◌≡◌ {A = Result (List Item) Refusal} (ok_or NotBuilt o) (Ok items) → Found text items
-found_items text tokens items None lexed read e = cc
-found_items text tokens items (Some is) lexed read e = let same : is ≡ items = cc in record { tokens = tokens; lexed = lexed; read = read ∙ ap Some same }
-
-after_items : (o : Option (List Item)) (items : List Item) → ◌≡◌ {A = Result (List Item) Refusal} (then_ok (ok_or NotBuilt o)) (Ok items) → ◌≡◌ {A = Result (List Item) Refusal} (ok_or NotBuilt o) (Ok items)
-after_items None items e = cc
-after_items (Some is) items e = e
-
-found_tokens : (text : List ℕ) (items : List Item) (r : Result (List Lexeme) BadByte) → tokens_of text ≡ r → items_in text ≡ Ok items → Found text items
-unfolding items_in
-found_tokens text items (Err bad) is e = let wrong : ◌≡◌ {A = Result (List Item) Refusal} (Err (Lex bad.code bad.byte)) (Ok items) = rw is at e in cc
-found_tokens text items (Ok tokens) is e = found_items text tokens items (items_of tokens) is refl (after_items (items_of tokens) items (rw is at e))
-
-found_in : (text : List ℕ) (items : List Item) → items_in text ≡ Ok items → Found text items
-found_in text items e = found_tokens text items (tokens_of text) refl e
-
-thin_of : (text : List ℕ) (items : List Item) → items_in text ≡ Ok items → is_thin_unit text items ≡ true → IsThin text items
+is_thin : (text : List ℕ) (tokens : List Lexeme) (tree : List UnitItem) (items : List Item) → tokens_of text ≡ Ok tokens → unit_of tokens ≡ Ok tree → thin_of tree ≡ Some items → is_thin_unit text items ≡ true → IsThin text items
 unfolding is_thin_unit
-thin_of text items is thin =
-    let found = found_in text items is in
+is_thin text tokens tree items lexed parsed seen thin =
     let parts = both (all_fit text [] items) _ thin in
     let more = both (items_are_within items) _ parts.1 in
     record {
-      tokens = found.tokens;
-      lexed = found.lexed;
-      spelled = reading_law.spelled found.tokens items found.read;
+      tokens = tokens;
+      tree = tree;
+      lexed = lexed;
+      parsed = parsed;
+      formed = items_formed tree items seen;
       fits_each = λ before item behind same. fits_at text [] before item behind (subst (λ all. all_fit text [] all ≡ true) same parts.0);
       items_within = more.0;
       bodies_within = more.1;
     }
 
-by_thin : (text : List ℕ) (w : Warned) (items : List Item) (b : Bool) → items_in text ≡ Ok items → is_thin_unit text items ≡ b → judged_items text items ≡ Ok w → (all : List Item) × IsThin text all × (w ≡ unit_warned text all (bodies_of text all))
-unfolding judged_items
-by_thin text w items true is thin e =
-    let same : ◌≡◌ {A = Result Warned Refusal} (Ok (unit_warned text items (bodies_of text items))) (Ok w) = rw thin at e in
-    (items, thin_of text items is thin, cc)
-by_thin text w items false is thin e = let wrong : ◌≡◌ {A = Result Warned Refusal} (Err NotBuilt) (Ok w) = rw thin at e in cc
+-- how an input is answered
+data Answered (text : List ℕ) : Result Warned Refusal → Type 0 where
+  at_byte : (bad : BadByte) → tokens_of text ≡ Err bad → Answered text (Err (Lex bad.code bad.byte))
+  at_syntax : (tokens : List Lexeme) (refusal : SyntaxRefusal) → tokens_of text ≡ Ok tokens → unit_of tokens ≡ Err refusal → Answered text (Err (refusal_of text tokens refusal))
+  not_thin : (tokens : List Lexeme) (tree : List UnitItem) → tokens_of text ≡ Ok tokens → unit_of tokens ≡ Ok tree → thin_of tree ≡ None → Answered text (Err NotBuilt)
+  not_fitting : (tokens : List Lexeme) (tree : List UnitItem) (items : List Item) →
+      tokens_of text ≡ Ok tokens → unit_of tokens ≡ Ok tree → thin_of tree ≡ Some items → is_thin_unit text items ≡ false → Answered text (Err NotBuilt)
+  is_warned : (items : List Item) → IsThin text items → Answered text (Ok (unit_warned text items (bodies_of text items)))
 
-after_judged : (r : Result Warned Refusal) (w : Warned) → ◌≡◌ {A = Result Warned Refusal} (then_ok r) (Ok w) → r ≡ Ok w
-after_judged (Ok v) w e = e
-after_judged (Err x) w e = e
+by_fit : (text : List ℕ) (tokens : List Lexeme) (tree : List UnitItem) (items : List Item) (b : Bool) → tokens_of text ≡ Ok tokens → unit_of tokens ≡ Ok tree → thin_of tree ≡ Some items → is_thin_unit text items ≡ b → Answered text (warned_in text)
+unfolding warned_in items_in judged_items
+by_fit text tokens tree items true lexed parsed seen thin = rw (lexed, parsed, seen, thin) (is_warned items (is_thin text tokens tree items lexed parsed seen thin))
+by_fit text tokens tree items false lexed parsed seen thin = rw (lexed, parsed, seen, thin) (not_fitting tokens tree items lexed parsed seen thin)
 
-by_items : (text : List ℕ) (w : Warned) (r : Result (List Item) Refusal) → items_in text ≡ r → warned_in text ≡ Ok w → (all : List Item) × IsThin text all × (w ≡ unit_warned text all (bodies_of text all))
-unfolding warned_in
-by_items text w (Err x) is e = let wrong : ◌≡◌ {A = Result Warned Refusal} (Err x) (Ok w) = rw is at e in cc
-by_items text w (Ok items) is e = by_thin text w items (is_thin_unit text items) is refl (after_judged (judged_items text items) w (rw is at e))
+by_tree : (text : List ℕ) (tokens : List Lexeme) (tree : List UnitItem) (o : Option (List Item)) → tokens_of text ≡ Ok tokens → unit_of tokens ≡ Ok tree → thin_of tree ≡ o → Answered text (warned_in text)
+unfolding warned_in items_in
+by_tree text tokens tree None lexed parsed seen = rw (lexed, parsed, seen) (not_thin tokens tree lexed parsed seen)
+by_tree text tokens tree (Some items) lexed parsed seen = by_fit text tokens tree items (is_thin_unit text items) lexed parsed seen refl
 
--- The refusals.
+by_unit : (text : List ℕ) (tokens : List Lexeme) (r : Result (List UnitItem) SyntaxRefusal) → tokens_of text ≡ Ok tokens → unit_of tokens ≡ r → Answered text (warned_in text)
+unfolding warned_in items_in
+by_unit text tokens (Err refusal) lexed parsed = rw (lexed, parsed) (at_syntax tokens refusal lexed parsed)
+by_unit text tokens (Ok tree) lexed parsed = by_tree text tokens tree (thin_of tree) lexed parsed refl
+
+by_tokens : (text : List ℕ) (r : Result (List Lexeme) BadByte) → tokens_of text ≡ r → Answered text (warned_in text)
+unfolding warned_in items_in
+by_tokens text (Err bad) lexed = rw lexed (at_byte bad lexed)
+by_tokens text (Ok tokens) lexed = by_unit text tokens (unit_of tokens) lexed refl
+
+answered : (text : List ℕ) → Answered text (warned_in text)
+answered text = by_tokens text (tokens_of text) refl
+
+-- What follows.
+
+is_unit : (text : List ℕ) (w : Warned) (r : Result Warned Refusal) → r ≡ Ok w → Answered text r → (items : List Item) × IsThin text items × (w ≡ unit_warned text items (bodies_of text items))
+is_unit text w r e (at_byte bad lexed) = cc
+is_unit text w r e (at_syntax tokens refusal lexed parsed) = cc
+is_unit text w r e (not_thin tokens tree lexed parsed seen) = cc
+is_unit text w r e (not_fitting tokens tree items lexed parsed seen thin) = cc
+is_unit text w r e (is_warned items thin) = (items, thin, cc)
 
 bad_text : (text : List ℕ) (byte : BadByte) → tokens_of text ≡ Err byte → warned_in text ≡ Err (Lex byte.code byte.byte)
 unfolding warned_in items_in
 bad_text text byte is = rw is refl
 
--- a text with tokens is warned of, or it isn't built
-judged_or : (text : List ℕ) (items : List Item) (b : Bool) → is_thin_unit text items ≡ b → ((w : Warned) × (judged_items text items ≡ Ok w)) ⊎ (judged_items text items ≡ Err NotBuilt)
-unfolding judged_items
-judged_or text items true is = inl (unit_warned text items (bodies_of text items), rw is refl)
-judged_or text items false is = inr (rw is refl)
-
-built_or : (text : List ℕ) (tokens : List Lexeme) (o : Option (List Item)) → tokens_of text ≡ Ok tokens → items_of tokens ≡ o → ((w : Warned) × (warned_in text ≡ Ok w)) ⊎ (warned_in text ≡ Err NotBuilt)
+bad_syntax : (text : List ℕ) (tokens : List Lexeme) (refusal : SyntaxRefusal) → tokens_of text ≡ Ok tokens → unit_of tokens ≡ Err refusal → warned_in text ≡ Err (refusal_of text tokens refusal)
 unfolding warned_in items_in
-built_or text tokens None is read = inr (rw (is, read) refl)
-built_or text tokens (Some items) is read = elim (judged_or text items (is_thin_unit text items) refl) [
-  | inl found ↦ inl (found.0, rw (is, read, found.1) refl)
-  | inr none ↦ inr (rw (is, read, none) refl)
-]
+bad_syntax text tokens refusal lexed parsed = rw (lexed, parsed) refl
 
-other_text : (text : List ℕ) (tokens : List Lexeme) → tokens_of text ≡ Ok tokens → ((items : List Item) → IsThin text items → ⊥) → warned_in text ≡ Err NotBuilt
-other_text text tokens is none = elim (built_or text tokens (items_of tokens) is refl) [
-  | inl found ↦ let thin = by_items text found.0 (items_in text) refl found.1 in absurd (none thin.0 thin.1)
-  | inr refused ↦ refused
-]
+points_told : (tree : List UnitItem) (o : Option Identifier) → within_points tree o ≡ Err NoMemory → ⊥
+points_told tree None e = cc
+points_told tree (Some name) e = cc
+
+limits_told : (tree : List UnitItem) (o : Option Identifier) → within_limits tree o ≡ Err NoMemory → ⊥
+limits_told tree None e = points_told tree (past_points tree) e
+limits_told tree (Some name) e = cc
+
+outcome_told : (o : Outcome (List UnitItem)) → parsed_of o ≡ Err NoMemory → ⊥
+outcome_told (Ok found) e = limits_told found.0 (past_functions found.0) e
+outcome_told (Err refusal) e = cc
+
+memory_told : (tokens : List Lexeme) → unit_of tokens ≡ Err NoMemory → ⊥
+unfolding unit_of
+memory_told tokens e = outcome_told (read_unit tokens) e
+
+-- a unit that isn't thin can't be warned of
+other_by : (text : List ℕ) (r : Result Warned Refusal) → IsNotBuilt text → Answered text r → r ≡ Err NotBuilt
+other_by text r unit (at_byte bad lexed) = let wrong : Err bad ≡ Ok unit.tokens = sym lexed ∙ unit.lexed in cc
+other_by text r unit (at_syntax tokens refusal lexed parsed) =
+    let wrong : ◌≡◌ {A = Result (List Lexeme) BadByte} (Ok tokens) (Ok unit.tokens) = sym lexed ∙ unit.lexed in
+    let same : tokens ≡ unit.tokens = cc in
+    let both_ways : Err refusal ≡ Ok unit.tree = sym parsed ∙ ap unit_of same ∙ unit.parsed in
+    cc
+other_by text r unit (not_thin tokens tree lexed parsed seen) = refl
+other_by text r unit (not_fitting tokens tree items lexed parsed seen thin) = refl
+other_by text r unit (is_warned items thin) = absurd (unit.no_items items thin)
+
+-- the items of a thin unit are those of its one tree
+no_other : (text : List ℕ) (tokens : List Lexeme) (tree : List UnitItem) (o : Option (List Item)) → tokens_of text ≡ Ok tokens → unit_of tokens ≡ Ok tree → thin_of tree ≡ o → (items : List Item) → IsThin text items → o ≡ Some items
+no_other text tokens tree o lexed parsed seen items unit =
+    let both_lexed : ◌≡◌ {A = Result (List Lexeme) BadByte} (Ok tokens) (Ok unit.tokens) = sym lexed ∙ unit.lexed in
+    let same : tokens ≡ unit.tokens = cc in
+    let both_parsed : ◌≡◌ {A = Result (List UnitItem) SyntaxRefusal} (Ok tree) (Ok unit.tree) = sym parsed ∙ ap unit_of same ∙ unit.parsed in
+    let one : tree ≡ unit.tree = cc in
+    sym seen ∙ ap thin_of one ∙ items_seen unit.tree items unit.formed
+
+not_built_by : (text : List ℕ) (r : Result Warned Refusal) → r ≡ Err NotBuilt → Answered text r → IsNotBuilt text
+not_built_by text r e (at_byte bad lexed) = cc
+not_built_by text r e (at_syntax tokens (At code token) lexed parsed) = cc
+not_built_by text r e (at_syntax tokens (Function code span) lexed parsed) = cc
+not_built_by text r e (at_syntax tokens NoMemory lexed parsed) = absurd (memory_told tokens parsed)
+not_built_by text r e (not_thin tokens tree lexed parsed seen) =
+    record {
+      tokens = tokens;
+      tree = tree;
+      lexed = lexed;
+      parsed = parsed;
+      no_items = λ items unit. (let wrong : None ≡ Some items = no_other text tokens tree None lexed parsed seen items unit in cc);
+    }
+not_built_by text r e (not_fitting tokens tree items lexed parsed seen thin) =
+    record {
+      tokens = tokens;
+      tree = tree;
+      lexed = lexed;
+      parsed = parsed;
+      no_items = λ others unit. (
+          let found : Some items ≡ Some others = no_other text tokens tree (Some items) lexed parsed seen others unit in
+          let same : items ≡ others = cc in
+          let wrong : false ≡ true = sym thin ∙ ap (is_thin_unit text) same ∙ thin_is text others unit in
+          cc);
+    }
+not_built_by text r e (is_warned items thin) = cc
 
 pub thin_law : ThinUnitsAreWarnedOf
-thin_law = record { warned = warned; thin = λ text w e. by_items text w (items_in text) refl e; bad = bad_text; other = other_text }
+thin_law = record {
+  warned = warned;
+  thin = λ text w e. is_unit text w (warned_in text) e (answered text);
+  bad = bad_text;
+  at_token = λ text tokens code token. bad_syntax text tokens (At code token);
+  at_function = λ text tokens code span. bad_syntax text tokens (Function code span);
+  memory = memory_told;
+  other = λ text unit. other_by text (warned_in text) unit (answered text);
+  not_built = λ text e. not_built_by text (warned_in text) e (answered text);
+}

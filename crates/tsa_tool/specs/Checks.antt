@@ -1,15 +1,20 @@
 -- The unit of an input and the lines of its warnings, or the first refusal.
-use Rattle.std.specs.Prelude.{ℕ, List, Ok, Err, Some, None, if◌then◌else◌}
+use Rattle.std.specs.Prelude.{ℕ, List, Ok, Err, Some, None, length, slice_get, if◌then◌else◌}
 use Rattle.std.specs.declared.option.Option.{Option}
 use Rattle.std.specs.declared.result.Result.{Result}
+use Rattle.std.specs.Option.{option_map_or}
 use Rattle.tsa_base.specs.Tokens.{BadByte, Lexeme, tokens_of}
-use Rattle.tsa_tree.specs.Items.{Item}
+use Rattle.tsa_tree.specs.UnitItems.{UnitItem}
+use Rattle.tsa_expr.specs.declared.refusal.SyntaxRefusal.{SyntaxRefusal}
+use Rattle.tsa_expr.specs.declared.refusal.SyntaxRefusal.TheVariants.{At, Function, NoMemory}
+use Rattle.tsa_unit.specs.Parsing.{unit_of}
 use Rattle.tsa_tool.specs.declared.check.Refusal.{Refusal}
-use Rattle.tsa_tool.specs.declared.check.Refusal.TheVariants.{Lex, NotBuilt}
-use Rattle.tsa_tool.specs.Reading.{items_of}
+use Rattle.tsa_tool.specs.declared.check.Refusal.TheVariants.{Lex, Syntax, NotBuilt}
+use Rattle.tsa_tool.specs.Items.{Item}
 use Rattle.tsa_tool.specs.Limits.{is_thin_unit}
 use Rattle.tsa_tool.specs.Program.{bodies_of}
 use Rattle.tsa_tool.specs.Lines.{Warned, unit_warned}
+use Rattle.tsa_tool.specs.Trees.{thin_of}
 
 infixl 10 ◌>>=◌
 abbrev pub ◌>>=◌ : {A B : Type 0} → Result A Refusal → (A → Result B Refusal) → Result B Refusal
@@ -25,11 +30,27 @@ abbrev pub lexed : Result (List Lexeme) BadByte → Result (List Lexeme) Refusal
 lexed (Ok tokens) = Ok tokens
 lexed (Err bad) = Err (Lex bad.code bad.byte)
 
--- the items of an input, whether or not they are a unit
+-- the byte with which a token begins; behind the last token it is the end of the input
+abbrev pub byte_of : List ℕ → List Lexeme → ℕ → ℕ
+byte_of bytes tokens number = option_map_or (λ token. token.span.from) (slice_get tokens number) (length bytes)
+
+-- a refusal of syntax with its place; that of memory comes from no list of tokens
+abbrev pub refusal_of : List ℕ → List Lexeme → SyntaxRefusal → Refusal
+refusal_of bytes tokens (At code token) = Syntax code (byte_of bytes tokens token)
+refusal_of bytes tokens (Function code span) = Syntax code span.from
+refusal_of bytes tokens NoMemory = NotBuilt
+
+-- the unit of tokens, or the first refusal of its syntax
+abbrev pub placed : List ℕ → List Lexeme → Result (List UnitItem) SyntaxRefusal → Result (List UnitItem) Refusal
+placed bytes tokens (Ok tree) = Ok tree
+placed bytes tokens (Err refusal) = Err (refusal_of bytes tokens refusal)
+
+-- the items of an input, whether or not they may stand behind each other
 unfoldable pub items_in : List ℕ → Result (List Item) Refusal
 items_in bytes = do
   tokens ← lexed (tokens_of bytes)
-  items ← ok_or NotBuilt (items_of tokens)
+  tree ← placed bytes tokens (unit_of tokens)
+  items ← ok_or NotBuilt (thin_of tree)
   Ok items
 
 -- the lines of items that are a unit

@@ -1,5 +1,6 @@
 pub mod Commands
-pub mod Reading
+pub mod Items
+pub mod Trees
 pub mod Checks
 pub mod Reports
 pub mod Runs
@@ -13,8 +14,9 @@ pub mod Limits
 pub mod Resolved
 pub mod Judging
 pub mod Lines
-pub mod Spelling
 pub mod Scopes
 pub mod Warned
 pub mod WarningLaws
+pub mod ThinTrees
 pub mod ThinUnits
+pub mod CheckExamples

@@ -2,7 +2,7 @@
 use Rattle.std.specs.Prelude.{ℕ, ◌+◌, ◌*◌, Bool, true, false, ◌&&◌, List, [], length, nat_le, count_by}
 use Rattle.std.specs.List.{list_all}
 use Rattle.tsa_base.specs.declared.limits.TheConstants.{POINT_LIMIT, CAPABILITY_LIMIT, FUNCTION_LIMIT, PLACE_LIMIT}
-use Rattle.tsa_tree.specs.Items.{Item, lock, lock_function, mutex, number, body}
+use Rattle.tsa_tool.specs.Items.{Item, lock, lock_function, mutex, number, body}
 use Rattle.tsa_tool.specs.Names.{is_mutex, is_number, all_fit}
 use Rattle.tsa_tool.specs.Program.{UnitBody, bodies_of}
 use Rattle.tsa_tool.specs.Warnings.{paths_of}

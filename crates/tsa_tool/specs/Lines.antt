@@ -1,12 +1,12 @@
 -- The lines of warnings.
-use Rattle.std.specs.Prelude.{ℕ, ◌+◌, ◌-◌, List, [], ◌∷◌, ◌++◌, length, take, drop, Some, None, slice_get, slice_index, option_and_then, unwrap_or, codes}
+use Rattle.std.specs.Prelude.{ℕ, ◌+◌, List, [], ◌∷◌, ◌++◌, length, Some, None, slice_get, slice_index, option_and_then, unwrap_or, codes}
 use Rattle.std.specs.declared.option.Option.{Option}
 use Rattle.std.specs.List.{flat_map}
 use Rattle.std.specs.Option.{option_map_or}
 use Rattle.tsa_base.specs.declared.token.Span.{Span}
 use Rattle.tsa_base.specs.Spans.{span_text}
 use Rattle.tsa_base.specs.Places.{place_at, place_text}
-use Rattle.tsa_tree.specs.Items.{Item, lock, lock_function, mutex, number, body}
+use Rattle.tsa_tool.specs.Items.{Item, lock, lock_function, mutex, number, body}
 use Rattle.tsa_tool.specs.declared.rules.Rule.{Rule}
 use Rattle.tsa_tool.specs.declared.rules.Rule.TheVariants.{TS02, TS06, TS07, TS09}
 use Rattle.tsa_tool.specs.Names.{struct_named}
@@ -36,21 +36,17 @@ struct_place bytes items (mutex tag name) = unwrap_or (struct_named bytes items 
 struct_place bytes items (number name guard) = 0
 struct_place bytes items (body name steps end) = 0
 
--- the text at the struct, with its quotes
-abbrev pub struct_kind : Item → Option Span
+-- the word for the locks of a struct
+abbrev pub struct_kind : Item → Option (List ℕ)
 struct_kind (lock kind tag member) = Some kind
 struct_kind (lock_function name tag param takes argument) = None
 struct_kind (mutex tag name) = None
 struct_kind (number name guard) = None
 struct_kind (body name steps end) = None
 
--- the bytes between the first and the last
-unfoldable pub unquoted : List ℕ → List ℕ
-unquoted text = take (length text - 2) (drop 1 text)
-
--- the text of a path's lock
+-- the word for a path's lock
 unfoldable pub lock_text : List ℕ → List Item → Path → List ℕ
-lock_text bytes items (global place) = unquoted (option_map_or (span_text bytes) (option_and_then struct_kind (option_and_then (slice_get items) (option_and_then (λ item. Some (struct_place bytes items item)) (slice_get items place)))) [])
+lock_text bytes items (global place) = unwrap_or (option_and_then struct_kind (option_and_then (slice_get items) (option_and_then (λ item. Some (struct_place bytes items item)) (slice_get items place)))) []
 
 -- The texts of the rules, by the lock's text and the path's.
 

@@ -6,9 +6,9 @@ use Rattle.std.specs.Option.{option_map_or}
 use Rattle.std.specs.Str.{bytes_eq}
 use Rattle.tsa_base.specs.declared.token.Span.{Span}
 use Rattle.tsa_base.specs.Spans.{span_text}
-use Rattle.tsa_tree.specs.declared.ThinStep.{ThinStep}
-use Rattle.tsa_tree.specs.declared.ThinStep.TheVariants.{Call, Assign}
-use Rattle.tsa_tree.specs.Items.{Item, lock, lock_function, mutex, number, body}
+use Rattle.tsa_tool.specs.declared.thin.ThinStep.{ThinStep}
+use Rattle.tsa_tool.specs.declared.thin.ThinStep.TheVariants.{Call, Assign}
+use Rattle.tsa_tool.specs.Items.{Item, lock, lock_function, mutex, number, body}
 
 -- Structs have a name space of their own; globals and functions share one.
 
@@ -74,9 +74,9 @@ means p item = option_map_or p item false
 
 -- a call names a lock function and a mutex of its struct; a write names a number
 unfoldable pub step_fits : List ℕ → List Item → ThinStep → Bool
-step_fits bytes before (Call callee held) =
+step_fits bytes before (Call place callee held) =
     option_map_or (λ tag. means (is_mutex_of bytes (span_text bytes tag)) (meaning bytes before (span_text bytes held))) (option_and_then function_tag (meaning bytes before (span_text bytes callee))) false
-step_fits bytes before (Assign target value) = means is_number (meaning bytes before (span_text bytes target))
+step_fits bytes before (Assign place target value) = means is_number (meaning bytes before (span_text bytes target))
 
 -- no item before has the name
 abbrev pub is_new : List ℕ → List Item → Span → Bool

@@ -4,9 +4,9 @@ use Rattle.std.specs.declared.option.Option.{Option}
 use Rattle.std.specs.Option.{option_map_or}
 use Rattle.tsa_base.specs.declared.token.Span.{Span}
 use Rattle.tsa_base.specs.Spans.{span_text}
-use Rattle.tsa_tree.specs.declared.ThinStep.{ThinStep}
-use Rattle.tsa_tree.specs.declared.ThinStep.TheVariants.{Call, Assign}
-use Rattle.tsa_tree.specs.Items.{Item, lock, lock_function, mutex, number, body}
+use Rattle.tsa_tool.specs.declared.thin.ThinStep.{ThinStep}
+use Rattle.tsa_tool.specs.declared.thin.ThinStep.TheVariants.{Call, Assign}
+use Rattle.tsa_tool.specs.Items.{Item, lock, lock_function, mutex, number, body}
 use Rattle.tsa_tool.specs.Names.{named, meaning}
 use Rattle.tsa_tool.specs.Rules.{Path, global, AttrKind, acquire, release, Attr, Action, write, call, finish, Body}
 
@@ -36,13 +36,13 @@ attrs_of (Some kind) paths = map (λ c. record { kind = kind; path = c }) paths
 
 -- the argument's path is put for the parameter of the callee's attribute; what is written has the guard of its declaration
 unfoldable pub action_of : List ℕ → List Item → ThinStep → Action
-action_of bytes before (Call callee held) = call (attrs_of (option_and_then kind_of (meaning bytes before (span_text bytes callee))) (path_named bytes before held))
-action_of bytes before (Assign target value) = write (option_map_or (path_named bytes before) (option_and_then guard_of (meaning bytes before (span_text bytes target))) [])
+action_of bytes before (Call place callee held) = call (attrs_of (option_and_then kind_of (meaning bytes before (span_text bytes callee))) (path_named bytes before held))
+action_of bytes before (Assign place target value) = write (option_map_or (path_named bytes before) (option_and_then guard_of (meaning bytes before (span_text bytes target))) [])
 
 -- a statement stands at its first token
 abbrev pub step_place : ThinStep → ℕ
-step_place (Call callee held) = callee.from
-step_place (Assign target value) = target.from
+step_place (Call place callee held) = place
+step_place (Assign place target value) = place
 
 -- a body with its name, and the places of its points in order
 pub record UnitBody : Type 0 where

@@ -7,12 +7,14 @@ use Rattle.std.specs.Fmt.{decimal}
 use Rattle.tsa_tool.specs.Checks.{warned_in}
 use Rattle.tsa_base.specs.declared.token.LexCode.{LexCode}
 use Rattle.tsa_base.specs.declared.token.LexCode.TheVariants.{LX1, LX2, LX3, LX4, LX5}
+use Rattle.tsa_expr.specs.declared.refusal.SyntaxCode.{SyntaxCode}
+use Rattle.tsa_expr.specs.declared.refusal.SyntaxCode.TheVariants.{SY1, AT1, AT2, LM2, LM3, LM5}
 use Rattle.tsa_base.specs.Places.{place_at, place_text}
 use Rattle.tsa_tool.specs.Lines.{Warned}
 use Rattle.tsa_tool.specs.declared.answer.Status.{Status}
 use Rattle.tsa_tool.specs.declared.answer.Status.TheVariants.{Accepted, Warned as Warns, Refused, WordsRefused, LimitPassed}
 use Rattle.tsa_tool.specs.declared.check.Refusal.{Refusal}
-use Rattle.tsa_tool.specs.declared.check.Refusal.TheVariants.{Lex, NotBuilt}
+use Rattle.tsa_tool.specs.declared.check.Refusal.TheVariants.{Lex, Syntax, NotBuilt}
 use Rattle.tsa_tool.specs.declared.command.Command.{Command}
 use Rattle.tsa_tool.specs.declared.command.Command.TheVariants.{Check}
 
@@ -46,9 +48,28 @@ lex_text LX3 = codes "LX3 malformed or too wide number"
 lex_text LX4 = codes "LX4 refused preprocessing line"
 lex_text LX5 = codes "LX5 unfinished text"
 
+-- what a code of a refused token or function says
+abbrev pub syntax_text : SyntaxCode → List ℕ
+syntax_text SY1 = codes "SY1 no unit is spelled this way"
+syntax_text AT1 = codes "AT1 attribute is left out"
+syntax_text AT2 = codes "AT2 attribute argument is missing"
+syntax_text LM2 = codes "LM2 over 100 nested"
+syntax_text LM3 = codes "LM3 over 4096 points in a function"
+syntax_text LM5 = codes "LM5 over 1024 functions"
+
+-- a limit that is passed has a status of its own
+abbrev pub syntax_status : SyntaxCode → Status
+syntax_status SY1 = Refused
+syntax_status AT1 = Refused
+syntax_status AT2 = Refused
+syntax_status LM2 = LimitPassed
+syntax_status LM3 = LimitPassed
+syntax_status LM5 = LimitPassed
+
 -- the line and the status of a refusal of these bytes: `L:C: ` and the text, where it has a place
 abbrev pub refused_report : List ℕ → Refusal → Report
 refused_report bytes (Lex code byte) = record { status = Refused; text = line (place_text (place_at bytes byte) ++ lex_text code) }
+refused_report bytes (Syntax code byte) = record { status = syntax_status code; text = line (place_text (place_at bytes byte) ++ syntax_text code) }
 refused_report bytes NotBuilt = record { status = Refused; text = line (codes "NB0 form is not built yet") }
 
 abbrev pub accepted : Report

@@ -1,8 +1,8 @@
 -- A program with resolved names, as definitions see it.
 use Rattle.std.specs.Prelude.{ℕ, List, [], ◌∷◌, ◌++◌, map, Some, None}
 use Rattle.tsa_base.specs.declared.token.Span.{Span}
-use Rattle.tsa_tree.specs.declared.ThinStep.{ThinStep}
-use Rattle.tsa_tree.specs.Items.{Item}
+use Rattle.tsa_tool.specs.declared.thin.ThinStep.{ThinStep}
+use Rattle.tsa_tool.specs.Items.{Item}
 use Rattle.tsa_tool.specs.declared.program.PointAction.{PointAction}
 use Rattle.tsa_tool.specs.declared.program.PointAction.TheVariants.{Take, Give, Write, End}
 use Rattle.tsa_tool.specs.declared.program.BodyPoint.{BodyPoint}

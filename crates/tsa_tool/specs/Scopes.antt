@@ -4,7 +4,7 @@ use Rattle.std.specs.declared.option.Option.{Option}
 use Rattle.std.specs.HashMap.{HashMap, get_by}
 use Rattle.std.specs.Str.{bytes_eq}
 use Rattle.std.specs.Borrow.{Bor}
-use Rattle.tsa_tree.specs.Items.{Item}
+use Rattle.tsa_tool.specs.Items.{Item}
 use Rattle.tsa_tool.specs.declared.scope.Scope.{Scope}
 use Rattle.tsa_tool.specs.Names.{named, struct_named}
 

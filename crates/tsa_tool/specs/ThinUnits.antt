@@ -1,28 +1,52 @@
 -- The thin units, that `check` warns of exactly these, and how it refuses all others.
 use Rattle.std.specs.Prelude.{ℕ, ◌≡◌, true, List, ◌∷◌, ◌++◌, Ok, Err}
 use Rattle.std.specs.List.{list_all}
+use Rattle.tsa_base.specs.declared.token.Span.{Span}
 use Rattle.tsa_base.specs.Tokens.{BadByte, Lexeme, tokens_of}
-use Rattle.tsa_tree.specs.Items.{Item}
-use Rattle.tsa_tool.specs.declared.check.Refusal.TheVariants.{Lex, NotBuilt}
-use Rattle.tsa_tool.specs.Spelling.{Spells}
+use Rattle.tsa_tree.specs.UnitItems.{UnitItem}
+use Rattle.tsa_expr.specs.declared.refusal.SyntaxCode.{SyntaxCode}
+use Rattle.tsa_expr.specs.declared.refusal.SyntaxRefusal.TheVariants.{At, Function, NoMemory}
+use Rattle.tsa_unit.specs.Parsing.{unit_of}
+use Rattle.tsa_tool.specs.declared.check.Refusal.TheVariants.{Lex, Syntax, NotBuilt}
+use Rattle.tsa_tool.specs.Items.{Item}
 use Rattle.tsa_tool.specs.Names.{fits}
 use Rattle.tsa_tool.specs.Program.{bodies_of}
 use Rattle.tsa_tool.specs.Limits.{items_are_within, body_is_within}
 use Rattle.tsa_tool.specs.Lines.{Warned, unit_warned}
-use Rattle.tsa_tool.specs.Checks.{warned_in}
+use Rattle.tsa_tool.specs.Checks.{byte_of, warned_in}
+use Rattle.tsa_tool.specs.ThinTrees.{AreItems}
 
--- the text has tokens, they spell the items, each item may stand behind those before it, and no limit is passed
+-- the text has tokens, they are a unit, its tree is of the items, each item may stand behind those before it, and no limit is
+-- passed
 pub record IsThin (text : List ℕ) (items : List Item) : Type 0 where
   pub tokens : List Lexeme
+  pub tree : List UnitItem
   pub lexed : tokens_of text ≡ Ok tokens
-  pub spelled : Spells tokens items
+  pub parsed : unit_of tokens ≡ Ok tree
+  pub formed : AreItems tree items
   pub fits_each : (before : List Item) (item : Item) (behind : List Item) → items ≡ before ++ item ∷ behind → fits text before item ≡ true
   pub items_within : items_are_within items ≡ true
   pub bodies_within : list_all body_is_within (bodies_of text items) ≡ true
 
+-- the text has tokens, they are a unit, and it isn't thin
+pub record IsNotBuilt (text : List ℕ) : Type 0 where
+  pub tokens : List Lexeme
+  pub tree : List UnitItem
+  pub lexed : tokens_of text ≡ Ok tokens
+  pub parsed : unit_of tokens ≡ Ok tree
+  pub no_items : (items : List Item) → IsThin text items → ⊥
+
 pub record ThinUnitsAreWarnedOf : Type 0 where
   pub warned : (text : List ℕ) (items : List Item) → IsThin text items → warned_in text ≡ Ok (unit_warned text items (bodies_of text items))
   pub thin : (text : List ℕ) (w : Warned) → warned_in text ≡ Ok w → (items : List Item) × IsThin text items × (w ≡ unit_warned text items (bodies_of text items))
-  -- a text with a bad byte is refused by its first one, and any other that is no thin unit as a form that isn't built
+  -- a text with a bad byte is refused by its first one
   pub bad : (text : List ℕ) (byte : BadByte) → tokens_of text ≡ Err byte → warned_in text ≡ Err (Lex byte.code byte.byte)
-  pub other : (text : List ℕ) (tokens : List Lexeme) → tokens_of text ≡ Ok tokens → ((items : List Item) → IsThin text items → ⊥) → warned_in text ≡ Err NotBuilt
+  -- tokens that are no unit, or one that passes a limit, are refused at a token or at a function's name
+  pub at_token : (text : List ℕ) (tokens : List Lexeme) (code : SyntaxCode) (token : ℕ) →
+      tokens_of text ≡ Ok tokens → unit_of tokens ≡ Err (At code token) → warned_in text ≡ Err (Syntax code (byte_of text tokens token))
+  pub at_function : (text : List ℕ) (tokens : List Lexeme) (code : SyntaxCode) (span : Span) →
+      tokens_of text ≡ Ok tokens → unit_of tokens ≡ Err (Function code span) → warned_in text ≡ Err (Syntax code span.from)
+  pub memory : (tokens : List Lexeme) → unit_of tokens ≡ Err NoMemory → ⊥
+  -- exactly a unit that isn't thin is a form that isn't built
+  pub other : (text : List ℕ) → IsNotBuilt text → warned_in text ≡ Err NotBuilt
+  pub not_built : (text : List ℕ) → warned_in text ≡ Err NotBuilt → IsNotBuilt text

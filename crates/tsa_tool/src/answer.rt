@@ -1,15 +1,17 @@
 //! What is answered to an input.
 ghost use Rattle.std.specs.Prelude.{◌≡◌, ◌≤◌, ◌∷◌, ◌++◌, [], codes, IfOk, OnOk, length};
 ghost use Rattle.tsa_base.specs.declared.limits.TheConstants.{INPUT_LIMIT};
-ghost use Rattle.tsa_tool.specs.Reports.{status_number, words_refused, too_long, judged, accepted, warned_report, refused_report, lex_text};
+ghost use Rattle.tsa_tool.specs.Reports.{status_number, words_refused, too_long, judged, accepted, warned_report, refused_report, lex_text, syntax_text, syntax_status, line};
 ghost use Rattle.tsa_tool.specs.Answer.{report_of};
 ghost use Rattle.tsa_tool.specs.Warned.{warned_of};
 ghost use Rattle.std.specs.Fmt.{decimal};
+ghost use Rattle.tsa_base.specs.Places.{place_at, place_text};
 
 use crate::check::{Refusal, ToolRefusal, check_unit};
 use crate::warn::UnitLines;
 use std::alloc::Global;
 use tsa_base::{LexCode, LineStarts, NoMemory};
+use tsa_expr::SyntaxCode;
 
 /// How an answer ends the program.
 #[derive(Clone, Copy, Debug, PartialEq, Eq)]
@@ -107,6 +109,7 @@ fn refuse(alloc: Global, bytes: &[u8], refusal: Refusal) -> Result<Answer, NoMem
 {
     match refusal {
         Refusal::Lex { code, byte } => refuse_byte(alloc, bytes, code, byte),
+        Refusal::Syntax { code, byte } => refuse_syntax(alloc, bytes, code, byte),
         Refusal::NotBuilt => answer_of(alloc, Status::Refused, b"NB0 form is not built yet\n"),
     }
 }
@@ -115,15 +118,37 @@ fn refuse(alloc: Global, bytes: &[u8], refusal: Refusal) -> Result<Answer, NoMem
 fn refuse_byte(alloc: Global, bytes: &[u8], code: LexCode, byte: u32) -> Result<Answer, NoMemory>
     ensures { IfOk result (λ answer. report_of answer ≡ refused_report bytes.now (Refusal.Lex code byte)) }
 {
+    Ok(Answer {
+        status: Status::Refused,
+        text: placed_line(alloc, bytes, byte, lex_text(code))?,
+    })
+}
+
+// The answer to a text whose tokens are no unit, or one that passes a limit.
+fn refuse_syntax(
+    alloc: Global,
+    bytes: &[u8],
+    code: SyntaxCode,
+    byte: u32,
+) -> Result<Answer, NoMemory>
+    ensures { IfOk result (λ answer. report_of answer ≡ refused_report bytes.now (Refusal.Syntax code byte)) }
+{
+    Ok(Answer {
+        status: syntax_status(code),
+        text: placed_line(alloc, bytes, byte, syntax_text(code))?,
+    })
+}
+
+// A line that says something of a byte.
+fn placed_line(alloc: Global, bytes: &[u8], byte: u32, says: &[u8]) -> Result<Vec<u8>, NoMemory>
+    ensures { IfOk result (λ text. text.items ≡ line (place_text (place_at bytes.now byte) ++ says.now)) }
+{
     let starts = LineStarts::new(alloc, bytes)?;
     let mut text = Vec::new(alloc);
     starts.place(byte).append_to(&mut text)?;
-    text.extend_from_slice(lex_text(code))?;
+    text.extend_from_slice(says)?;
     text.extend_from_slice(b"\n")?;
-    Ok(Answer {
-        status: Status::Refused,
-        text,
-    })
+    Ok(text)
 }
 
 // What a code says.
@@ -136,6 +161,29 @@ fn lex_text(code: LexCode) -> &'static [u8]
         LexCode::LX3 => b"LX3 malformed or too wide number",
         LexCode::LX4 => b"LX4 refused preprocessing line",
         LexCode::LX5 => b"LX5 unfinished text",
+    }
+}
+
+// What a code of a refused token or function says.
+fn syntax_text(code: SyntaxCode) -> &'static [u8]
+    ensures { result.now ≡ syntax_text code }
+{
+    match code {
+        SyntaxCode::SY1 => b"SY1 no unit is spelled this way",
+        SyntaxCode::AT1 => b"AT1 attribute is left out",
+        SyntaxCode::AT2 => b"AT2 attribute argument is missing",
+        SyntaxCode::LM2 => b"LM2 over 100 nested",
+        SyntaxCode::LM3 => b"LM3 over 4096 points in a function",
+        SyntaxCode::LM5 => b"LM5 over 1024 functions",
+    }
+}
+
+fn syntax_status(code: SyntaxCode) -> Status
+    ensures { result ≡ syntax_status code }
+{
+    match code {
+        SyntaxCode::SY1 | SyntaxCode::AT1 | SyntaxCode::AT2 => Status::Refused,
+        SyntaxCode::LM2 | SyntaxCode::LM3 | SyntaxCode::LM5 => Status::LimitPassed,
     }
 }
 

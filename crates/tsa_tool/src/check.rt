@@ -1,25 +1,36 @@
 //! The unit of an input and the lines of its warnings, or the first refusal.
-ghost use Rattle.std.specs.Prelude.{◌≡◌, ◌≤◌, map, length, vec_len, IfOk, IsErrOf, Ok, Err};
+ghost use Rattle.std.specs.Prelude.{◌≡◌, ◌≢◌, ◌≤◌, map, length, vec_len, IfOk, IsErrOf, Ok, Err};
 ghost use Rattle.tsa_base.specs.declared.limits.TheConstants.{INPUT_LIMIT};
-ghost use Rattle.tsa_tree.specs.Items.{item_of};
-ghost use Rattle.tsa_tool.specs.Checks.{items_in, judged_items, warned_in};
+ghost use Rattle.tsa_tool.specs.Items.{item_of};
+ghost use Rattle.tsa_base.specs.Tokens.{tokens_of};
+ghost use Rattle.tsa_tree.specs.Signs.{lexemes};
+ghost use Rattle.tsa_tree.specs.UnitShapes.{item_shapes};
+ghost use Rattle.tsa_unit.specs.Outcomes.{AreNear};
+ghost use Rattle.tsa_unit.specs.Parsing.{unit_of};
+ghost use Rattle.tsa_tool.specs.Checks.{lexed, byte_of, refusal_of, placed, items_in, judged_items, warned_in};
 ghost use Rattle.tsa_tool.specs.Warned.{warned_of};
 ghost use Rattle.tsa_tool.specs.declared.check.ToolRefusal.TheVariants.{NoMemory};
 
 use crate::limits::items_are_within;
 use crate::lines::UnitText;
 use crate::names::resolve;
-use crate::reading::read_unit;
+use crate::thin::{ThinItem, ThinUnit};
+use crate::trees::thin;
 use crate::warn::{UnitLines, warn};
+use bumpalo::Bump;
 use std::alloc::Global;
-use tsa_base::{LexCode, LineStarts, NoMemory};
+use tsa_base::{LexCode, LineStarts, NoMemory, Token};
+use tsa_expr::{SyntaxCode, SyntaxRefusal};
 use tsa_lex::{LexRefusal, lex};
-use tsa_tree::{ThinItem, ThinUnit};
+use tsa_tree::item::UnitTree;
+use tsa_unit::parse;
 
-/// Why a unit is refused, with a line of its own: a byte that makes it no tokens, or a form that isn't built yet.
+/// Why a unit is refused, with a line of its own: a byte that makes it no tokens, a token or a function that its syntax
+/// refuses, or a form that isn't built yet.
 #[derive(Clone, Copy, Debug, PartialEq, Eq)]
 pub enum Refusal {
     Lex { code: LexCode, byte: u32 },
+    Syntax { code: SyntaxCode, byte: u32 },
     NotBuilt,
 }
 
@@ -40,22 +51,86 @@ impl From<NoMemory> for ToolRefusal {
 
 const NOT_BUILT: ToolRefusal = ToolRefusal::Refused(Refusal::NotBuilt);
 
-// The items that an input spells.
+// The tokens of an input, each of which begins inside it.
+#[tactic(auto, using(tsa_unit::proofs::Near::lexed_near))]
+fn tokens_in<'s>(alloc: Global, bytes: &'s [u8]) -> Result<Vec<Token<'s>>, ToolRefusal>
+    requires { length bytes.now ≤ INPUT_LIMIT }
+    ensures tokens { IfOk result (λ tokens. lexed (tokens_of bytes.now) ≡ Ok (lexemes tokens.items)) }
+    ensures count { IfOk result (λ tokens. vec_len tokens ≤ INPUT_LIMIT) }
+    ensures near { IfOk result (λ tokens. AreNear (lexemes tokens.items)) }
+    ensures refused { (r : _) → IsErrOf result (ToolRefusal.Refused r) → lexed (tokens_of bytes.now) ≡ Err r }
+{
+    match lex(alloc, bytes) {
+        Ok(tokens) => Ok(tokens),
+        Err(LexRefusal::At { code, byte }) => {
+            Err(ToolRefusal::Refused(Refusal::Lex { code, byte }))
+        }
+        Err(LexRefusal::NoMemory) => Err(ToolRefusal::NoMemory),
+    }
+}
+
+// The byte with which a token begins. Behind the last token it is the end of the input.
+fn byte_of(bytes: &[u8], tokens: &[Token<'_>], number: u32) -> u32
+    requires { length bytes.now ≤ INPUT_LIMIT }
+    ensures { result ≡ byte_of bytes.now (lexemes tokens.now) number }
+{
+    match tokens.get(number as usize) {
+        Some(token) => token.span.from,
+        None => bytes.len() as u32,
+    }
+}
+
+// A refusal of the syntax, with its place.
+fn placed(bytes: &[u8], tokens: &[Token<'_>], refusal: SyntaxRefusal) -> ToolRefusal
+    requires { length bytes.now ≤ INPUT_LIMIT }
+    ensures placed { (r : _) → result ≡ ToolRefusal.Refused r → refusal_of bytes.now (lexemes tokens.now) refusal ≡ r }
+    ensures told { (r : _) → result ≡ ToolRefusal.Refused r → refusal ≢ SyntaxRefusal.NoMemory }
+{
+    match refusal {
+        SyntaxRefusal::At { code, token } => ToolRefusal::Refused(Refusal::Syntax {
+            code,
+            byte: byte_of(bytes, tokens, token),
+        }),
+        SyntaxRefusal::Function { code, span } => ToolRefusal::Refused(Refusal::Syntax {
+            code,
+            byte: span.from,
+        }),
+        SyntaxRefusal::NoMemory => ToolRefusal::NoMemory,
+    }
+}
+
+// The unit that tokens spell, in the arena.
+#[tactic(auto, using(crate::proofs::AheadItems::items_within))]
+fn tree_in<'a>(
+    alloc: Global,
+    bump: &'a Bump,
+    bytes: &[u8],
+    tokens: &[Token<'_>],
+) -> Result<&'a UnitTree<'a>, ToolRefusal>
+    requires bound { length bytes.now ≤ INPUT_LIMIT }
+    requires room { length tokens.now ≤ INPUT_LIMIT }
+    requires near { AreNear (lexemes tokens.now) }
+    ensures tree { IfOk result (λ tree. placed bytes.now (lexemes tokens.now) (unit_of (lexemes tokens.now)) ≡ Ok (item_shapes tree.now.items.now)) }
+    ensures count { IfOk result (λ tree. length tree.now.items.now ≤ INPUT_LIMIT) }
+    ensures refused { (r : _) → IsErrOf result (ToolRefusal.Refused r) → placed bytes.now (lexemes tokens.now) (unit_of (lexemes tokens.now)) ≡ Err r }
+{
+    match parse(alloc, bump, tokens) {
+        Ok(parsed) => Ok(parsed.unit()),
+        Err(refusal) => Err(placed(bytes, tokens, refusal)),
+    }
+}
+
+// The items of an input that are a unit of the thin language, in an arena.
 #[tactic(auto, unfolding(crate::specs::Checks::items_in))]
-fn read_items(alloc: Global, bytes: &[u8]) -> Result<ThinUnit, ToolRefusal>
+fn read_items<'a>(alloc: Global, bump: &'a Bump, bytes: &[u8]) -> Result<ThinUnit<'a>, ToolRefusal>
     requires { length bytes.now ≤ INPUT_LIMIT }
     ensures items { IfOk result (λ unit. items_in bytes.now ≡ Ok (map item_of unit.items.items)) }
     ensures count { IfOk result (λ unit. vec_len unit.items ≤ INPUT_LIMIT) }
     ensures refused { (r : _) → IsErrOf result (ToolRefusal.Refused r) → items_in bytes.now ≡ Err r }
 {
-    let tokens = match lex(alloc, bytes) {
-        Ok(tokens) => tokens,
-        Err(LexRefusal::At { code, byte }) => {
-            return Err(ToolRefusal::Refused(Refusal::Lex { code, byte }));
-        }
-        Err(LexRefusal::NoMemory) => return Err(ToolRefusal::NoMemory),
-    };
-    match read_unit(alloc, &tokens)? {
+    let tokens = tokens_in(alloc, bytes)?;
+    let tree = tree_in(alloc, bump, bytes, &tokens)?;
+    match thin(alloc, tree.items)? {
         Some(unit) => Ok(unit),
         None => Err(NOT_BUILT),
     }
@@ -63,7 +138,11 @@ fn read_items(alloc: Global, bytes: &[u8]) -> Result<ThinUnit, ToolRefusal>
 
 // The lines of items that are a unit.
 #[tactic(auto, unfolding(crate::specs::Checks::judged_items, crate::specs::Limits::is_thin_unit))]
-fn judge_items(alloc: Global, bytes: &[u8], items: &[ThinItem]) -> Result<UnitLines, ToolRefusal>
+fn judge_items(
+    alloc: Global,
+    bytes: &[u8],
+    items: &[ThinItem<'_>],
+) -> Result<UnitLines, ToolRefusal>
     requires { length items.now ≤ INPUT_LIMIT }
     ensures lines { IfOk result (λ lines. judged_items bytes.now (map item_of items.now) ≡ Ok (warned_of lines)) }
     ensures refused { (r : _) → IsErrOf result (ToolRefusal.Refused r) → judged_items bytes.now (map item_of items.now) ≡ Err r }
@@ -95,6 +174,7 @@ pub fn check_unit(alloc: Global, bytes: &[u8]) -> Result<UnitLines, ToolRefusal>
     ensures lines { IfOk result (λ lines. warned_in bytes.now ≡ Ok (warned_of lines)) }
     ensures refused { (r : _) → IsErrOf result (ToolRefusal.Refused r) → warned_in bytes.now ≡ Err r }
 {
-    let unit = read_items(alloc, bytes)?;
+    let bump = Bump::new(alloc);
+    let unit = read_items(alloc, &bump, bytes)?;
     judge_items(alloc, bytes, &unit.items)
 }

@@ -1,19 +1,28 @@
-//! Laws of the thin grammar, of thin units and of the warnings.
-ghost use Rattle.tsa_tool.specs.Spelling.{ReadingLaw};
+//! Laws of thin trees, of thin units and of the warnings.
+ghost use Rattle.tsa_tool.specs.CheckExamples.{ChecksAreAsWritten};
+ghost use Rattle.tsa_tool.specs.ThinTrees.{ThinTreesAreSeen};
 ghost use Rattle.tsa_tool.specs.ThinUnits.{ThinUnitsAreWarnedOf};
 ghost use Rattle.tsa_tool.specs.WarningLaws.{WarningsAreTheFailingPremises};
 
-/// Reading the tokens of a text gives exactly the items that they spell, both ways.
-#[tactic(auto, using(crate::proofs::Spelled::reading_law))]
-pub fn what_is_read_is_what_is_spelled()
-    ensures { ReadingLaw }
+/// What is computed of a tree is exactly the items of the thin language whose forms it has, both ways.
+#[tactic(auto, using(crate::proofs::ThinLaw::trees_law))]
+pub fn thin_trees_are_seen()
+    ensures { ThinTreesAreSeen }
 {}
 
-/// What `check` warns of is exactly the thin units: their tokens spell them, each item may stand behind those before it,
-/// and no limit is passed. Any other text is refused by its first bad byte, or as not built where it has none.
+/// What `check` warns of is exactly the thin units: their tokens are a unit of thin items, each item may stand behind
+/// those before it, and no limit is passed. Any other text is refused by its first bad byte, by its syntax, or as not
+/// built exactly where its tokens are a unit.
 #[tactic(auto, using(crate::proofs::ThinLaw::thin_law))]
 pub fn thin_units_are_warned_of()
     ensures { ThinUnitsAreWarnedOf }
+{}
+
+/// Texts of each kind are answered as they are written: one for each kind of refusal, and one for each way to write what
+/// leaves no node.
+#[tactic(auto, using(crate::proofs::CheckExamples::checks_are_as_written))]
+pub fn checks_are_as_written()
+    ensures { ChecksAreAsWritten }
 {}
 
 /// The warnings of a body are exactly the premises that fail on some walk, in order, each once.

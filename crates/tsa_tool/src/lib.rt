@@ -11,20 +11,25 @@ mod limits;
 mod lines;
 mod names;
 mod paths;
+mod pieces;
 mod program;
-mod reading;
 mod rules;
 mod scope;
 mod steps;
+mod thin;
 mod top;
+mod trees;
 mod warn;
 
 pub use laws::{
-    thin_units_are_warned_of, warnings_are_the_failing_premises, what_is_read_is_what_is_spelled,
+    checks_are_as_written, thin_trees_are_seen, thin_units_are_warned_of,
+    warnings_are_the_failing_premises,
 };
 pub use top::tool;
 
 #[cfg(test)]
 mod name_tests;
+#[cfg(test)]
+mod syntax_tests;
 #[cfg(test)]
 mod tests;

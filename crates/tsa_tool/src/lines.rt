@@ -3,18 +3,18 @@ ghost use Rattle.std.specs.Prelude.{◌≡◌, ◌≤◌, ◌<◌, ◌+◌, ◌+
 ghost use Rattle.std.specs.List.{flat_map};
 ghost use Rattle.tsa_base.specs.Places.{place_at, place_text};
 ghost use Rattle.tsa_base.specs.Spans.{span_text};
-ghost use Rattle.tsa_tree.specs.Items.{item_of};
+ghost use Rattle.tsa_tool.specs.Items.{item_of};
 ghost use Rattle.tsa_tool.specs.Rules.{global};
 ghost use Rattle.tsa_tool.specs.Resolved.{body_view};
 ghost use Rattle.tsa_tool.specs.Judging.{warning_view};
-ghost use Rattle.tsa_tool.specs.Lines.{struct_place, unquoted, lock_text, path_text, rule_code, before_path, behind_path, rule_text, line_head, warning_line};
+ghost use Rattle.tsa_tool.specs.Lines.{struct_place, lock_text, path_text, rule_code, before_path, behind_path, rule_text, line_head, warning_line};
 
 use crate::judge::Warning;
 use crate::paths::path_text;
 use crate::program::{BodyCode, BodyPoint};
 use crate::rules::Rule;
+use crate::thin::ThinItem;
 use tsa_base::{LineStarts, NoMemory};
-use tsa_tree::ThinItem;
 
 impl Rule {
     /// The rule's code.
@@ -53,29 +53,18 @@ impl Rule {
     }
 }
 
-// The bytes between the quotes.
-#[tactic(auto, unfolding(crate::specs::Lines::unquoted))]
-fn unquoted(text: &[u8]) -> &[u8]
-    ensures { result.now ≡ unquoted text.now }
-{
-    if text.len() < 2 {
-        return &[];
-    }
-    &text[1..text.len() - 1]
-}
-
-/// The text of a path's lock, by the places of the structs.
+/// The word for a path's lock, by the places of the structs.
 #[tactic(auto, unfolding(crate::specs::Lines::lock_text))]
-fn lock_text<'s>(bytes: &'s [u8], items: &[ThinItem], structs: &[u32], path: u32) -> &'s [u8]
+fn lock_text<'s>(bytes: &[u8], items: &'s [ThinItem<'s>], structs: &[u32], path: u32) -> &'s [u8]
     requires { structs.now ≡ map (struct_place bytes.now (map item_of items.now)) (map item_of items.now) }
     ensures { result.now ≡ lock_text bytes.now (map item_of items.now) (global path) }
 {
     let Some(place) = structs.get(path as usize) else {
-        return unquoted(&[]);
+        return &[];
     };
     match items.get(*place as usize) {
-        Some(ThinItem::Lock { kind, .. }) => unquoted(kind.text_in(bytes)),
-        _ => unquoted(&[]),
+        Some(ThinItem::Lock { kind, .. }) => kind,
+        _ => &[],
     }
 }
 
@@ -98,7 +87,7 @@ fn push_rule(text: &mut Vec<u8>, rule: Rule, kind: &[u8], path: &[u8]) -> Result
 pub struct UnitText<'s> {
     pub bytes: &'s [u8],
     pub starts: &'s LineStarts<'s>,
-    pub items: &'s [ThinItem],
+    pub items: &'s [ThinItem<'s>],
     pub structs: &'s [u32],
 }
 

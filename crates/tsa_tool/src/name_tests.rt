@@ -1,12 +1,14 @@
 //! Units, and what their bodies do with resolved names.
 use crate::names::resolve;
 use crate::program::PointAction;
-use crate::reading::read_unit;
+use crate::trees::thin;
+use bumpalo::Bump;
 use std::alloc::Global;
 use std::process::Abort;
 use std::test::Fail;
 use tsa_base::INPUT_LIMIT;
 use tsa_lex::lex;
+use tsa_unit::parse;
 
 // The actions of all bodies in order, or `None` where the names don't fit.
 fn actions_of(
@@ -19,8 +21,12 @@ fn actions_of(
     let Ok(tokens) = lex(alloc, text) else {
         panic!(rt; "no tokens");
     };
-    let Ok(Some(unit)) = read_unit(alloc, &tokens) else {
+    let bump = Bump::new(alloc);
+    let Ok(parsed) = parse(alloc, &bump, &tokens) else {
         panic!(rt; "no unit");
+    };
+    let Ok(Some(unit)) = thin(alloc, parsed.unit().items) else {
+        panic!(rt; "no thin unit");
     };
     assert!(rt; unit.items.len() <= INPUT_LIMIT);
     let Ok(program) = resolve(alloc, text, &unit.items) else {

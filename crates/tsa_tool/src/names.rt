@@ -4,7 +4,7 @@ ghost use Rattle.std.specs.List.{list_all};
 ghost use Rattle.std.specs.Option.{option_map};
 ghost use Rattle.tsa_base.specs.Spans.{span_text};
 ghost use Rattle.tsa_base.specs.declared.limits.TheConstants.{INPUT_LIMIT};
-ghost use Rattle.tsa_tree.specs.Items.{item_of};
+ghost use Rattle.tsa_tool.specs.Items.{item_of};
 ghost use Rattle.tsa_tool.specs.Names.{means, meaning, is_mutex, step_fits, head_fits, steps_of, fits, all_fit};
 ghost use Rattle.tsa_tool.specs.Program.{item_bodies, bodies_of};
 ghost use Rattle.tsa_tool.specs.Resolved.{body_view, program_view};
@@ -16,11 +16,11 @@ use crate::scope::{
     Scope, empty_scope, enter, has_struct, is_new, meaning, same_text, struct_places,
 };
 use crate::steps::body_code;
+use crate::thin::ThinItem;
 use std::alloc::Global;
 use tsa_base::{INPUT_LIMIT, NoMemory, Span};
-use tsa_tree::ThinItem;
 
-fn is_mutex(scope: &Scope<'_>, bytes: &[u8], before: &[ThinItem], name: Span) -> bool
+fn is_mutex(scope: &Scope<'_>, bytes: &[u8], before: &[ThinItem<'_>], name: Span) -> bool
     requires { Knows scope.now bytes.now (map item_of before.now) }
     ensures { result ≡ means is_mutex (meaning bytes.now (map item_of before.now) (span_text bytes.now name)) }
 {
@@ -31,7 +31,7 @@ fn is_mutex(scope: &Scope<'_>, bytes: &[u8], before: &[ThinItem], name: Span) ->
 }
 
 #[tactic(auto, unfolding(crate::specs::Names::head_fits))]
-fn head_fits(scope: &Scope<'_>, bytes: &[u8], before: &[ThinItem], item: &ThinItem) -> bool
+fn head_fits(scope: &Scope<'_>, bytes: &[u8], before: &[ThinItem<'_>], item: &ThinItem<'_>) -> bool
     requires { Knows scope.now bytes.now (map item_of before.now) }
     ensures { result ≡ head_fits bytes.now (map item_of before.now) (item_of item.now) }
 {
@@ -67,8 +67,8 @@ fn add_body(
     alloc: Global,
     scope: &Scope<'_>,
     bytes: &[u8],
-    before: &[ThinItem],
-    item: &ThinItem,
+    before: &[ThinItem<'_>],
+    item: &ThinItem<'_>,
     bodies: &mut Vec<BodyCode>,
 ) -> Result<bool, NoMemory>
     requires { Knows scope.now bytes.now (map item_of before.now) }
@@ -93,8 +93,8 @@ fn take_item<'s>(
     alloc: Global,
     scope: &mut Scope<'s>,
     bytes: &'s [u8],
-    before: &[ThinItem],
-    item: &ThinItem,
+    before: &[ThinItem<'_>],
+    item: &ThinItem<'_>,
     bodies: &mut Vec<BodyCode>,
 ) -> Result<bool, NoMemory>
     requires bound { length before.now ≤ INPUT_LIMIT }
@@ -115,7 +115,11 @@ fn take_item<'s>(
 }
 
 /// The bodies of a unit with their names resolved, or `None` where an item may not stand behind those before it.
-pub fn resolve(alloc: Global, bytes: &[u8], items: &[ThinItem]) -> Result<Option<Program>, NoMemory>
+pub fn resolve(
+    alloc: Global,
+    bytes: &[u8],
+    items: &[ThinItem<'_>],
+) -> Result<Option<Program>, NoMemory>
     requires { length items.now ≤ INPUT_LIMIT }
     ensures bodies { IfOk result (λ program. option_map program_view program
         ≡ (if all_fit bytes.now [] (map item_of items.now) then Some (bodies_of bytes.now (map item_of items.now)) else None)) }

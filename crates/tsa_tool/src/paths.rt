@@ -3,7 +3,7 @@ ghost use Rattle.std.specs.Prelude.{◌≡◌, ◌≤◌, ◌==◌, map, length,
 ghost use Rattle.std.specs.List.{list_any, prefix_len};
 ghost use Rattle.std.specs.Option.{option_map};
 ghost use Rattle.tsa_base.specs.declared.limits.TheConstants.{CAPABILITY_LIMIT};
-ghost use Rattle.tsa_tree.specs.Items.{item_of};
+ghost use Rattle.tsa_tool.specs.Items.{item_of};
 ghost use Rattle.tsa_tool.specs.Rules.{global};
 ghost use Rattle.tsa_tool.specs.Resolved.{code_of};
 ghost use Rattle.tsa_tool.specs.Warnings.{paths_of, comes_before, sorted_by};
@@ -11,10 +11,10 @@ ghost use Rattle.tsa_tool.specs.Judging.{lock_of};
 ghost use Rattle.tsa_tool.specs.Lines.{path_text};
 
 use crate::program::{BodyPoint, PointAction};
+use crate::thin::ThinItem;
 use std::alloc::Global;
 use std::cmp::Ordering;
 use tsa_base::{CAPABILITY_LIMIT, NoMemory};
-use tsa_tree::ThinItem;
 
 fn lock_of(action: PointAction) -> Option<u32>
     ensures { result ≡ lock_of action }
@@ -55,7 +55,7 @@ pub fn paths_of(alloc: Global, points: &[BodyPoint]) -> Result<Option<Vec<u32>>,
 
 /// The text of a path: the name of its global, none where there is no such global.
 #[tactic(auto, unfolding(crate::specs::Lines::path_text))]
-pub fn path_text<'s>(bytes: &'s [u8], items: &[ThinItem], path: u32) -> &'s [u8]
+pub fn path_text<'s>(bytes: &'s [u8], items: &[ThinItem<'_>], path: u32) -> &'s [u8]
     ensures { result.now ≡ path_text bytes.now (map item_of items.now) (global path) }
 {
     match items.get(path as usize) {
@@ -69,7 +69,7 @@ pub fn path_text<'s>(bytes: &'s [u8], items: &[ThinItem], path: u32) -> &'s [u8]
     }
 }
 
-fn comes_before(bytes: &[u8], items: &[ThinItem], first: u32, second: u32) -> bool
+fn comes_before(bytes: &[u8], items: &[ThinItem<'_>], first: u32, second: u32) -> bool
     ensures { result ≡ comes_before (path_text bytes.now (map item_of items.now) (global first)) (path_text bytes.now (map item_of items.now) (global second)) }
 {
     match path_text(bytes, items, first).cmp(path_text(bytes, items, second)) {
@@ -79,7 +79,7 @@ fn comes_before(bytes: &[u8], items: &[ThinItem], first: u32, second: u32) -> bo
 }
 
 // How many of the paths stay in front of another one.
-fn place_among(bytes: &[u8], items: &[ThinItem], sorted: &[u32], path: u32) -> usize
+fn place_among(bytes: &[u8], items: &[ThinItem<'_>], sorted: &[u32], path: u32) -> usize
     ensures place { result ≡ prefix_len (λ other. not (comes_before (path_text bytes.now (map item_of items.now) (global path)) (path_text bytes.now (map item_of items.now) (global other)))) sorted.now }
     ensures within { result ≤ length sorted.now }
 {
@@ -93,7 +93,7 @@ fn place_among(bytes: &[u8], items: &[ThinItem], sorted: &[u32], path: u32) -> u
 pub fn sorted_paths(
     alloc: Global,
     bytes: &[u8],
-    items: &[ThinItem],
+    items: &[ThinItem<'_>],
     paths: &[u32],
 ) -> Result<Vec<u32>, NoMemory>
     ensures { IfOk result (λ sorted. map global sorted.items ≡ sorted_by (path_text bytes.now (map item_of items.now)) (map global paths.now)) }

@@ -4,15 +4,15 @@ ghost use Rattle.std.specs.Map.{update};
 ghost use Rattle.std.specs.Option.{option_map};
 ghost use Rattle.std.specs.Str.{bytes_eq};
 ghost use Rattle.tsa_base.specs.Spans.{span_text};
-ghost use Rattle.tsa_tree.specs.Items.{item_of};
+ghost use Rattle.tsa_tool.specs.Items.{item_of};
 ghost use Rattle.tsa_tool.specs.Names.{has_struct, is_new, named, meaning, head_fits};
 ghost use Rattle.tsa_tool.specs.Lines.{struct_place};
 ghost use Rattle.tsa_tool.specs.Scopes.{place_in, Knows};
 
+use crate::thin::ThinItem;
 use std::alloc::Global;
 use std::collections::HashMap;
 use tsa_base::{NoMemory, Span};
-use tsa_tree::ThinItem;
 
 /// The places of the structs, and of the globals and functions, among the items before.
 #[derive(Drop)]
@@ -58,7 +58,7 @@ pub fn same_text(bytes: &[u8], first: Span, second: Span) -> bool
 }
 
 /// Some struct before has the tag.
-pub fn has_struct(scope: &Scope<'_>, bytes: &[u8], before: &[ThinItem], tag: Span) -> bool
+pub fn has_struct(scope: &Scope<'_>, bytes: &[u8], before: &[ThinItem<'_>], tag: Span) -> bool
     requires { Knows scope.now bytes.now (map item_of before.now) }
     ensures { result ≡ has_struct bytes.now (map item_of before.now) tag }
 {
@@ -66,7 +66,12 @@ pub fn has_struct(scope: &Scope<'_>, bytes: &[u8], before: &[ThinItem], tag: Spa
 }
 
 /// The place of the global or the function of a name.
-pub fn place_named(scope: &Scope<'_>, bytes: &[u8], before: &[ThinItem], name: Span) -> Option<u32>
+pub fn place_named(
+    scope: &Scope<'_>,
+    bytes: &[u8],
+    before: &[ThinItem<'_>],
+    name: Span,
+) -> Option<u32>
     requires { Knows scope.now bytes.now (map item_of before.now) }
     ensures { result ≡ named bytes.now (map item_of before.now) (span_text bytes.now name) }
 {
@@ -74,7 +79,7 @@ pub fn place_named(scope: &Scope<'_>, bytes: &[u8], before: &[ThinItem], name: S
 }
 
 /// No global and no function before has the name.
-pub fn is_new(scope: &Scope<'_>, bytes: &[u8], before: &[ThinItem], name: Span) -> bool
+pub fn is_new(scope: &Scope<'_>, bytes: &[u8], before: &[ThinItem<'_>], name: Span) -> bool
     requires { Knows scope.now bytes.now (map item_of before.now) }
     ensures { result ≡ is_new bytes.now (map item_of before.now) name }
 {
@@ -83,12 +88,12 @@ pub fn is_new(scope: &Scope<'_>, bytes: &[u8], before: &[ThinItem], name: Span) 
 
 /// The global or the function of a name.
 #[tactic(auto, unfolding(crate::specs::Names::meaning))]
-pub fn meaning<'i>(
+pub fn meaning<'i, 'w>(
     scope: &Scope<'_>,
     bytes: &[u8],
-    before: &'i [ThinItem],
+    before: &'i [ThinItem<'w>],
     name: Span,
-) -> Option<&'i ThinItem>
+) -> Option<&'i ThinItem<'w>>
     requires { Knows scope.now bytes.now (map item_of before.now) }
     ensures { option_map (λ item. item_of item.now) result ≡ meaning bytes.now (map item_of before.now) (span_text bytes.now name) }
 {
@@ -100,8 +105,8 @@ pub fn meaning<'i>(
 pub fn enter<'s>(
     scope: &mut Scope<'s>,
     bytes: &'s [u8],
-    before: &[ThinItem],
-    item: &ThinItem,
+    before: &[ThinItem<'_>],
+    item: &ThinItem<'_>,
 ) -> Result<(), NoMemory>
     requires bound { length before.now < 2 ^ 32 }
     requires knows { Knows scope.old bytes.now (map item_of before.now) }
@@ -118,7 +123,7 @@ pub fn enter<'s>(
     }
 }
 
-fn struct_place(scope: &Scope<'_>, bytes: &[u8], items: &[ThinItem], item: &ThinItem) -> u32
+fn struct_place(scope: &Scope<'_>, bytes: &[u8], items: &[ThinItem<'_>], item: &ThinItem<'_>) -> u32
     requires { Knows scope.now bytes.now (map item_of items.now) }
     ensures { result ≡ struct_place bytes.now (map item_of items.now) (item_of item.now) }
 {
@@ -133,7 +138,7 @@ pub fn struct_places(
     alloc: Global,
     scope: &Scope<'_>,
     bytes: &[u8],
-    items: &[ThinItem],
+    items: &[ThinItem<'_>],
 ) -> Result<Vec<u32>, NoMemory>
     requires { Knows scope.now bytes.now (map item_of items.now) }
     ensures { IfOk result (λ places. places.items ≡ map (struct_place bytes.now (map item_of items.now)) (map item_of items.now)) }

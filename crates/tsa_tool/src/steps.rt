@@ -1,9 +1,9 @@
 //! The statements of a body, with their names resolved.
-ghost use Rattle.std.specs.Prelude.{◌≡◌, Some, None, map, option_and_then, IfSome, IfOk, if◌then◌else◌};
+ghost use Rattle.std.specs.Prelude.{◌≡◌, ℕ, Some, None, map, option_and_then, IfSome, IfOk, if◌then◌else◌};
 ghost use Rattle.std.specs.List.{list_all};
 ghost use Rattle.std.specs.Option.{option_map};
 ghost use Rattle.tsa_base.specs.Spans.{span_text};
-ghost use Rattle.tsa_tree.specs.Items.{item_of};
+ghost use Rattle.tsa_tool.specs.Items.{item_of};
 ghost use Rattle.tsa_tool.specs.Names.{means, meaning, is_mutex_of, function_tag, step_fits};
 ghost use Rattle.tsa_tool.specs.Program.{kind_of, step_place, action_of, unit_body};
 ghost use Rattle.tsa_tool.specs.Resolved.{point_action, points_view, body_points, body_view};
@@ -12,15 +12,15 @@ ghost use Rattle.tsa_tool.specs.Scopes.{Knows};
 
 use crate::program::{BodyCode, BodyPoint, PointAction};
 use crate::scope::{Scope, meaning, place_named, same_text};
+use crate::thin::{ThinItem, ThinStep};
 use std::alloc::Global;
 use tsa_base::{NoMemory, Span};
-use tsa_tree::{ThinItem, ThinStep};
 
 /// The tag of a lock function, and whether it takes.
 fn function_named(
     scope: &Scope<'_>,
     bytes: &[u8],
-    before: &[ThinItem],
+    before: &[ThinItem<'_>],
     name: Span,
 ) -> Option<(Span, bool)>
     requires { Knows scope.now bytes.now (map item_of before.now) }
@@ -34,7 +34,13 @@ fn function_named(
 }
 
 /// A mutex of this struct.
-fn is_mutex_of(scope: &Scope<'_>, bytes: &[u8], before: &[ThinItem], tag: Span, name: Span) -> bool
+fn is_mutex_of(
+    scope: &Scope<'_>,
+    bytes: &[u8],
+    before: &[ThinItem<'_>],
+    tag: Span,
+    name: Span,
+) -> bool
     requires { Knows scope.now bytes.now (map item_of before.now) }
     ensures { result ≡ means (is_mutex_of bytes.now (span_text bytes.now tag)) (meaning bytes.now (map item_of before.now) (span_text bytes.now name)) }
 {
@@ -48,13 +54,13 @@ fn is_mutex_of(scope: &Scope<'_>, bytes: &[u8], before: &[ThinItem], tag: Span, 
 fn call_action(
     scope: &Scope<'_>,
     bytes: &[u8],
-    before: &[ThinItem],
+    before: &[ThinItem<'_>],
     callee: Span,
     lock: Span,
 ) -> Option<PointAction>
     requires { Knows scope.now bytes.now (map item_of before.now) }
-    ensures { option_map point_action result
-        ≡ (if step_fits bytes.now (map item_of before.now) (ThinStep.Call callee lock) then Some (action_of bytes.now (map item_of before.now) (ThinStep.Call callee lock)) else None) }
+    ensures { (place : ℕ) → option_map point_action result
+        ≡ (if step_fits bytes.now (map item_of before.now) (ThinStep.Call place callee lock) then Some (action_of bytes.now (map item_of before.now) (ThinStep.Call place callee lock)) else None) }
 {
     let (tag, takes) = function_named(scope, bytes, before, callee)?;
     if !is_mutex_of(scope, bytes, before, tag, lock) {
@@ -72,13 +78,13 @@ fn call_action(
 fn write_action(
     scope: &Scope<'_>,
     bytes: &[u8],
-    before: &[ThinItem],
+    before: &[ThinItem<'_>],
     target: Span,
     value: u32,
 ) -> Option<PointAction>
     requires { Knows scope.now bytes.now (map item_of before.now) }
-    ensures { option_map point_action result
-        ≡ (if step_fits bytes.now (map item_of before.now) (ThinStep.Assign target value) then Some (action_of bytes.now (map item_of before.now) (ThinStep.Assign target value)) else None) }
+    ensures { (place : ℕ) → option_map point_action result
+        ≡ (if step_fits bytes.now (map item_of before.now) (ThinStep.Assign place target value) then Some (action_of bytes.now (map item_of before.now) (ThinStep.Assign place target value)) else None) }
 {
     match meaning(scope, bytes, before, target)? {
         ThinItem::Number { guard: None, .. } => Some(PointAction::Write { guard: None }),
@@ -95,7 +101,7 @@ fn write_action(
 fn step_action(
     scope: &Scope<'_>,
     bytes: &[u8],
-    before: &[ThinItem],
+    before: &[ThinItem<'_>],
     step: &ThinStep,
 ) -> Option<PointAction>
     requires { Knows scope.now bytes.now (map item_of before.now) }
@@ -103,8 +109,10 @@ fn step_action(
         ≡ (if step_fits bytes.now (map item_of before.now) step.now then Some (action_of bytes.now (map item_of before.now) step.now) else None) }
 {
     match step {
-        ThinStep::Call { callee, lock } => call_action(scope, bytes, before, *callee, *lock),
-        ThinStep::Assign { target, value } => write_action(scope, bytes, before, *target, *value),
+        ThinStep::Call { callee, lock, .. } => call_action(scope, bytes, before, *callee, *lock),
+        ThinStep::Assign { target, value, .. } => write_action(
+            scope, bytes, before, *target, *value,
+        ),
     }
 }
 
@@ -112,15 +120,15 @@ fn step_place(step: &ThinStep) -> u32
     ensures { result ≡ step_place step.now }
 {
     match step {
-        ThinStep::Call { callee, .. } => callee.from,
-        ThinStep::Assign { target, .. } => target.from,
+        ThinStep::Call { place, .. } => *place,
+        ThinStep::Assign { place, .. } => *place,
     }
 }
 
 fn step_point(
     scope: &Scope<'_>,
     bytes: &[u8],
-    before: &[ThinItem],
+    before: &[ThinItem<'_>],
     step: &ThinStep,
 ) -> Option<BodyPoint>
     requires { Knows scope.now bytes.now (map item_of before.now) }
@@ -139,7 +147,7 @@ fn points(
     alloc: Global,
     scope: &Scope<'_>,
     bytes: &[u8],
-    before: &[ThinItem],
+    before: &[ThinItem<'_>],
     steps: &[ThinStep],
     end: Span,
 ) -> Result<Option<Vec<BodyPoint>>, NoMemory>
@@ -167,7 +175,7 @@ pub fn body_code(
     alloc: Global,
     scope: &Scope<'_>,
     bytes: &[u8],
-    before: &[ThinItem],
+    before: &[ThinItem<'_>],
     name: Span,
     steps: &[ThinStep],
     end: Span,

@@ -1,6 +1,6 @@
 use Rattle.std.proofs.Common.{◌≡◌, ◌≤◌, ◌+◌, ◌++◌, map, drop, vec_len}
 use Rattle.std.specs.List.{flat_map}
-use Rattle.tsa_tree.specs.Items.{item_of}
+use Rattle.tsa_tool.specs.Items.{item_of}
 use Rattle.tsa_tool.specs.Resolved.{body_view}
 use Rattle.tsa_tool.specs.Judging.{warning_view}
 use Rattle.tsa_tool.specs.Lines.{warning_line}

@@ -1,5 +1,5 @@
 use Rattle.std.proofs.Common.{◌≡◌, ◌+◌, ◌++◌, true, map, take, drop, sym, ◌∙◌, ap, rules}
-use Rattle.tsa_tree.specs.Items.{item_of}
+use Rattle.tsa_tool.specs.Items.{item_of}
 use Rattle.tsa_tool.specs.Names.{all_fit}
 use Rattle.tsa_tool.specs.Program.{bodies_behind}
 use Rattle.tsa_tool.specs.Resolved.{body_view}

@@ -1,7 +1,7 @@
 use Rattle.std.proofs.Common.{◌≡◌, ◌+◌, ◌-◌, ◌<◌, ◌++◌, ◌∷◌, not, length, map, take, drop, get_or, refl, sym, ap, ◌∙◌, arith}
 use Rattle.std.proofs.lemmas.Grind.{common_steps}
 use Rattle.std.specs.List.{prefix_len}
-use Rattle.tsa_tree.specs.Items.{item_of}
+use Rattle.tsa_tool.specs.Items.{item_of}
 use Rattle.tsa_tool.specs.Rules.{global}
 use Rattle.tsa_tool.specs.Lines.{path_text}
 use Rattle.tsa_tool.specs.Warnings.{comes_before, insert_by, sorted_by}

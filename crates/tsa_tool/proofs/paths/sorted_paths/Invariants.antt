@@ -1,5 +1,5 @@
 use Rattle.std.proofs.Common.{◌≡◌, ◌-◌, length, map, drop}
-use Rattle.tsa_tree.specs.Items.{item_of}
+use Rattle.tsa_tool.specs.Items.{item_of}
 use Rattle.tsa_tool.specs.Rules.{global}
 use Rattle.tsa_tool.specs.Lines.{path_text}
 use Rattle.tsa_tool.specs.Warnings.{sorted_by}

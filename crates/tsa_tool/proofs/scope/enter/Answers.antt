@@ -1,6 +1,6 @@
 use Rattle.std.proofs.Common.{refl, map}
 use Rattle.std.proofs.lemmas.List.{length-map}
-use Rattle.tsa_tree.specs.Items.{item_of, mutex, number, lock, lock_function, body}
+use Rattle.tsa_tool.specs.Items.{item_of, mutex, number, lock, lock_function, body}
 use Rattle.tsa_tool.specs.declared.scope.Scope.{Scope}
 use Rattle.tsa_tool.specs.Names.{head_fits}
 use Rattle.tsa_tool.proofs.Scopes.{on_ok, and_first, number_new, knows_name, knows_tag}
@@ -10,7 +10,7 @@ pub returns-in-Lock : goal.returns-in-Lock
 unfolding head_fits
 returns-in-Lock c =
     let next : Scope = record { tags = c.put.new.table; names = c.args.scope.now.names } in
-    rw c.in-Lock.is (on_ok _ _ c.put.result c.put.ensures (λ updated. knows_tag c.args.scope.now next c.args.bytes.now (map item_of c.args.before.now) (lock c.in-Lock.kind c.in-Lock.tag c.in-Lock.member) c.in-Lock.tag
+    rw c.in-Lock.is (on_ok _ _ c.put.result c.put.ensures (λ updated. knows_tag c.args.scope.now next c.args.bytes.now (map item_of c.args.before.now) (lock c.in-Lock.kind.now c.in-Lock.tag c.in-Lock.member) c.in-Lock.tag
     c.requires.knows refl (rw c.in-Lock.is at c.requires.fits) (λ q. refl) (λ q. refl) (λ q. rw (length-map c.args.before.now item_of) (updated q))))
 
 pub returns-in-LockFunction : goal.returns-in-LockFunction

@@ -1,5 +1,5 @@
 use Rattle.std.proofs.Common.{◌≡◌, map, take}
-use Rattle.tsa_tree.specs.Items.{item_of}
+use Rattle.tsa_tool.specs.Items.{item_of}
 use Rattle.tsa_tool.specs.Lines.{struct_place}
 use Rattle.tsa_tool.proofs.scope.struct_places.Given as goal
 

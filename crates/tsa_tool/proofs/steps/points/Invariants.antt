@@ -1,6 +1,6 @@
 use Rattle.std.proofs.Common.{◌≡◌, true, map, take}
 use Rattle.std.specs.List.{list_all}
-use Rattle.tsa_tree.specs.Items.{item_of}
+use Rattle.tsa_tool.specs.Items.{item_of}
 use Rattle.tsa_tool.specs.Names.{step_fits}
 use Rattle.tsa_tool.specs.Program.{step_place, action_of}
 use Rattle.tsa_tool.specs.Resolved.{point_action}

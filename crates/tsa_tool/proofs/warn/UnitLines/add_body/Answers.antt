@@ -1,7 +1,7 @@
 use Rattle.std.proofs.Common.{◌≡◌, length, map, rules}
 use Rattle.std.specs.Prelude.{nat_le}
 use Rattle.tsa_base.specs.declared.limits.TheConstants.{CAPABILITY_LIMIT}
-use Rattle.tsa_tree.specs.Items.{item_of}
+use Rattle.tsa_tool.specs.Items.{item_of}
 use Rattle.tsa_tool.specs.Rules.{global}
 use Rattle.tsa_tool.specs.Resolved.{code_of}
 use Rattle.tsa_tool.specs.Warnings.{paths_of, sorted_by}
