@@ -11,6 +11,7 @@ use tsa_lex::lex;
 use tsa_unit::parse;
 
 // The actions of all bodies in order, or `None` where the names don't fit.
+#[tactic(auto, using(tsa_unit::proofs::Near::lexed_near))]
 fn actions_of(
     rt: &impl Abort,
     alloc: Global,

@@ -2,7 +2,7 @@
 //! memory.
 
 use crate::shown::{put_points, put_simple, put_stmts};
-use crate::tests::tokens_of;
+use crate::tests::{refusal_of, tokens_of};
 use crate::{parse, read_simple};
 use bumpalo::Bump;
 use std::alloc::Global;
@@ -48,17 +48,20 @@ const BANK_POINTS: &[u8] = b"0 declare done = 0
 11 end }
 ";
 
-// What the first tokens of the bank are.
+// What the text of the bank is up to behind so many tokens.
 fn broken_off(alloc: Global, count: usize) -> Result<Option<SyntaxRefusal>, Fail> {
-    let bump = Bump::new(alloc);
     let tokens = tokens_of(alloc, BANK)?;
-    let Some(front) = tokens.get(..count) else {
-        return Err(Fail::new("the bank has fewer tokens"));
-    };
-    match parse(alloc, &bump, front) {
-        Ok(_) => Ok(None),
-        Err(refusal) => Ok(Some(refusal)),
+    let mut end = 0;
+    if count > 0 {
+        let Some(last) = tokens.get(count - 1) else {
+            return Err(Fail::new("the bank has fewer tokens"));
+        };
+        end = last.span.to as usize;
     }
+    let Some(text) = BANK.get(..end) else {
+        return Err(Fail::new("the bank is shorter"));
+    };
+    refusal_of(alloc, text)
 }
 
 // What is before any token is a unit where an item ends there, and else it is refused at its end.
