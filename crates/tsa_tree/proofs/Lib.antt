@@ -61,3 +61,4 @@ pub mod DeclarationExamples
 pub mod StatementExamples
 pub mod UnitExamples
 pub mod PointExamples
+pub mod FunctionLaws

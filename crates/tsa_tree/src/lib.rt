@@ -4,6 +4,7 @@
 pub mod attr;
 pub mod decl;
 pub mod expr;
+mod functions;
 pub mod item;
 mod laws;
 mod parsed;

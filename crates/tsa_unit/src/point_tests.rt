@@ -237,3 +237,35 @@ fn a_simple_statement_ends_before_its_semicolon(rt: HostRuntime) -> Result<(), F
     }
     Ok(())
 }
+
+// Declared, defined and declared again, in another order than they have bodies.
+const DECLARED: &[u8] = b"int g;
+void first(void);
+void second(void) { g = 1; ; }
+void first(void) { }
+void second(void);
+void third(void);
+";
+
+// The byte where the function of a number has its name, with how many points it has.
+fn function_of(alloc: Global, number: u32) -> Result<Option<(u32, u32)>, Fail> {
+    let bump = Bump::new(alloc);
+    let tokens = tokens_of(alloc, DECLARED)?;
+    let parsed = parse(alloc, &bump, &tokens)?;
+    match parsed.unit().function(number) {
+        Some(function) if function.points.len() <= 4096 => {
+            Ok(Some((function.name.span.from, function.count())))
+        }
+        Some(_) => Err(Fail::new("a body has too many points")),
+        None => Ok(None),
+    }
+}
+
+#[test]
+fn functions_are_numbered_by_their_first_declarations(rt: HostRuntime) -> Result<(), Fail> {
+    let rows = [Some((61, 1)), Some((30, 3)), Some((101, 0)), None];
+    for (number, expected) in rows.iter().enumerate() {
+        assert_eq!(rt; function_of(rt.alloc(), number as u32)?, *expected);
+    }
+    Ok(())
+}
