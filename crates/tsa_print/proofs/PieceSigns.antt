@@ -1,5 +1,5 @@
 -- What the grammar sees at a token that is a piece of a canonical text.
-use Rattle.std.proofs.Common.{ℕ, suc, ◌+◌, ◌≡◌, ◌∙◌, ap, subst, refl, arith, List, [], ◌∷◌, ◌++◌, Bool, true, false, ◌&&◌, not, Some, length, slice_get, codes, add-zero}
+use Rattle.std.proofs.Common.{ℕ, suc, ◌+◌, ◌≡◌, ◌∙◌, ap, subst, refl, arith, List, [], ◌∷◌, ◌++◌, Bool, true, false, ◌&&◌, not, Some, None, length, slice_get, codes, add-zero}
 use Rattle.std.proofs.lemmas.Bool.{and_parts, not-true}
 use Rattle.std.specs.List.{list_all, list_any}
 use Rattle.std.specs.Str.{bytes_eq}
@@ -8,13 +8,17 @@ use Rattle.tsa_base.specs.Tokens.{Lexeme}
 use Rattle.tsa_base.specs.Words.{is_reserved}
 use Rattle.tsa_tree.specs.declared.expr.UnaryOp.{UnaryOp}
 use Rattle.tsa_tree.specs.declared.expr.UnaryOp.TheVariants as prefix_op
+use Rattle.tsa_tree.specs.declared.expr.BinaryOp.{BinaryOp}
 use Rattle.tsa_tree.specs.declared.expr.BinaryOp.TheVariants as op
+use Rattle.std.specs.declared.option.Option.{Option}
 use Rattle.tsa_tree.specs.declared.sign.Sign.{Sign}
 use Rattle.tsa_tree.specs.declared.sign.Sign.TheVariants as sign
 use Rattle.tsa_tree.specs.Expressions.{Identifier, plain_name, nowhere}
 use Rattle.tsa_tree.specs.Signs.{Aliases, punctuator_signs, punctuator_sign, word_signs, word_sign, sign_of, sign_in, sign_at, identifier_in, identifier_at, value_of, unsigned_of, kind_in, value_at, unsigned_at}
 use Rattle.tsa_tree.specs.Signs as signs
-use Rattle.tsa_print.specs.Canonical.{Piece, word, numeral, operator, prefix, access, comma, open_parenthesis, open_call, close_parenthesis, open_bracket, close_bracket, piece_text}
+use Rattle.tsa_print.specs.declared.mark.Mark.TheVariants as marks
+use Rattle.tsa_print.specs.Canonical.{Piece, word, numeral, quoted, operator, prefix, assigned, access, mark, piece_text, assign_text}
+use Rattle.tsa_print.specs.SoundUnits.{is_assigning}
 use Rattle.tsa_print.specs.Writable.{is_name}
 use Rattle.tsa_tree.proofs.ReservedWords.{not_listed}
 use Rattle.tsa_print.proofs.Apart.{piece_kind, AreTokens}
@@ -84,12 +88,24 @@ piece_sign aliases (numeral value unsigned) = sign.Number
 piece_sign aliases (operator o) = sign.Operator o
 piece_sign aliases (prefix o) = prefix_sign o
 piece_sign aliases (access arrow) = access_sign arrow
-piece_sign aliases comma = sign.Comma
-piece_sign aliases open_parenthesis = sign.Open
-piece_sign aliases open_call = sign.Open
-piece_sign aliases close_parenthesis = sign.Close
-piece_sign aliases open_bracket = sign.OpenBracket
-piece_sign aliases close_bracket = sign.CloseBracket
+piece_sign aliases (quoted text) = sign.Text
+piece_sign aliases (assigned o) = punctuator_sign (assign_text o)
+piece_sign aliases (mark marks.Comma) = sign.Comma
+piece_sign aliases (mark marks.OpenParenthesis) = sign.Open
+piece_sign aliases (mark marks.OpenCall) = sign.Open
+piece_sign aliases (mark marks.CloseParenthesis) = sign.Close
+piece_sign aliases (mark marks.OpenBracket) = sign.OpenBracket
+piece_sign aliases (mark marks.CloseBracket) = sign.CloseBracket
+piece_sign aliases (mark marks.Star) = sign.Operator op.Times
+piece_sign aliases (mark marks.Colon) = sign.Colon
+piece_sign aliases (mark marks.Semicolon) = sign.Semicolon
+piece_sign aliases (mark marks.ForSemicolon) = sign.Semicolon
+piece_sign aliases (mark marks.OpenBrace) = sign.OpenBrace
+piece_sign aliases (mark marks.CloseBrace) = sign.CloseBrace
+piece_sign aliases (mark marks.OpenBlock) = sign.OpenBrace
+piece_sign aliases (mark marks.CloseBlock) = sign.CloseBrace
+piece_sign aliases (mark marks.CloseBody) = sign.CloseBrace
+piece_sign aliases (mark marks.CloseStruct) = sign.CloseBrace
 
 of_piece : (aliases : Aliases) (p : Piece) → sign_of aliases (piece_kind p) (piece_text p) ≡ piece_sign aliases p
 unfolding sign_of punctuator_sign punctuator_signs
@@ -118,12 +134,24 @@ of_piece aliases (prefix prefix_op.Address) = refl
 of_piece aliases (prefix prefix_op.Follow) = refl
 of_piece aliases (access true) = refl
 of_piece aliases (access false) = refl
-of_piece aliases comma = refl
-of_piece aliases open_parenthesis = refl
-of_piece aliases open_call = refl
-of_piece aliases close_parenthesis = refl
-of_piece aliases open_bracket = refl
-of_piece aliases close_bracket = refl
+of_piece aliases (mark marks.Comma) = refl
+of_piece aliases (mark marks.OpenParenthesis) = refl
+of_piece aliases (mark marks.OpenCall) = refl
+of_piece aliases (mark marks.CloseParenthesis) = refl
+of_piece aliases (mark marks.OpenBracket) = refl
+of_piece aliases (mark marks.CloseBracket) = refl
+of_piece aliases (quoted text) = refl
+of_piece aliases (assigned o) = refl
+of_piece aliases (mark marks.Star) = refl
+of_piece aliases (mark marks.Colon) = refl
+of_piece aliases (mark marks.Semicolon) = refl
+of_piece aliases (mark marks.ForSemicolon) = refl
+of_piece aliases (mark marks.OpenBrace) = refl
+of_piece aliases (mark marks.CloseBrace) = refl
+of_piece aliases (mark marks.OpenBlock) = refl
+of_piece aliases (mark marks.CloseBlock) = refl
+of_piece aliases (mark marks.CloseBody) = refl
+of_piece aliases (mark marks.CloseStruct) = refl
 
 -- a token that is a piece is seen as the piece
 pub seen : (aliases : Aliases) (ts : List Lexeme) (i : ℕ) (p : Piece) → Looks ts i p → sign_at ts aliases i ≡ piece_sign aliases p
@@ -154,6 +182,31 @@ pub access_seen : (aliases : Aliases) (ts : List Lexeme) (i : ℕ) (arrow : Bool
     → signs.access (sign_at ts aliases i) ≡ Some arrow
 access_seen aliases ts i true h = ap signs.access (seen aliases ts i (access true) h)
 access_seen aliases ts i false h = ap signs.access (seen aliases ts i (access false) h)
+
+-- an operator that can stand before the `=` of an assignment makes one of it
+pub assign_seen : (aliases : Aliases) (ts : List Lexeme) (i : ℕ) (o : Option BinaryOp) → is_assigning o ≡ true → Looks ts i (assigned o)
+    → signs.assigns (sign_at ts aliases i) ≡ Some o
+unfolding punctuator_sign punctuator_signs
+assign_seen aliases ts i o is h = ap signs.assigns (seen aliases ts i (assigned o) h) ∙ same o is
+  where
+    same : (o : Option BinaryOp) → is_assigning o ≡ true → signs.assigns (punctuator_sign (assign_text o)) ≡ Some o
+    same None is = refl
+    same (Some op.Plus) is = refl
+    same (Some op.Minus) is = refl
+    same (Some op.Times) is = refl
+    same (Some op.Divide) is = refl
+    same (Some op.Remainder) is = refl
+    same (Some op.BitAnd) is = refl
+    same (Some op.BitOr) is = refl
+    same (Some op.BitXor) is = refl
+    same (Some op.Or) is = cc
+    same (Some op.And) is = cc
+    same (Some op.Equal) is = cc
+    same (Some op.Unequal) is = cc
+    same (Some op.Less) is = cc
+    same (Some op.More) is = cc
+    same (Some op.LessEqual) is = cc
+    same (Some op.MoreEqual) is = cc
 
 -- a word's token has its text, and a numeral's its value and type
 pub named_so : (ts : List Lexeme) (i : ℕ) (name : Identifier) → Looks ts i (word name.text) → plain_name (identifier_at ts i) ≡ plain_name name

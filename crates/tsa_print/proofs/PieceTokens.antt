@@ -1,13 +1,13 @@
 -- Each piece is the next token where it stands, if what follows it may follow it.
-use Rattle.std.proofs.Common.{◌≡◌, ℕ, ◌<◌, Bool, true, false, ◌==◌, List, [], ◌∷◌, ◌++◌, refl, ◌∙◌, arith}
+use Rattle.std.proofs.Common.{◌≡◌, ℕ, ◌<◌, Bool, true, false, ◌==◌, List, [], ◌∷◌, ◌++◌, length, refl, ◌∙◌, arith}
 use Rattle.std.proofs.lemmas.Bool.{and_parts, not-true}
 use Rattle.std.proofs.lemmas.Bool.Decides.{nat_tests}
 use Rattle.std.proofs.lemmas.List.Folds.{list_all-append}
 use Rattle.std.specs.Fmt.{decimal}
 use Rattle.std.specs.List.{list_all}
-use Rattle.tsa_base.specs.declared.token.TokenKind.TheVariants.{Word, Number}
-use Rattle.tsa_base.specs.Bytes.{is_letter, is_digit, is_word_byte, is_run_byte}
-use Rattle.tsa_base.specs.Tokens.{is_token, kind_of}
+use Rattle.tsa_base.specs.declared.token.TokenKind.TheVariants.{Word, Number, Text}
+use Rattle.tsa_base.specs.Bytes.{is_letter, is_digit, is_word_byte, is_run_byte, is_text_byte}
+use Rattle.tsa_base.specs.Tokens.{closes, is_token, kind_of}
 use Rattle.tsa_base.specs.PieceLaws.{IsNextToken}
 use Rattle.tsa_print.specs.Canonical.{Piece, word, numeral}
 use Rattle.tsa_print.specs.Writable.{is_value}
@@ -82,3 +82,28 @@ pub numeral-next : (value : ℕ) (unsigned : Bool) (behind : List ℕ) → is_va
     follows_first (numeral value unsigned) behind ≡ true → IsNextToken (Number value unsigned) (decimal value ++ suffix unsigned) behind
 numeral-next value unsigned behind fits may =
     run_next value unsigned (decimal value) behind fits (decimal-IsDecimal value (value-small value unsigned fits)) may
+
+-- Texts between quotes.
+
+text_closes : (cs : List ℕ) → list_all is_text_byte cs ≡ true → closes is_text_byte 34 (cs ++ 34 ∷ []) ≡ true
+text_closes [] all = refl
+text_closes (c ∷ cs) all =
+    let parts = and_parts (is_text_byte c) (list_all is_text_byte cs) all in
+    let inside : is_text_byte c ≡ true = parts.0 in
+    rw inside (text_closes cs parts.1)
+
+-- nothing goes on behind the quote
+text_ends : (cs : List ℕ) (byte : ℕ) (more : List ℕ) → list_all is_text_byte cs ≡ true → closes is_text_byte 34 ((cs ++ 34 ∷ []) ++ byte ∷ more) ≡ false
+text_ends [] byte more all = let no : (length (byte ∷ more) == 0) ≡ false = grind (arith, nat_tests) in no
+text_ends (c ∷ cs) byte more all =
+    let parts = and_parts (is_text_byte c) (list_all is_text_byte cs) all in
+    let inside : is_text_byte c ≡ true = parts.0 in
+    rw inside (text_ends cs byte more parts.1)
+
+pub text-next : (text behind : List ℕ) → list_all is_text_byte text ≡ true → IsNextToken Text (34 ∷ (text ++ 34 ∷ [])) behind
+unfolding is_token kind_of
+text-next text behind good = record {
+  next = closed-longest (34 ∷ (text ++ 34 ∷ [])) behind (text_closes text good) (λ byte more rest same. text_ends text byte more good)
+      (no-slash 34 ((text ++ 34 ∷ []) ++ behind) refl);
+  of_kind = refl;
+}

@@ -1,7 +1,7 @@
 -- Each punctuator is the next token where it stands, if what follows it may follow it.
-use Rattle.std.proofs.Common.{◌≡◌, ℕ, Bool, true, false, ◌==◌, ◌||◌, List, [], ◌∷◌, ◌++◌, Some, refl, arith}
+use Rattle.std.proofs.Common.{◌≡◌, ℕ, Bool, true, false, ◌==◌, ◌||◌, List, [], ◌∷◌, ◌++◌, Some, None, refl, arith}
+use Rattle.std.proofs.lemmas.Bool.{not-true}
 use Rattle.std.proofs.lemmas.Bool.Decides.{nat_tests}
-use Rattle.std.specs.Prelude.{codes}
 use Rattle.tsa_base.specs.declared.token.TokenKind.TheVariants.{Punct}
 use Rattle.tsa_base.specs.Bytes.{is_letter, is_word_byte}
 use Rattle.tsa_base.specs.Tokens.{is_token, is_punctuator, punctuators, kind_of}
@@ -10,8 +10,12 @@ use Rattle.tsa_tree.specs.declared.expr.UnaryOp.{UnaryOp}
 use Rattle.tsa_tree.specs.declared.expr.UnaryOp.TheVariants as prefix_op
 use Rattle.tsa_tree.specs.declared.expr.BinaryOp.{BinaryOp}
 use Rattle.tsa_tree.specs.declared.expr.BinaryOp.TheVariants as op
-use Rattle.tsa_print.specs.Canonical.{Piece, word, numeral, operator, prefix, access, comma, open_parenthesis, open_call, close_parenthesis, open_bracket, close_bracket, operator_text, prefix_text, piece_text}
-use Rattle.tsa_print.proofs.Apart.{piece_kind, follows, follows_first}
+use Rattle.std.specs.declared.option.Option.{Option}
+use Rattle.tsa_print.specs.declared.mark.Mark.{Mark}
+use Rattle.tsa_print.specs.declared.mark.Mark.TheVariants as marks
+use Rattle.tsa_print.specs.Canonical.{Piece, word, numeral, quoted, operator, prefix, assigned, access, mark, operator_text, prefix_text, assign_text, mark_text, piece_text}
+use Rattle.tsa_print.specs.SoundUnits.{is_assigning}
+use Rattle.tsa_print.proofs.Apart.{piece_kind, is_good, follows, follows_first}
 use Rattle.tsa_print.proofs.Longer.{closed-longest, no-slash, not-of-kind}
 use Rattle.tsa_print.proofs.PieceTokens.{first-follows}
 
@@ -54,41 +58,58 @@ unfolding is_token is_punctuator punctuators
 access_more true d more dot = refl
 access_more false d more dot = simp dot
 
-comma_more : (d : ℕ) (more : List ℕ) → is_token (codes "," ++ d ∷ more) ≡ false
+assigned_blank : (o : Option BinaryOp) (more : List ℕ) → is_assigning o ≡ true → is_token (assign_text o ++ 32 ∷ more) ≡ false
 unfolding is_token is_punctuator punctuators
-comma_more d more = refl
+assigned_blank None more good = refl
+assigned_blank (Some op.Or) more good = absurd (cc)
+assigned_blank (Some op.And) more good = absurd (cc)
+assigned_blank (Some op.BitOr) more good = refl
+assigned_blank (Some op.BitXor) more good = refl
+assigned_blank (Some op.BitAnd) more good = refl
+assigned_blank (Some op.Equal) more good = absurd (cc)
+assigned_blank (Some op.Unequal) more good = absurd (cc)
+assigned_blank (Some op.Less) more good = absurd (cc)
+assigned_blank (Some op.More) more good = absurd (cc)
+assigned_blank (Some op.LessEqual) more good = absurd (cc)
+assigned_blank (Some op.MoreEqual) more good = absurd (cc)
+assigned_blank (Some op.Plus) more good = refl
+assigned_blank (Some op.Minus) more good = refl
+assigned_blank (Some op.Times) more good = refl
+assigned_blank (Some op.Divide) more good = refl
+assigned_blank (Some op.Remainder) more good = refl
 
-open_parenthesis_more : (d : ℕ) (more : List ℕ) → is_token (codes "(" ++ d ∷ more) ≡ false
+mark_more : (k : Mark) (d : ℕ) (more : List ℕ) → follows (mark k) d ≡ true → is_token (mark_text k ++ d ∷ more) ≡ false
 unfolding is_token is_punctuator punctuators
-open_parenthesis_more d more = refl
-
-close_parenthesis_more : (d : ℕ) (more : List ℕ) → is_token (codes ")" ++ d ∷ more) ≡ false
-unfolding is_token is_punctuator punctuators
-close_parenthesis_more d more = refl
-
-open_bracket_more : (d : ℕ) (more : List ℕ) → is_token (codes "[" ++ d ∷ more) ≡ false
-unfolding is_token is_punctuator punctuators
-open_bracket_more d more = refl
-
-close_bracket_more : (d : ℕ) (more : List ℕ) → is_token (codes "]" ++ d ∷ more) ≡ false
-unfolding is_token is_punctuator punctuators
-close_bracket_more d more = refl
+mark_more marks.Comma d more may = refl
+mark_more marks.OpenParenthesis d more may = refl
+mark_more marks.OpenCall d more may = refl
+mark_more marks.CloseParenthesis d more may = refl
+mark_more marks.OpenBracket d more may = refl
+mark_more marks.CloseBracket d more may = refl
+mark_more marks.Star d more may = let other : (d == 61) ≡ false = not-true (d == 61) may in simp other
+mark_more marks.Colon d more may = refl
+mark_more marks.Semicolon d more may = refl
+mark_more marks.ForSemicolon d more may = refl
+mark_more marks.OpenBrace d more may = refl
+mark_more marks.CloseBrace d more may = refl
+mark_more marks.OpenBlock d more may = refl
+mark_more marks.CloseBlock d more may = refl
+mark_more marks.CloseBody d more may = refl
+mark_more marks.CloseStruct d more may = refl
 
 -- a byte that may follow a punctuator makes no longer token of it
-goes_no_further : (p : Piece) (d : ℕ) (more : List ℕ) → piece_kind p ≡ Punct → follows p d ≡ true → is_token (piece_text p ++ d ∷ more) ≡ false
-goes_no_further (word text) d more punct may = absurd (cc)
-goes_no_further (numeral value unsigned) d more punct may = absurd (cc)
-goes_no_further (operator o) d more punct may = let blank : d ≡ 32 = grind (arith, nat_tests) in rw blank (operator_blank o more)
-goes_no_further (prefix o) d more punct may =
+goes_no_further : (p : Piece) (d : ℕ) (more : List ℕ) → piece_kind p ≡ Punct → is_good p ≡ true → follows p d ≡ true →
+    is_token (piece_text p ++ d ∷ more) ≡ false
+goes_no_further (word text) d more punct good may = absurd (cc)
+goes_no_further (numeral value unsigned) d more punct good may = absurd (cc)
+goes_no_further (quoted text) d more punct good may = absurd (cc)
+goes_no_further (operator o) d more punct good may = let blank : d ≡ 32 = grind (arith, nat_tests) in rw blank (operator_blank o more)
+goes_no_further (assigned o) d more punct good may = let blank : d ≡ 32 = grind (arith, nat_tests) in rw blank (assigned_blank o more good)
+goes_no_further (prefix o) d more punct good may =
     prefix_more o d more (not-of-kind follows_prefix d 38 may refl) (not-of-kind follows_prefix d 45 may refl)
     (not-of-kind follows_prefix d 61 may refl) (not-of-kind follows_prefix d 62 may refl)
-goes_no_further (access arrow) d more punct may = access_more arrow d more (not-of-kind is_letter d 46 may refl)
-goes_no_further comma d more punct may = comma_more d more
-goes_no_further open_parenthesis d more punct may = open_parenthesis_more d more
-goes_no_further open_call d more punct may = open_parenthesis_more d more
-goes_no_further close_parenthesis d more punct may = close_parenthesis_more d more
-goes_no_further open_bracket d more punct may = open_bracket_more d more
-goes_no_further close_bracket d more punct may = close_bracket_more d more
+goes_no_further (access arrow) d more punct good may = access_more arrow d more (not-of-kind is_letter d 46 may refl)
+goes_no_further (mark k) d more punct good may = mark_more k d more may
 
 -- The texts alone.
 
@@ -122,20 +143,56 @@ prefix_punct prefix_op.Flip = (refl, refl)
 prefix_punct prefix_op.Address = (refl, refl)
 prefix_punct prefix_op.Follow = (refl, refl)
 
-other_punct : (p : Piece) → piece_kind p ≡ Punct → IsPunct (piece_text p)
+assigned_punct : (o : Option BinaryOp) → is_assigning o ≡ true → IsPunct (assign_text o)
 unfolding is_token is_punctuator punctuators kind_of
-other_punct (word text) punct = absurd (cc)
-other_punct (numeral value unsigned) punct = absurd (cc)
-other_punct (operator o) punct = operator_punct o
-other_punct (prefix o) punct = prefix_punct o
-other_punct (access true) punct = (refl, refl)
-other_punct (access false) punct = (refl, refl)
-other_punct comma punct = (refl, refl)
-other_punct open_parenthesis punct = (refl, refl)
-other_punct open_call punct = (refl, refl)
-other_punct close_parenthesis punct = (refl, refl)
-other_punct open_bracket punct = (refl, refl)
-other_punct close_bracket punct = (refl, refl)
+assigned_punct None good = (refl, refl)
+assigned_punct (Some op.Or) good = absurd (cc)
+assigned_punct (Some op.And) good = absurd (cc)
+assigned_punct (Some op.BitOr) good = (refl, refl)
+assigned_punct (Some op.BitXor) good = (refl, refl)
+assigned_punct (Some op.BitAnd) good = (refl, refl)
+assigned_punct (Some op.Equal) good = absurd (cc)
+assigned_punct (Some op.Unequal) good = absurd (cc)
+assigned_punct (Some op.Less) good = absurd (cc)
+assigned_punct (Some op.More) good = absurd (cc)
+assigned_punct (Some op.LessEqual) good = absurd (cc)
+assigned_punct (Some op.MoreEqual) good = absurd (cc)
+assigned_punct (Some op.Plus) good = (refl, refl)
+assigned_punct (Some op.Minus) good = (refl, refl)
+assigned_punct (Some op.Times) good = (refl, refl)
+assigned_punct (Some op.Divide) good = (refl, refl)
+assigned_punct (Some op.Remainder) good = (refl, refl)
+
+mark_punct : (k : Mark) → IsPunct (mark_text k)
+unfolding is_token is_punctuator punctuators kind_of
+mark_punct marks.Comma = (refl, refl)
+mark_punct marks.OpenParenthesis = (refl, refl)
+mark_punct marks.OpenCall = (refl, refl)
+mark_punct marks.CloseParenthesis = (refl, refl)
+mark_punct marks.OpenBracket = (refl, refl)
+mark_punct marks.CloseBracket = (refl, refl)
+mark_punct marks.Star = (refl, refl)
+mark_punct marks.Colon = (refl, refl)
+mark_punct marks.Semicolon = (refl, refl)
+mark_punct marks.ForSemicolon = (refl, refl)
+mark_punct marks.OpenBrace = (refl, refl)
+mark_punct marks.CloseBrace = (refl, refl)
+mark_punct marks.OpenBlock = (refl, refl)
+mark_punct marks.CloseBlock = (refl, refl)
+mark_punct marks.CloseBody = (refl, refl)
+mark_punct marks.CloseStruct = (refl, refl)
+
+other_punct : (p : Piece) → piece_kind p ≡ Punct → is_good p ≡ true → IsPunct (piece_text p)
+unfolding is_token is_punctuator punctuators kind_of
+other_punct (word text) punct good = absurd (cc)
+other_punct (numeral value unsigned) punct good = absurd (cc)
+other_punct (quoted text) punct good = absurd (cc)
+other_punct (operator o) punct good = operator_punct o
+other_punct (prefix o) punct good = prefix_punct o
+other_punct (assigned o) punct good = assigned_punct o good
+other_punct (access true) punct good = (refl, refl)
+other_punct (access false) punct good = (refl, refl)
+other_punct (mark k) punct good = mark_punct k
 
 -- No comment.
 
@@ -168,25 +225,61 @@ prefix_apart prefix_op.Flip behind = no-slash 126 behind refl
 prefix_apart prefix_op.Address behind = no-slash 38 behind refl
 prefix_apart prefix_op.Follow behind = no-slash 42 behind refl
 
-punct_apart : (p : Piece) (behind : List ℕ) → piece_kind p ≡ Punct → follows_first p behind ≡ true → begins_comment (piece_text p ++ behind) ≡ false
-punct_apart (word text) behind punct may = absurd (cc)
-punct_apart (numeral value unsigned) behind punct may = absurd (cc)
-punct_apart (operator o) behind punct may = operator_apart o behind may
-punct_apart (prefix o) behind punct may = prefix_apart o behind
-punct_apart (access true) behind punct may = refl
-punct_apart (access false) behind punct may = no-slash 46 behind refl
-punct_apart comma behind punct may = no-slash 44 behind refl
-punct_apart open_parenthesis behind punct may = no-slash 40 behind refl
-punct_apart open_call behind punct may = no-slash 40 behind refl
-punct_apart close_parenthesis behind punct may = no-slash 41 behind refl
-punct_apart open_bracket behind punct may = no-slash 91 behind refl
-punct_apart close_bracket behind punct may = no-slash 93 behind refl
+assigned_apart : (o : Option BinaryOp) (behind : List ℕ) → is_assigning o ≡ true → begins_comment (assign_text o ++ behind) ≡ false
+assigned_apart None behind good = no-slash 61 behind refl
+assigned_apart (Some op.Or) behind good = absurd (cc)
+assigned_apart (Some op.And) behind good = absurd (cc)
+assigned_apart (Some op.BitOr) behind good = refl
+assigned_apart (Some op.BitXor) behind good = refl
+assigned_apart (Some op.BitAnd) behind good = refl
+assigned_apart (Some op.Equal) behind good = absurd (cc)
+assigned_apart (Some op.Unequal) behind good = absurd (cc)
+assigned_apart (Some op.Less) behind good = absurd (cc)
+assigned_apart (Some op.More) behind good = absurd (cc)
+assigned_apart (Some op.LessEqual) behind good = absurd (cc)
+assigned_apart (Some op.MoreEqual) behind good = absurd (cc)
+assigned_apart (Some op.Plus) behind good = refl
+assigned_apart (Some op.Minus) behind good = refl
+assigned_apart (Some op.Times) behind good = refl
+assigned_apart (Some op.Divide) behind good = refl
+assigned_apart (Some op.Remainder) behind good = refl
 
-pub punct-next : (p : Piece) (behind : List ℕ) → piece_kind p ≡ Punct → follows_first p behind ≡ true → IsNextToken Punct (piece_text p) behind
-punct-next p behind punct may =
-    let alone = other_punct p punct in
+mark_apart : (k : Mark) (behind : List ℕ) → begins_comment (mark_text k ++ behind) ≡ false
+mark_apart marks.Comma behind = no-slash 44 behind refl
+mark_apart marks.OpenParenthesis behind = no-slash 40 behind refl
+mark_apart marks.OpenCall behind = no-slash 40 behind refl
+mark_apart marks.CloseParenthesis behind = no-slash 41 behind refl
+mark_apart marks.OpenBracket behind = no-slash 91 behind refl
+mark_apart marks.CloseBracket behind = no-slash 93 behind refl
+mark_apart marks.Star behind = no-slash 42 behind refl
+mark_apart marks.Colon behind = no-slash 58 behind refl
+mark_apart marks.Semicolon behind = no-slash 59 behind refl
+mark_apart marks.ForSemicolon behind = no-slash 59 behind refl
+mark_apart marks.OpenBrace behind = no-slash 123 behind refl
+mark_apart marks.CloseBrace behind = no-slash 125 behind refl
+mark_apart marks.OpenBlock behind = no-slash 123 behind refl
+mark_apart marks.CloseBlock behind = no-slash 125 behind refl
+mark_apart marks.CloseBody behind = no-slash 125 behind refl
+mark_apart marks.CloseStruct behind = no-slash 125 behind refl
+
+punct_apart : (p : Piece) (behind : List ℕ) → piece_kind p ≡ Punct → is_good p ≡ true → follows_first p behind ≡ true →
+    begins_comment (piece_text p ++ behind) ≡ false
+punct_apart (word text) behind punct good may = absurd (cc)
+punct_apart (numeral value unsigned) behind punct good may = absurd (cc)
+punct_apart (quoted text) behind punct good may = absurd (cc)
+punct_apart (operator o) behind punct good may = operator_apart o behind may
+punct_apart (prefix o) behind punct good may = prefix_apart o behind
+punct_apart (assigned o) behind punct good may = assigned_apart o behind good
+punct_apart (access true) behind punct good may = refl
+punct_apart (access false) behind punct good may = no-slash 46 behind refl
+punct_apart (mark k) behind punct good may = mark_apart k behind
+
+pub punct-next : (p : Piece) (behind : List ℕ) → piece_kind p ≡ Punct → is_good p ≡ true → follows_first p behind ≡ true →
+    IsNextToken Punct (piece_text p) behind
+punct-next p behind punct good may =
+    let alone = other_punct p punct good in
     record {
       next = closed-longest (piece_text p) behind alone.0
-          (λ byte more rest same. goes_no_further p byte more punct (first-follows p behind byte rest may same)) (punct_apart p behind punct may);
+          (λ byte more rest same. goes_no_further p byte more punct good (first-follows p behind byte rest may same)) (punct_apart p behind punct good may);
       of_kind = alone.1;
     }

@@ -51,7 +51,7 @@ tokens_of_kinds text tokens e =
     let among = texts_fall_into_pieces.tokens text tokens e in
     rw among.2 (of_kinds [] text among.0 among.1)
 
-at_place : (tokens : List Lexeme) (i : ℕ) (t : Lexeme) → AreTokensOfKinds tokens → slice_get tokens i ≡ Some t → IsTokenOfKind t
+pub at_place : (tokens : List Lexeme) (i : ℕ) (t : Lexeme) → AreTokensOfKinds tokens → slice_get tokens i ≡ Some t → IsTokenOfKind t
 at_place [] i t h e = cc
 at_place (x ∷ xs) zero t h e = let same : x ≡ t = cc in subst IsTokenOfKind same h.0
 at_place (x ∷ xs) (suc i) t h e = at_place xs i t h.1 e
@@ -84,7 +84,7 @@ number_fits run value unsigned e =
     written_number (has_suffix run) base (value_in base 0 digits) (nat_lt 0 (length digits) && list_all (is_digit_in base) digits)
     _ value unsigned refl e
 
-abbrev is_numeric : Option TokenKind → Bool
+abbrev pub is_numeric : Option TokenKind → Bool
 is_numeric (Some (Number value unsigned)) = true
 is_numeric None = true
 is_numeric _ = false
@@ -93,7 +93,7 @@ numeric_if : (b : Bool) (value : ℕ) (unsigned : Bool) → is_numeric (if b the
 numeric_if true value unsigned = refl
 numeric_if false value unsigned = refl
 
-number_numeric : (run : List ℕ) → is_numeric (number_of run) ≡ true
+pub number_numeric : (run : List ℕ) → is_numeric (number_of run) ≡ true
 unfolding number_of
 number_numeric run = numeric_if _ _ _
 
@@ -116,7 +116,7 @@ number_kind c cs false true quote value unsigned k = number_fits (c ∷ cs) valu
 number_kind c cs false false true value unsigned k = cc
 number_kind c cs false false false value unsigned k = cc
 
-word_of_token : (aliases : Aliases) (text : List ℕ) → is_token text ≡ true → kind_of text ≡ Some Word
+pub word_of_token : (aliases : Aliases) (text : List ℕ) → is_token text ≡ true → kind_of text ≡ Some Word
     → is_reserved text ≡ false → list_any (bytes_eq text) aliases ≡ false → is_name aliases text ≡ true
 unfolding is_token kind_of
 word_of_token aliases [] t k r l = cc
@@ -196,7 +196,7 @@ module _ (aliases : Aliases) (tokens : List Lexeme) (real : AreTokensOfKinds tok
   name-in i (Some t) at e = let is = at_place tokens i t real at in of_name_sign aliases t.kind t.text is.0 is.1 e
 
   -- a token that is seen as a name is a name
-  name_at : (i : ℕ) → sign_at tokens aliases i ≡ sign.Name → is_name aliases (identifier_at tokens i).text ≡ true
+  pub name_at : (i : ℕ) → sign_at tokens aliases i ≡ sign.Name → is_name aliases (identifier_at tokens i).text ≡ true
   unfolding sign_at identifier_at
   name_at i e = name-in i (slice_get tokens i) refl e
 
@@ -210,11 +210,11 @@ module _ (aliases : Aliases) (tokens : List Lexeme) (real : AreTokensOfKinds tok
   number_at i e = number-in i (slice_get tokens i) refl e
 
   mutual
-    expression_sound : {d k : ℕ} {t : Expression} {a b : ℕ} → IsExpression tokens aliases all d k t a b → is_sound aliases t ≡ true
+    pub expression_sound : {d k : ℕ} {t : Expression} {a b : ℕ} → IsExpression tokens aliases all d k t a b → is_sound aliases t ≡ true
     expression_sound (of_unary h) = unary_sound h
     expression_sound (of_binary l e le f r) = and_from _ _ (expression_sound l) (expression_sound r)
 
-    unary_sound : {d : ℕ} {t : Expression} {a b : ℕ} → IsUnary tokens aliases all d t a b → is_sound aliases t ≡ true
+    pub unary_sound : {d : ℕ} {t : Expression} {a b : ℕ} → IsUnary tokens aliases all d t a b → is_sound aliases t ≡ true
     unary_sound (of_postfix h) = postfix_sound h
     unary_sound (of_prefix e f h) = unary_sound h
 
@@ -234,7 +234,7 @@ module _ (aliases : Aliases) (tokens : List Lexeme) (real : AreTokensOfKinds tok
     arguments_sound of_none = refl
     arguments_sound (of_some h) = series_sound h
 
-    series_sound : {d : ℕ} {xs : Arguments} {a b : ℕ} → IsSeries tokens aliases all d xs a b → are_sound aliases xs ≡ true
+    pub series_sound : {d : ℕ} {xs : Arguments} {a b : ℕ} → IsSeries tokens aliases all d xs a b → are_sound aliases xs ≡ true
     series_sound (of_last h) = and_from _ _ (expression_sound h) refl
     series_sound (of_further h e xs) = and_from _ _ (expression_sound h) (series_sound xs)
 

@@ -13,12 +13,13 @@ use Rattle.tsa_tree.specs.Signs as signs
 use Rattle.tsa_tree.specs.Spelling.{IsExpression, of_unary, of_binary, of_postfix, of_prefix, IsPostfix, of_primary, of_field, of_index, of_number, of_null, of_name, of_call, of_parentheses, IsArguments, of_none, of_some, IsSeries, of_last, of_further}
 use Rattle.tsa_tree.specs.Answers.{an_expression, Spells}
 use Rattle.tsa_forms.specs.Reading.{all}
-use Rattle.tsa_print.specs.Canonical.{Piece, word, numeral, operator, prefix, access, comma, open_parenthesis, open_call, close_parenthesis, open_bracket, close_bracket, wrapped, pieces, arguments, further}
+use Rattle.tsa_print.specs.declared.mark.Mark.TheVariants as marks
+use Rattle.tsa_print.specs.Canonical.{Piece, word, numeral, operator, prefix, access, mark, wrapped, pieces, arguments, further}
 use Rattle.tsa_print.specs.Writable.{is_name, is_sound, are_sound}
 use Rattle.tsa_print.proofs.Apart.{AreTokens}
 use Rattle.tsa_print.proofs.PieceSigns.{Shows, shown, as_many, split, seen, name_seen, null_seen, prefix_seen, access_seen, named_so, value_so, unsigned_so}
 
-level_below : (o : BinaryOp) → level o ≤ 9
+pub level_below : (o : BinaryOp) → level o ≤ 9
 level_below op.Or = omega arith
 level_below op.And = omega arith
 level_below op.BitOr = omega arith
@@ -38,32 +39,32 @@ level_below op.Remainder = omega arith
 
 module _ (aliases : Aliases) (ts : List Lexeme) where
   -- the tokens from a on up to before b spell the tree up to spans: as an expression, as a postfix one, or as arguments
-  abbrev Expr : (d k : ℕ) → Expression → (a b : ℕ) → Type 0
+  abbrev pub Expr : (d k : ℕ) → Expression → (a b : ℕ) → Type 0
   Expr d k t a b = (u : Expression) × IsExpression ts aliases all d k u a b × (plain u ≡ plain t)
 
-  abbrev Post : (d : ℕ) → Expression → (a b : ℕ) → Type 0
+  abbrev pub Post : (d : ℕ) → Expression → (a b : ℕ) → Type 0
   Post d t a b = (u : Expression) × IsPostfix ts aliases all d u a b × (plain u ≡ plain t)
 
   abbrev Args : (d : ℕ) → Arguments → (a b : ℕ) → Type 0
   Args d xs a b = (us : Arguments) × IsArguments ts aliases all d us a b × (plain_arguments us ≡ plain_arguments xs)
 
   in_parentheses : (d : ℕ) (t : Expression) (a : ℕ) (ps : List Piece) → ((d a : ℕ) → Shows ts a ps → Expr d 0 t a (a + length ps))
-      → Shows ts a (open_parenthesis ∷ (ps ++ close_parenthesis ∷ [])) → Post d t a (a + length (open_parenthesis ∷ (ps ++ close_parenthesis ∷ [])))
+      → Shows ts a (mark marks.OpenParenthesis ∷ (ps ++ mark marks.CloseParenthesis ∷ [])) → Post d t a (a + length (mark marks.OpenParenthesis ∷ (ps ++ mark marks.CloseParenthesis ∷ [])))
   in_parentheses d t a ps h s =
-      let two = split ts (a + 1) ps (close_parenthesis ∷ []) s.1 in
+      let two = split ts (a + 1) ps (mark marks.CloseParenthesis ∷ []) s.1 in
       let e = h (d + 1) (a + 1) two.0 in
-      let long : (a + 1) + length ps + 1 ≡ a + length (open_parenthesis ∷ (ps ++ close_parenthesis ∷ [])) =
-      omega (arith, length-append ps (close_parenthesis ∷ [])) in (
+      let long : (a + 1) + length ps + 1 ≡ a + length (mark marks.OpenParenthesis ∷ (ps ++ mark marks.CloseParenthesis ∷ [])) =
+      omega (arith, length-append ps (mark marks.CloseParenthesis ∷ [])) in (
         e.0,
         subst (λ n. IsPostfix ts aliases all d e.0 a n) long
-            (of_primary (of_parentheses (seen aliases ts a open_parenthesis s.0) refl e.1 (seen aliases ts _ close_parenthesis two.1.0))),
+            (of_primary (of_parentheses (seen aliases ts a (mark marks.OpenParenthesis) s.0) refl e.1 (seen aliases ts _ (mark marks.CloseParenthesis) two.1.0))),
         e.2,
       )
 
   post_expr : {d : ℕ} (k : ℕ) (t : Expression) {a b : ℕ} → Post d t a b → Expr d k t a b
   post_expr k t p = (p.0, of_unary (of_postfix p.1), p.2)
 
-  bare_binary : (o : BinaryOp) (l r : Expression) (s : Span) (d k a : ℕ) → k ≤ level o
+  pub bare_binary : (o : BinaryOp) (l r : Expression) (s : Span) (d k a : ℕ) → k ≤ level o
       → ((a : ℕ) → Shows ts a (pieces l (level o)) → Expr d (level o) l a (a + length (pieces l (level o))))
       → ((a : ℕ) → Shows ts a (pieces r (level o + 1)) → Expr d (level o + 1) r a (a + length (pieces r (level o + 1))))
       → Shows ts a (pieces l (level o) ++ operator o ∷ pieces r (level o + 1))
@@ -100,7 +101,7 @@ module _ (aliases : Aliases) (ts : List Lexeme) where
   wrapped_expr t d k a true ps h g s = post_expr k t (in_parentheses d t a ps h s)
   wrapped_expr t d k a false ps h g s = g refl s
 
-  wrapped_post : (t : Expression) (d a : ℕ) (b : Bool) (ps : List Piece) → b ≡ true
+  pub wrapped_post : (t : Expression) (d a : ℕ) (b : Bool) (ps : List Piece) → b ≡ true
       → ((d a : ℕ) → Shows ts a ps → Expr d 0 t a (a + length ps))
       → Shows ts a (wrapped b ps) → Post d t a (a + length (wrapped b ps))
   wrapped_post t d a true ps e h s = in_parentheses d t a ps h s
@@ -126,24 +127,24 @@ module _ (aliases : Aliases) (ts : List Lexeme) where
 
   post_index : (b i : Expression) (s : Span) (d a : ℕ) → ((a : ℕ) → Shows ts a (pieces b 11) → Post d b a (a + length (pieces b 11)))
       → ((d a : ℕ) → Shows ts a (pieces i 0) → Expr d 0 i a (a + length (pieces i 0)))
-      → Shows ts a (pieces b 11 ++ open_bracket ∷ (pieces i 0 ++ close_bracket ∷ []))
-      → Post d (index b i s) a (a + length (pieces b 11 ++ open_bracket ∷ (pieces i 0 ++ close_bracket ∷ [])))
+      → Shows ts a (pieces b 11 ++ mark marks.OpenBracket ∷ (pieces i 0 ++ mark marks.CloseBracket ∷ []))
+      → Post d (index b i s) a (a + length (pieces b 11 ++ mark marks.OpenBracket ∷ (pieces i 0 ++ mark marks.CloseBracket ∷ [])))
   post_index b i s d a hb hi sh =
-      let two = split ts a (pieces b 11) (open_bracket ∷ (pieces i 0 ++ close_bracket ∷ [])) sh in
+      let two = split ts a (pieces b 11) (mark marks.OpenBracket ∷ (pieces i 0 ++ mark marks.CloseBracket ∷ [])) sh in
       let m = a + length (pieces b 11) in
-      let in_two = split ts (m + 1) (pieces i 0) (close_bracket ∷ []) two.1.1 in
+      let in_two = split ts (m + 1) (pieces i 0) (mark marks.CloseBracket ∷ []) two.1.1 in
       let e = (m + 1) + length (pieces i 0) in
       let base = hb a two.0 in
       let at = hi (d + 1) (m + 1) in_two.0 in
-      let long : e + 1 ≡ a + length (pieces b 11 ++ open_bracket ∷ (pieces i 0 ++ close_bracket ∷ [])) =
+      let long : e + 1 ≡ a + length (pieces b 11 ++ mark marks.OpenBracket ∷ (pieces i 0 ++ mark marks.CloseBracket ∷ [])) =
       omega (
         arith,
-        length-append (pieces b 11) (open_bracket ∷ (pieces i 0 ++ close_bracket ∷ [])),
-        length-append (pieces i 0) (close_bracket ∷ []),
+        length-append (pieces b 11) (mark marks.OpenBracket ∷ (pieces i 0 ++ mark marks.CloseBracket ∷ [])),
+        length-append (pieces i 0) (mark marks.CloseBracket ∷ []),
       ) in (
         index base.0 at.0 (span_over ts a (e + 1)),
         subst (λ n. IsPostfix ts aliases all d (index base.0 at.0 (span_over ts a (e + 1))) a n) long
-            (of_index base.1 (seen aliases ts m open_bracket two.1.0) refl refl at.1 (seen aliases ts e close_bracket in_two.1.0)),
+            (of_index base.1 (seen aliases ts m (mark marks.OpenBracket) two.1.0) refl refl at.1 (seen aliases ts e (mark marks.CloseBracket) in_two.1.0)),
         ap (λ x. index x (plain at.0) nowhere) base.2 ∙ ap (λ x. index (plain b) x nowhere) at.2,
       )
 
@@ -166,23 +167,23 @@ module _ (aliases : Aliases) (ts : List Lexeme) where
 
   post_call : (f : Identifier) (xs : Arguments) (s : Span) (d a : ℕ) → is_name aliases f.text ≡ true
       → ((d a : ℕ) → Shows ts a (arguments xs) → Args d xs a (a + length (arguments xs)))
-      → Shows ts a (word f.text ∷ (open_call ∷ (arguments xs ++ close_parenthesis ∷ [])))
-      → Post d (call f xs s) a (a + length (word f.text ∷ (open_call ∷ (arguments xs ++ close_parenthesis ∷ []))))
+      → Shows ts a (word f.text ∷ (mark marks.OpenCall ∷ (arguments xs ++ mark marks.CloseParenthesis ∷ [])))
+      → Post d (call f xs s) a (a + length (word f.text ∷ (mark marks.OpenCall ∷ (arguments xs ++ mark marks.CloseParenthesis ∷ []))))
   post_call f xs s d a ok hx h =
-      let two = split ts (a + 1 + 1) (arguments xs) (close_parenthesis ∷ []) h.1.1 in
+      let two = split ts (a + 1 + 1) (arguments xs) (mark marks.CloseParenthesis ∷ []) h.1.1 in
       let inner = hx (d + 1) (a + 1 + 1) two.0 in
       let b = (a + 1 + 1) + length (arguments xs) in
-      let long : b + 1 ≡ a + length (word f.text ∷ (open_call ∷ (arguments xs ++ close_parenthesis ∷ []))) =
-      omega (arith, length-append (arguments xs) (close_parenthesis ∷ [])) in (
+      let long : b + 1 ≡ a + length (word f.text ∷ (mark marks.OpenCall ∷ (arguments xs ++ mark marks.CloseParenthesis ∷ []))) =
+      omega (arith, length-append (arguments xs) (mark marks.CloseParenthesis ∷ [])) in (
         call (identifier_at ts a) inner.0 (span_over ts a (b + 1)),
         subst (λ n. IsPostfix ts aliases all d (call (identifier_at ts a) inner.0 (span_over ts a (b + 1))) a n) long
-            (of_primary (of_call (name_seen aliases ts a f.text ok h.0) (seen aliases ts (a + 1) open_call h.1.0) refl inner.1
-            (seen aliases ts b close_parenthesis two.1.0))),
+            (of_primary (of_call (name_seen aliases ts a f.text ok h.0) (seen aliases ts (a + 1) (mark marks.OpenCall) h.1.0) refl inner.1
+            (seen aliases ts b (mark marks.CloseParenthesis) two.1.0))),
         ap (λ w. call w (plain_arguments inner.0) nowhere) (named_so ts a f h.0) ∙ ap (λ xs. call (plain_name f) xs nowhere) inner.2,
       )
 
   mutual
-    expr : (t : Expression) (d k a : ℕ) → is_sound aliases t ≡ true → k ≤ 10 → Shows ts a (pieces t k) → Expr d k t a (a + length (pieces t k))
+    pub expr : (t : Expression) (d k a : ℕ) → is_sound aliases t ≡ true → k ≤ 10 → Shows ts a (pieces t k) → Expr d k t a (a + length (pieces t k))
     expr (number v u s) d k a ok le h = post_expr k (number v u s) (post_number v u s d a h)
     expr (null s) d k a ok le h = post_expr k (null s) (post_null s d a h)
     expr (named n s) d k a ok le h = post_expr k (named n s) (post_named n s d a ok h)
@@ -207,7 +208,7 @@ module _ (aliases : Aliases) (ts : List Lexeme) where
         let two = and_parts (is_sound aliases b) (is_sound aliases i) ok in
         post_expr k (index b i s) (post_index b i s d a (λ a. post b d a two.0) (λ d a. expr i d 0 a two.1 (omega arith)) h)
 
-    post : (t : Expression) (d a : ℕ) → is_sound aliases t ≡ true → Shows ts a (pieces t 11) → Post d t a (a + length (pieces t 11))
+    pub post : (t : Expression) (d a : ℕ) → is_sound aliases t ≡ true → Shows ts a (pieces t 11) → Post d t a (a + length (pieces t 11))
     post (number v u s) d a ok h = post_number v u s d a h
     post (null s) d a ok h = post_null s d a h
     post (named n s) d a ok h = post_named n s d a ok h
@@ -244,7 +245,7 @@ module _ (aliases : Aliases) (ts : List Lexeme) where
           ap (λ x. more x (plain_arguments r.0)) e.2 ∙ ap (more (plain t)) r.2,
         )
 
-    rest : (xs : Arguments) (d a m : ℕ) (u : Expression) → are_sound aliases xs ≡ true → IsExpression ts aliases all d 0 u a m → Shows ts m (further xs)
+    pub rest : (xs : Arguments) (d a m : ℕ) (u : Expression) → are_sound aliases xs ≡ true → IsExpression ts aliases all d 0 u a m → Shows ts m (further xs)
         → (us : Arguments) × IsSeries ts aliases all d (more u us) a (m + length (further xs)) × (plain_arguments us ≡ plain_arguments xs)
     rest none d a m u ok e h = (none, subst (λ n. IsSeries ts aliases all d (more u none) a n) (omega arith) (of_last e), refl)
     rest (more t xs) d a m u ok e h =
@@ -252,10 +253,10 @@ module _ (aliases : Aliases) (ts : List Lexeme) where
         let two = split ts (m + 1) (pieces t 0) (further xs) h.1 in
         let f = expr t d 0 (m + 1) ok_two.0 (omega arith) two.0 in
         let r = rest xs d (m + 1) (m + 1 + length (pieces t 0)) f.0 ok_two.1 f.1 two.1 in
-        let long : m + 1 + length (pieces t 0) + length (further xs) ≡ m + length (comma ∷ (pieces t 0 ++ further xs)) =
+        let long : m + 1 + length (pieces t 0) + length (further xs) ≡ m + length (mark marks.Comma ∷ (pieces t 0 ++ further xs)) =
         omega (arith, length-append (pieces t 0) (further xs)) in (
           more f.0 r.0,
-          subst (λ n. IsSeries ts aliases all d (more u (more f.0 r.0)) a n) long (of_further e (seen aliases ts m comma h.0) r.1),
+          subst (λ n. IsSeries ts aliases all d (more u (more f.0 r.0)) a n) long (of_further e (seen aliases ts m (mark marks.Comma) h.0) r.1),
           ap (λ x. more x (plain_arguments r.0)) f.2 ∙ ap (more (plain t)) r.2,
         )
 

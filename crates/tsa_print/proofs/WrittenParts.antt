@@ -6,11 +6,12 @@ use Rattle.tsa_tree.specs.declared.expr.UnaryOp.{UnaryOp}
 use Rattle.tsa_tree.specs.declared.expr.BinaryOp.{BinaryOp}
 use Rattle.tsa_tree.specs.Signs.{level}
 use Rattle.tsa_tree.specs.Expressions.{Expression, Arguments, number, null, named, call, unary, binary, field, index, none, more}
-use Rattle.tsa_print.specs.Canonical.{Piece, word, numeral, operator, prefix, access, comma, open_parenthesis, open_call, close_parenthesis, open_bracket, close_bracket, piece_text, operator_text, prefix_text, gap, binds_left, binds_right, written, pieces, wrapped, arguments, further}
+use Rattle.tsa_print.specs.declared.mark.Mark.TheVariants as marks
+use Rattle.tsa_print.specs.Canonical.{Piece, word, numeral, quoted, assigned, operator, prefix, access, mark, piece_text, operator_text, prefix_text, gap, binds_left, binds_right, written, pieces, wrapped, arguments, further}
 use Rattle.tsa_print.proofs.Starts.{starts, starts-append, starts-pieces}
 
 -- the last piece is one that a blank may stand behind
-abbrev closes : List Piece → Bool
+abbrev pub closes : List Piece → Bool
 closes [] = false
 closes (p ∷ []) = not (binds_right p)
 closes (p ∷ q ∷ ps) = closes (q ∷ ps)
@@ -24,15 +25,15 @@ closes-append [] qs e = e
 closes-append (p ∷ ps) qs e = closes-more p (ps ++ qs) (closes-append ps qs e)
 
 closes-wrapped : (b : Bool) (ps : List Piece) → closes ps ≡ true → closes (wrapped b ps) ≡ true
-closes-wrapped true ps e = closes-append (open_parenthesis ∷ ps) (close_parenthesis ∷ []) refl
+closes-wrapped true ps e = closes-append (mark marks.OpenParenthesis ∷ ps) (mark marks.CloseParenthesis ∷ []) refl
 closes-wrapped false ps e = e
 
-closes-pieces : (tree : Expression) (place : ℕ) → closes (pieces tree place) ≡ true
+pub closes-pieces : (tree : Expression) (place : ℕ) → closes (pieces tree place) ≡ true
 closes-pieces (number value unsigned span) place = refl
 closes-pieces (null span) place = refl
 closes-pieces (named name span) place = refl
 closes-pieces (call callee args span) place =
-    closes-append (word callee.text ∷ (open_call ∷ arguments args)) (close_parenthesis ∷ []) refl
+    closes-append (word callee.text ∷ (mark marks.OpenCall ∷ arguments args)) (mark marks.CloseParenthesis ∷ []) refl
 closes-pieces (unary o inner span) place =
     closes-wrapped (nat_lt 10 place) (prefix o ∷ pieces inner 11) (closes-more (prefix o) (pieces inner 11) (closes-pieces inner 11))
 closes-pieces (binary o left right span) place =
@@ -41,8 +42,8 @@ closes-pieces (binary o left right span) place =
     (closes-append (pieces left (level o)) rs (closes-more (operator o) (pieces right (level o + 1)) (closes-pieces right (level o + 1))))
 closes-pieces (field base name arrow span) place = closes-append (pieces base 11) (access arrow ∷ (word name.text ∷ [])) refl
 closes-pieces (index base at span) place =
-    closes-append (pieces base 11) (open_bracket ∷ (pieces at 0 ++ close_bracket ∷ []))
-    (closes-append (open_bracket ∷ pieces at 0) (close_bracket ∷ []) refl)
+    closes-append (pieces base 11) (mark marks.OpenBracket ∷ (pieces at 0 ++ mark marks.CloseBracket ∷ []))
+    (closes-append (mark marks.OpenBracket ∷ pieces at 0) (mark marks.CloseBracket ∷ []) refl)
 
 -- no blank stands behind a piece that binds right
 tight-behind : (p : Piece) (qs : List Piece) → binds_right p ≡ true → written (p ∷ qs) ≡ piece_text p ++ written qs
@@ -91,14 +92,26 @@ blank-behind p [] e s = cc
 blank-behind p (word text ∷ qs) e s = rw e refl
 blank-behind p (numeral value unsigned ∷ qs) e s = rw e refl
 blank-behind p (prefix b ∷ qs) e s = rw e refl
-blank-behind p (open_parenthesis ∷ qs) e s = rw e refl
+blank-behind p (mark marks.OpenParenthesis ∷ qs) e s = rw e refl
 blank-behind p (operator b ∷ qs) e s = cc
 blank-behind p (access arrow ∷ qs) e s = cc
-blank-behind p (comma ∷ qs) e s = cc
-blank-behind p (open_call ∷ qs) e s = cc
-blank-behind p (close_parenthesis ∷ qs) e s = cc
-blank-behind p (open_bracket ∷ qs) e s = cc
-blank-behind p (close_bracket ∷ qs) e s = cc
+blank-behind p (mark marks.Comma ∷ qs) e s = cc
+blank-behind p (mark marks.OpenCall ∷ qs) e s = cc
+blank-behind p (mark marks.CloseParenthesis ∷ qs) e s = cc
+blank-behind p (mark marks.OpenBracket ∷ qs) e s = cc
+blank-behind p (mark marks.CloseBracket ∷ qs) e s = cc
+blank-behind p (quoted text ∷ qs) e s = cc
+blank-behind p (assigned o ∷ qs) e s = cc
+blank-behind p (mark marks.Star ∷ qs) e s = cc
+blank-behind p (mark marks.Colon ∷ qs) e s = cc
+blank-behind p (mark marks.Semicolon ∷ qs) e s = cc
+blank-behind p (mark marks.ForSemicolon ∷ qs) e s = cc
+blank-behind p (mark marks.OpenBrace ∷ qs) e s = cc
+blank-behind p (mark marks.CloseBrace ∷ qs) e s = cc
+blank-behind p (mark marks.OpenBlock ∷ qs) e s = cc
+blank-behind p (mark marks.CloseBlock ∷ qs) e s = cc
+blank-behind p (mark marks.CloseBody ∷ qs) e s = cc
+blank-behind p (mark marks.CloseStruct ∷ qs) e s = cc
 
 pub written_one : (p : Piece) → written (p ∷ []) ≡ piece_text p
 unfolding written
@@ -113,8 +126,8 @@ closing needed = if needed then codes ")" else []
 
 written-wrapped : (b : Bool) (ps : List Piece) → written (wrapped b ps) ≡ opening b ++ (written ps ++ closing b)
 written-wrapped true ps =
-    tight-behind open_parenthesis (ps ++ close_parenthesis ∷ []) refl
-    ∙ ap (λ x. codes "(" ++ x) (tight-before ps close_parenthesis [] refl ∙ ap (λ x. written ps ++ x) (written_one close_parenthesis))
+    tight-behind (mark marks.OpenParenthesis) (ps ++ mark marks.CloseParenthesis ∷ []) refl
+    ∙ ap (λ x. codes "(" ++ x) (tight-before ps (mark marks.CloseParenthesis) [] refl ∙ ap (λ x. written ps ++ x) (written_one (mark marks.CloseParenthesis)))
 written-wrapped false ps = sym (append-nil (written ps))
 
 pub written_unary : (o : UnaryOp) (inner : Expression) (place : ℕ)
@@ -146,13 +159,13 @@ written_field base text arrow =
     ∙ ap (λ x. piece_text (access arrow) ++ x) (written_one (word text)))
 
 pub written_index : (base at : Expression)
-    → written (pieces base 11 ++ open_bracket ∷ (pieces at 0 ++ close_bracket ∷ []))
+    → written (pieces base 11 ++ mark marks.OpenBracket ∷ (pieces at 0 ++ mark marks.CloseBracket ∷ []))
     ≡ written (pieces base 11) ++ (codes "[" ++ (written (pieces at 0) ++ codes "]"))
 written_index base at =
-    tight-before (pieces base 11) open_bracket (pieces at 0 ++ close_bracket ∷ []) refl
-    ∙ ap (λ x. written (pieces base 11) ++ x) (tight-behind open_bracket (pieces at 0 ++ close_bracket ∷ []) refl
-    ∙ ap (λ x. codes "[" ++ x) (tight-before (pieces at 0) close_bracket [] refl
-    ∙ ap (λ x. written (pieces at 0) ++ x) (written_one close_bracket)))
+    tight-before (pieces base 11) (mark marks.OpenBracket) (pieces at 0 ++ mark marks.CloseBracket ∷ []) refl
+    ∙ ap (λ x. written (pieces base 11) ++ x) (tight-behind (mark marks.OpenBracket) (pieces at 0 ++ mark marks.CloseBracket ∷ []) refl
+    ∙ ap (λ x. codes "[" ++ x) (tight-before (pieces at 0) (mark marks.CloseBracket) [] refl
+    ∙ ap (λ x. written (pieces at 0) ++ x) (written_one (mark marks.CloseBracket))))
 
 -- arguments are written with this text before the first of them, and a comma and a blank before each further one
 abbrev pub listed : List ℕ → Arguments → List ℕ
@@ -162,13 +175,13 @@ listed separator (more first rest) = separator ++ (written (pieces first 0) ++ l
 before_further : (ps : List Piece) (args : Arguments) → written (ps ++ further args) ≡ written ps ++ written (further args)
 unfolding written
 before_further ps none = ap written (append-nil ps) ∙ sym (append-nil (written ps))
-before_further ps (more first rest) = tight-before ps comma (pieces first 0 ++ further rest) refl
+before_further ps (more first rest) = tight-before ps (mark marks.Comma) (pieces first 0 ++ further rest) refl
 
 written-further : (args : Arguments) → written (further args) ≡ listed (codes ", ") args
 unfolding written
 written-further none = refl
 written-further (more first rest) =
-    blank-behind comma (pieces first 0 ++ further rest) refl (starts-append (pieces first 0) (further rest) (starts-pieces first 0))
+    blank-behind (mark marks.Comma) (pieces first 0 ++ further rest) refl (starts-append (pieces first 0) (further rest) (starts-pieces first 0))
     ∙ ap (λ x. codes ", " ++ x) (before_further (pieces first 0) rest ∙ ap (λ x. written (pieces first 0) ++ x) (written-further rest))
 
 pub written_arguments : (args : Arguments) → written (arguments args) ≡ listed [] args
@@ -177,9 +190,9 @@ written_arguments none = refl
 written_arguments (more first rest) = before_further (pieces first 0) rest ∙ ap (λ x. written (pieces first 0) ++ x) (written-further rest)
 
 pub written_call : (text : List ℕ) (args : Arguments)
-    → written (word text ∷ (open_call ∷ (arguments args ++ close_parenthesis ∷ [])))
+    → written (word text ∷ (mark marks.OpenCall ∷ (arguments args ++ mark marks.CloseParenthesis ∷ [])))
     ≡ text ++ (codes "(" ++ (written (arguments args) ++ codes ")"))
 unfolding written
 written_call text args =
-    ap (λ x. text ++ x) (tight-behind open_call (arguments args ++ close_parenthesis ∷ []) refl
-    ∙ ap (λ x. codes "(" ++ x) (tight-before (arguments args) close_parenthesis [] refl))
+    ap (λ x. text ++ x) (tight-behind (mark marks.OpenCall) (arguments args ++ mark marks.CloseParenthesis ∷ []) refl
+    ∙ ap (λ x. codes "(" ++ x) (tight-before (arguments args) (mark marks.CloseParenthesis) [] refl))

@@ -1,3 +1,11 @@
 pub mod Canonical
 pub mod Writable
 pub mod PrintLaws
+pub mod Layout
+pub mod DeclarationPieces
+pub mod UnitPieces
+pub mod SoundDeclarations
+pub mod SoundUnits
+pub mod UnitBases
+pub mod UnitPrintLaws
+pub mod Sheets

@@ -20,7 +20,8 @@ pub fn print_expr(alloc: Global, expr: &Expr<'_>) -> Result<Vec<u8>, NoMemory>
     Ok(out)
 }
 
-fn operator_text(op: BinaryOp) -> &'static [u8]
+/// The bytes of an operator.
+pub fn operator_text(op: BinaryOp) -> &'static [u8]
     ensures { result.now ≡ spec_operator_text op }
 {
     match op {
@@ -55,8 +56,8 @@ fn prefix_text(op: UnaryOp) -> &'static [u8]
     }
 }
 
-// Appends a text, where it is needed.
-fn append_if(out: &mut Vec<u8>, needed: bool, text: &[u8]) -> Result<(), NoMemory>
+/// Appends a text, where it is needed.
+pub fn append_if(out: &mut Vec<u8>, needed: bool, text: &[u8]) -> Result<(), NoMemory>
     ensures { OnOk result (out.new.items ≡ out.old.items ++ (if needed then text.now else [])) }
 {
     if needed {
@@ -65,15 +66,16 @@ fn append_if(out: &mut Vec<u8>, needed: bool, text: &[u8]) -> Result<(), NoMemor
     Ok(())
 }
 
-fn append(out: &mut Vec<u8>, text: &[u8]) -> Result<(), NoMemory>
+/// Appends a text.
+pub fn append(out: &mut Vec<u8>, text: &[u8]) -> Result<(), NoMemory>
     ensures { OnOk result (out.new.items ≡ out.old.items ++ text.now) }
 {
     out.extend_from_slice(text)?;
     Ok(())
 }
 
-// Appends a number in decimal, with `u` behind an unsigned one.
-fn write_number(out: &mut Vec<u8>, value: u32, unsigned: bool) -> Result<(), NoMemory>
+/// Appends a number in decimal, with `u` behind an unsigned one.
+pub fn write_number(out: &mut Vec<u8>, value: u32, unsigned: bool) -> Result<(), NoMemory>
     ensures { OnOk result (out.new.items ≡ out.old.items ++ piece_text (numeral value unsigned)) }
 {
     let mut digits = Buffer::new();
@@ -81,10 +83,10 @@ fn write_number(out: &mut Vec<u8>, value: u32, unsigned: bool) -> Result<(), NoM
     append_if(out, unsigned, b"u")
 }
 
-// Appends an expression, in parentheses where it binds looser than its place needs.
+/// Appends an expression, in parentheses where it binds looser than its place needs.
 #[cycle(printing)]
 #[tactic(auto, using(crate::proofs::WrittenParts::written_one))]
-fn write_expr(out: &mut Vec<u8>, expr: &Expr<'_>, place: u32) -> Result<(), NoMemory>
+pub fn write_expr(out: &mut Vec<u8>, expr: &Expr<'_>, place: u32) -> Result<(), NoMemory>
     ensures { OnOk result (out.new.items ≡ out.old.items ++ written (pieces (shape expr.now) place)) }
 {
     match &expr.kind {
