@@ -21,3 +21,4 @@ pub mod FormedTrees
 pub mod FormedItems
 pub mod ThinLaw
 pub mod CheckExamples
+mod PrintedAgain

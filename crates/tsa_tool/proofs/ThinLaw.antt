@@ -17,7 +17,7 @@ use Rattle.tsa_tool.specs.Names.{fits, all_fit}
 use Rattle.tsa_tool.specs.Program.{bodies_of}
 use Rattle.tsa_tool.specs.Limits.{is_thin_unit, items_are_within}
 use Rattle.tsa_tool.specs.Lines.{Warned, unit_warned}
-use Rattle.tsa_tool.specs.Checks.{lexed, refusal_of, items_in, judged_items, warned_in}
+use Rattle.tsa_tool.specs.Checks.{lexed, refusal_of, tree_in, items_in, judged_items, warned_in}
 use Rattle.tsa_tool.specs.ThinTrees.{ThinTreesAreSeen}
 use Rattle.tsa_tool.specs.ThinUnits.{IsThin, IsNotBuilt, ThinUnitsAreWarnedOf}
 use Rattle.tsa_tool.specs.Trees.{thin_of}
@@ -47,7 +47,7 @@ unfolding is_thin_unit
 thin_is text items unit = rw (all_at text [] items unit.fits_each, unit.items_within, unit.bodies_within) refl
 
 items_are : (text : List ℕ) (items : List Item) → IsThin text items → items_in text ≡ Ok items
-unfolding items_in
+unfolding items_in tree_in
 items_are text items unit = rw (unit.lexed, unit.parsed, items_seen unit.tree items unit.formed) refl
 
 warned : (text : List ℕ) (items : List Item) → IsThin text items → warned_in text ≡ Ok (unit_warned text items (bodies_of text items))
@@ -82,22 +82,22 @@ data Answered (text : List ℕ) : Result Warned Refusal → Type 0 where
   is_warned : (items : List Item) → IsThin text items → Answered text (Ok (unit_warned text items (bodies_of text items)))
 
 by_fit : (text : List ℕ) (tokens : List Lexeme) (tree : List UnitItem) (items : List Item) (b : Bool) → tokens_of text ≡ Ok tokens → unit_of tokens ≡ Ok tree → thin_of tree ≡ Some items → is_thin_unit text items ≡ b → Answered text (warned_in text)
-unfolding warned_in items_in judged_items
+unfolding warned_in items_in tree_in judged_items
 by_fit text tokens tree items true lexed parsed seen thin = rw (lexed, parsed, seen, thin) (is_warned items (is_thin text tokens tree items lexed parsed seen thin))
 by_fit text tokens tree items false lexed parsed seen thin = rw (lexed, parsed, seen, thin) (not_fitting tokens tree items lexed parsed seen thin)
 
 by_tree : (text : List ℕ) (tokens : List Lexeme) (tree : List UnitItem) (o : Option (List Item)) → tokens_of text ≡ Ok tokens → unit_of tokens ≡ Ok tree → thin_of tree ≡ o → Answered text (warned_in text)
-unfolding warned_in items_in
+unfolding warned_in items_in tree_in
 by_tree text tokens tree None lexed parsed seen = rw (lexed, parsed, seen) (not_thin tokens tree lexed parsed seen)
 by_tree text tokens tree (Some items) lexed parsed seen = by_fit text tokens tree items (is_thin_unit text items) lexed parsed seen refl
 
 by_unit : (text : List ℕ) (tokens : List Lexeme) (r : Result (List UnitItem) SyntaxRefusal) → tokens_of text ≡ Ok tokens → unit_of tokens ≡ r → Answered text (warned_in text)
-unfolding warned_in items_in
+unfolding warned_in items_in tree_in
 by_unit text tokens (Err refusal) lexed parsed = rw (lexed, parsed) (at_syntax tokens refusal lexed parsed)
 by_unit text tokens (Ok tree) lexed parsed = by_tree text tokens tree (thin_of tree) lexed parsed refl
 
 by_tokens : (text : List ℕ) (r : Result (List Lexeme) BadByte) → tokens_of text ≡ r → Answered text (warned_in text)
-unfolding warned_in items_in
+unfolding warned_in items_in tree_in
 by_tokens text (Err bad) lexed = rw lexed (at_byte bad lexed)
 by_tokens text (Ok tokens) lexed = by_unit text tokens (unit_of tokens) lexed refl
 
@@ -114,11 +114,11 @@ is_unit text w r e (not_fitting tokens tree items lexed parsed seen thin) = cc
 is_unit text w r e (is_warned items thin) = (items, thin, cc)
 
 bad_text : (text : List ℕ) (byte : BadByte) → tokens_of text ≡ Err byte → warned_in text ≡ Err (Lex byte.code byte.byte)
-unfolding warned_in items_in
+unfolding warned_in items_in tree_in
 bad_text text byte is = rw is refl
 
 bad_syntax : (text : List ℕ) (tokens : List Lexeme) (refusal : SyntaxRefusal) → tokens_of text ≡ Ok tokens → unit_of tokens ≡ Err refusal → warned_in text ≡ Err (refusal_of text tokens refusal)
-unfolding warned_in items_in
+unfolding warned_in items_in tree_in
 bad_syntax text tokens refusal lexed parsed = rw (lexed, parsed) refl
 
 points_told : (tree : List UnitItem) (o : Option Identifier) → within_points tree o ≡ Err NoMemory → ⊥

@@ -45,11 +45,17 @@ abbrev pub placed : List ℕ → List Lexeme → Result (List UnitItem) SyntaxRe
 placed bytes tokens (Ok tree) = Ok tree
 placed bytes tokens (Err refusal) = Err (refusal_of bytes tokens refusal)
 
+-- the unit of an input, or the first refusal of its tokens, its syntax and the limits of syntax
+unfoldable pub tree_in : List ℕ → Result (List UnitItem) Refusal
+tree_in bytes = do
+  tokens ← lexed (tokens_of bytes)
+  tree ← placed bytes tokens (unit_of tokens)
+  Ok tree
+
 -- the items of an input, whether or not they may stand behind each other
 unfoldable pub items_in : List ℕ → Result (List Item) Refusal
 items_in bytes = do
-  tokens ← lexed (tokens_of bytes)
-  tree ← placed bytes tokens (unit_of tokens)
+  tree ← tree_in bytes
   items ← ok_or NotBuilt (thin_of tree)
   Ok items
 

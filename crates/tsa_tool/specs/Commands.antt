@@ -3,11 +3,12 @@ use Rattle.std.specs.Prelude.{ℕ, List, [], ◌∷◌, Some, None, codes, if◌
 use Rattle.std.specs.Str.{bytes_eq}
 use Rattle.std.specs.declared.option.Option.{Option}
 use Rattle.tsa_tool.specs.declared.command.Command.{Command}
-use Rattle.tsa_tool.specs.declared.command.Command.TheVariants.{Check}
+use Rattle.tsa_tool.specs.declared.command.Command.TheVariants.{Check, Print}
 
 -- the command of this name
 abbrev pub command_named : List ℕ → Option Command
-command_named name = if bytes_eq name (codes "check") then Some Check else None
+command_named name =
+    if bytes_eq name (codes "check") then Some Check else (if bytes_eq name (codes "print") then Some Print else None)
 
 -- a command's name alone
 abbrev pub command_of : List (List ℕ) → Option Command

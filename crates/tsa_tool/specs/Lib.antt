@@ -20,3 +20,4 @@ pub mod WarningLaws
 pub mod ThinTrees
 pub mod ThinUnits
 pub mod CheckExamples
+pub mod PrintedAgain

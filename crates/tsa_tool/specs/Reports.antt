@@ -4,7 +4,9 @@ use Rattle.std.specs.declared.option.Option.{Option}
 use Rattle.std.specs.declared.result.Result.{Result}
 use Rattle.tsa_base.specs.declared.limits.TheConstants.{INPUT_LIMIT}
 use Rattle.std.specs.Fmt.{decimal}
-use Rattle.tsa_tool.specs.Checks.{warned_in}
+use Rattle.tsa_print.specs.UnitPieces.{canonical_unit}
+use Rattle.tsa_tree.specs.UnitItems.{UnitItem}
+use Rattle.tsa_tool.specs.Checks.{tree_in, warned_in}
 use Rattle.tsa_base.specs.declared.token.LexCode.{LexCode}
 use Rattle.tsa_base.specs.declared.token.LexCode.TheVariants.{LX1, LX2, LX3, LX4, LX5}
 use Rattle.tsa_expr.specs.declared.refusal.SyntaxCode.{SyntaxCode}
@@ -12,11 +14,11 @@ use Rattle.tsa_expr.specs.declared.refusal.SyntaxCode.TheVariants.{SY1, AT1, AT2
 use Rattle.tsa_base.specs.Places.{place_at, place_text}
 use Rattle.tsa_tool.specs.Lines.{Warned}
 use Rattle.tsa_tool.specs.declared.answer.Status.{Status}
-use Rattle.tsa_tool.specs.declared.answer.Status.TheVariants.{Accepted, Warned as Warns, Refused, WordsRefused, LimitPassed}
+use Rattle.tsa_tool.specs.declared.answer.Status.TheVariants.{Accepted, Printed, Warned as Warns, Refused, WordsRefused, LimitPassed}
 use Rattle.tsa_tool.specs.declared.check.Refusal.{Refusal}
 use Rattle.tsa_tool.specs.declared.check.Refusal.TheVariants.{Lex, Syntax, NotBuilt}
 use Rattle.tsa_tool.specs.declared.command.Command.{Command}
-use Rattle.tsa_tool.specs.declared.command.Command.TheVariants.{Check}
+use Rattle.tsa_tool.specs.declared.command.Command.TheVariants.{Check, Print}
 
 pub record Report : Type 0 where
   pub status : Status
@@ -25,6 +27,7 @@ pub record Report : Type 0 where
 -- the number of a status
 abbrev pub status_number : Status → ℕ
 status_number Accepted = 0
+status_number Printed = 0
 status_number Warns = 1
 status_number Refused = 2
 status_number WordsRefused = 3
@@ -87,17 +90,29 @@ unit_report bytes (Err refusal) = refused_report bytes refusal
 unfoldable pub judged : List ℕ → Report
 judged bytes = unit_report bytes (warned_in bytes)
 
+abbrev pub printed_report : List ℕ → Result (List UnitItem) Refusal → Report
+printed_report bytes (Ok tree) = record { status = Printed; text = canonical_unit tree }
+printed_report bytes (Err refusal) = refused_report bytes refusal
+
+-- what `print` answers to one: the canonical text of its unit
+unfoldable pub printed : List ℕ → Report
+printed bytes = printed_report bytes (tree_in bytes)
+
+abbrev pub answered : Command → List ℕ → Report
+answered Check bytes = judged bytes
+answered Print bytes = printed bytes
+
 -- what a command answers to an input
 abbrev pub report_on : Option Command → List ℕ → Report
 report_on None bytes = words_refused
-report_on (Some Check) bytes = if nat_lt INPUT_LIMIT (length bytes) then too_long else judged bytes
+report_on (Some command) bytes = if nat_lt INPUT_LIMIT (length bytes) then too_long else answered command bytes
 
 -- how many bytes of an input a command reads
 abbrev pub input_read : Option Command → List ℕ → ℕ
 input_read None bytes = 0
-input_read (Some Check) bytes = min (length bytes) (INPUT_LIMIT + 1)
+input_read (Some command) bytes = min (length bytes) (INPUT_LIMIT + 1)
 
 -- the command reads its input
 abbrev pub Reads : Option Command → Type 0
 Reads None = ⊥
-Reads (Some Check) = Unit {0}
+Reads (Some command) = Unit {0}

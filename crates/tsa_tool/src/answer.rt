@@ -1,13 +1,14 @@
 //! What is answered to an input.
 ghost use Rattle.std.specs.Prelude.{◌≡◌, ◌≤◌, ◌∷◌, ◌++◌, [], codes, IfOk, OnOk, length};
 ghost use Rattle.tsa_base.specs.declared.limits.TheConstants.{INPUT_LIMIT};
-ghost use Rattle.tsa_tool.specs.Reports.{status_number, words_refused, too_long, judged, accepted, warned_report, refused_report, lex_text, syntax_text, syntax_status, line};
+ghost use Rattle.tsa_tool.specs.Reports.{status_number, words_refused, too_long, answered, judged, printed, accepted, warned_report, refused_report, lex_text, syntax_text, syntax_status, line};
 ghost use Rattle.tsa_tool.specs.Answer.{report_of};
 ghost use Rattle.tsa_tool.specs.Warned.{warned_of};
 ghost use Rattle.std.specs.Fmt.{decimal};
 ghost use Rattle.tsa_base.specs.Places.{place_at, place_text};
 
-use crate::check::{Refusal, ToolRefusal, check_unit};
+use crate::check::{Refusal, ToolRefusal, canonical_text, check_unit};
+use crate::command::Command;
 use crate::warn::UnitLines;
 use std::alloc::Global;
 use tsa_base::{LexCode, LineStarts, NoMemory};
@@ -17,6 +18,7 @@ use tsa_expr::SyntaxCode;
 #[derive(Clone, Copy, Debug, PartialEq, Eq)]
 pub enum Status {
     Accepted,
+    Printed,
     Warned,
     Refused,
     WordsRefused,
@@ -29,7 +31,7 @@ impl Status {
         ensures { result ≡ status_number self }
     {
         match self {
-            Status::Accepted => 0,
+            Status::Accepted | Status::Printed => 0,
             Status::Warned => 1,
             Status::Refused => 2,
             Status::WordsRefused => 3,
@@ -59,9 +61,36 @@ pub fn refuse_length(alloc: Global) -> Result<Answer, NoMemory>
     answer_of(alloc, Status::LimitPassed, b"LM1 over 1048576 bytes\n")
 }
 
-/// What `check` answers to an input that is short enough.
+/// What a command answers to an input that is short enough.
+pub fn answer_to(alloc: Global, command: Command, bytes: &[u8]) -> Result<Answer, NoMemory>
+    requires { length bytes.now ≤ INPUT_LIMIT }
+    ensures { IfOk result (λ answer. report_of answer ≡ answered command bytes.now) }
+{
+    match command {
+        Command::Check => check(alloc, bytes),
+        Command::Print => print(alloc, bytes),
+    }
+}
+
+// The canonical text of a unit, or the first refusal.
+#[tactic(auto, unfolding(crate::specs::Reports::printed))]
+fn print(alloc: Global, bytes: &[u8]) -> Result<Answer, NoMemory>
+    requires { length bytes.now ≤ INPUT_LIMIT }
+    ensures { IfOk result (λ answer. report_of answer ≡ printed bytes.now) }
+{
+    match canonical_text(alloc, bytes) {
+        Ok(text) => Ok(Answer {
+            status: Status::Printed,
+            text,
+        }),
+        Err(ToolRefusal::Refused(refusal)) => refuse(alloc, bytes, refusal),
+        Err(ToolRefusal::NoMemory) => Err(NoMemory),
+    }
+}
+
+// The warnings of a unit, or that there are none, or the first refusal.
 #[tactic(auto, unfolding(crate::specs::Reports::judged))]
-pub fn check(alloc: Global, bytes: &[u8]) -> Result<Answer, NoMemory>
+fn check(alloc: Global, bytes: &[u8]) -> Result<Answer, NoMemory>
     requires { length bytes.now ≤ INPUT_LIMIT }
     ensures { IfOk result (λ answer. report_of answer ≡ judged bytes.now) }
 {

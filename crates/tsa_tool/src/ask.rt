@@ -6,7 +6,7 @@ ghost use Rattle.tsa_tool.specs.Reports.{report_on, Reads};
 ghost use Rattle.tsa_tool.specs.declared.ask.Trouble.TheVariants.{NoMemory};
 ghost use Rattle.tsa_tool.specs.Runs.{OfInput, ReadsItsInput};
 
-use crate::answer::{Answer, check, refuse_length, refuse_words};
+use crate::answer::{Answer, answer_to, refuse_length, refuse_words};
 use crate::command::Command;
 use std::alloc::Global;
 use tsa_base::{NoMemory, ReadTrouble, Source, read_all};
@@ -41,8 +41,8 @@ pub fn ask<I: Source>(
 {
     match command {
         None => Ok(refuse_words(alloc)?),
-        Some(Command::Check) => match read_all(alloc, input) {
-            Ok(bytes) => Ok(check(alloc, &bytes)?),
+        Some(command) => match read_all(alloc, input) {
+            Ok(bytes) => Ok(answer_to(alloc, command, &bytes)?),
             Err(ReadTrouble::TooLong) => Ok(refuse_length(alloc)?),
             Err(ReadTrouble::ReadFault) => Err(Trouble::SourceFailed),
             Err(ReadTrouble::NoMemory) => Err(Trouble::NoMemory),

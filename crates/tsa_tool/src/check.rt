@@ -7,8 +7,10 @@ ghost use Rattle.tsa_tree.specs.Signs.{lexemes};
 ghost use Rattle.tsa_tree.specs.UnitShapes.{item_shapes};
 ghost use Rattle.tsa_unit.specs.Outcomes.{AreNear};
 ghost use Rattle.tsa_unit.specs.Parsing.{unit_of};
-ghost use Rattle.tsa_tool.specs.Checks.{lexed, byte_of, refusal_of, placed, items_in, judged_items, warned_in};
+ghost use Rattle.tsa_tool.specs.Checks.{lexed, byte_of, refusal_of, placed, tree_in, items_in, judged_items, warned_in};
+ghost use Rattle.tsa_tool.specs.Reports.{printed_report};
 ghost use Rattle.tsa_tool.specs.Warned.{warned_of};
+ghost use Rattle.tsa_tool.specs.declared.answer.Status.TheVariants.{Printed};
 ghost use Rattle.tsa_tool.specs.declared.check.ToolRefusal.TheVariants.{NoMemory};
 
 use crate::limits::items_are_within;
@@ -22,6 +24,7 @@ use std::alloc::Global;
 use tsa_base::{LexCode, LineStarts, NoMemory, Token};
 use tsa_expr::{SyntaxCode, SyntaxRefusal};
 use tsa_lex::{LexRefusal, lex};
+use tsa_print::print_unit;
 use tsa_tree::item::UnitTree;
 use tsa_unit::parse;
 
@@ -101,7 +104,7 @@ fn placed(bytes: &[u8], tokens: &[Token<'_>], refusal: SyntaxRefusal) -> ToolRef
 
 // The unit that tokens spell, in the arena.
 #[tactic(auto, using(crate::proofs::AheadItems::items_within))]
-fn tree_in<'a>(
+fn tree_of<'a>(
     alloc: Global,
     bump: &'a Bump,
     bytes: &[u8],
@@ -120,6 +123,34 @@ fn tree_in<'a>(
     }
 }
 
+// The unit of an input, in an arena.
+#[tactic(auto, unfolding(crate::specs::Checks::tree_in))]
+fn read_tree<'a>(
+    alloc: Global,
+    bump: &'a Bump,
+    bytes: &[u8],
+) -> Result<&'a UnitTree<'a>, ToolRefusal>
+    requires { length bytes.now ≤ INPUT_LIMIT }
+    ensures tree { IfOk result (λ tree. tree_in bytes.now ≡ Ok (item_shapes tree.now.items.now)) }
+    ensures count { IfOk result (λ tree. length tree.now.items.now ≤ INPUT_LIMIT) }
+    ensures refused { (r : _) → IsErrOf result (ToolRefusal.Refused r) → tree_in bytes.now ≡ Err r }
+{
+    let tokens = tokens_in(alloc, bytes)?;
+    tree_of(alloc, bump, bytes, &tokens)
+}
+
+/// The canonical text of the unit of an input of at most `INPUT_LIMIT` bytes, or the first refusal of its tokens, its
+/// syntax and the limits of syntax.
+pub fn canonical_text(alloc: Global, bytes: &[u8]) -> Result<Vec<u8>, ToolRefusal>
+    requires { length bytes.now ≤ INPUT_LIMIT }
+    ensures text { IfOk result (λ text. printed_report bytes.now (tree_in bytes.now) ≡ record { status = Printed; text = text.items }) }
+    ensures refused { (r : _) → IsErrOf result (ToolRefusal.Refused r) → tree_in bytes.now ≡ Err r }
+{
+    let bump = Bump::new(alloc);
+    let tree = read_tree(alloc, &bump, bytes)?;
+    Ok(print_unit(alloc, tree)?)
+}
+
 // The items of an input that are a unit of the thin language, in an arena.
 #[tactic(auto, unfolding(crate::specs::Checks::items_in))]
 fn read_items<'a>(alloc: Global, bump: &'a Bump, bytes: &[u8]) -> Result<ThinUnit<'a>, ToolRefusal>
@@ -128,8 +159,7 @@ fn read_items<'a>(alloc: Global, bump: &'a Bump, bytes: &[u8]) -> Result<ThinUni
     ensures count { IfOk result (λ unit. vec_len unit.items ≤ INPUT_LIMIT) }
     ensures refused { (r : _) → IsErrOf result (ToolRefusal.Refused r) → items_in bytes.now ≡ Err r }
 {
-    let tokens = tokens_in(alloc, bytes)?;
-    let tree = tree_in(alloc, bump, bytes, &tokens)?;
+    let tree = read_tree(alloc, bump, bytes)?;
     match thin(alloc, tree.items)? {
         Some(unit) => Ok(unit),
         None => Err(NOT_BUILT),

@@ -1,5 +1,6 @@
 //! Laws of thin trees, of thin units and of the warnings.
 ghost use Rattle.tsa_tool.specs.CheckExamples.{ChecksAreAsWritten};
+ghost use Rattle.tsa_tool.specs.PrintedAgain.{PrintedIsPrintedAgain};
 ghost use Rattle.tsa_tool.specs.ThinTrees.{ThinTreesAreSeen};
 ghost use Rattle.tsa_tool.specs.ThinUnits.{ThinUnitsAreWarnedOf};
 ghost use Rattle.tsa_tool.specs.WarningLaws.{WarningsAreTheFailingPremises};
@@ -29,4 +30,10 @@ pub fn checks_are_as_written()
 #[tactic(auto, using(crate::proofs::WarningLaw::warnings_law))]
 pub fn warnings_are_the_failing_premises()
     ensures { WarningsAreTheFailingPremises }
+{}
+
+/// What `print` writes is printed again as the same bytes, where it is taken as an input.
+#[tactic(auto, using(crate::proofs::PrintedAgain::printed_is_printed_again))]
+pub fn what_is_printed_is_printed_again()
+    ensures { PrintedIsPrintedAgain }
 {}

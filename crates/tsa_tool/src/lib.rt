@@ -23,12 +23,14 @@ mod warn;
 
 pub use laws::{
     checks_are_as_written, thin_trees_are_seen, thin_units_are_warned_of,
-    warnings_are_the_failing_premises,
+    warnings_are_the_failing_premises, what_is_printed_is_printed_again,
 };
 pub use top::tool;
 
 #[cfg(test)]
 mod name_tests;
+#[cfg(test)]
+mod print_tests;
 #[cfg(test)]
 mod syntax_tests;
 #[cfg(test)]
