@@ -44,10 +44,15 @@ impl Aliases {
         Ok(())
     }
 
+    /// The allocator that the names are kept by.
+    pub fn allocator(&self) -> Global {
+        *self.names.allocator()
+    }
+
     /// Whether a text is one of the names.
     pub fn has(&self, text: &[u8]) -> bool
         ensures { result ≡ list_any (bytes_eq text.now) self.now }
     {
-        self.names.contains(text)
+        !self.names.is_empty() && self.names.contains(text)
     }
 }

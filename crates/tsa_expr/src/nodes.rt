@@ -177,11 +177,14 @@ pub fn indexed<'a>(
     })
 }
 
-/// One more at the end of a list.
+/// One more at the end of a list, which takes room for one first and then for twice as many: most lists are short.
 pub fn keep<'a>(list: &mut Vec<Expr<'a>, &'a Bump>, item: Expr<'a>) -> Result<(), SyntaxRefusal>
     ensures gives { OnOk result (list.new.items ≡ list.old.items ++ item.entry ∷ []) }
     ensures memory { OnErr result (result ≡ Err SyntaxRefusal.NoMemory) }
 {
+    if list.len() == list.capacity() {
+        list.reserve_exact(list.len().max(1))?;
+    }
     list.push(item)?;
     Ok(())
 }

@@ -35,7 +35,8 @@ fn is_type(text: &[u8], aliases: Option<&Aliases>) -> bool
     }
 }
 
-/// The sign of a word. Most words are names.
+/// The sign of a word. Most words are names. It stands apart, so that the sign of a punctuator is found with few registers.
+#[inline(never)]
 #[tactic(auto, unfolding(tsa_tree::specs::Signs::word_sign), using(tsa_tree::proofs::ReservedWords::not_listed))]
 fn word_sign(text: &[u8], aliases: Option<&Aliases>) -> Sign
     ensures { result ≡ spec_word (known aliases.entry) text.now }
