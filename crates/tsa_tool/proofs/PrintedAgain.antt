@@ -1,24 +1,16 @@
 -- What is printed is printed again.
 use Rattle.std.proofs.Common.{ℕ, ◌≡◌, ◌∙◌, ap, sym, subst, refl, List, [], Option, Some, None, Result, Ok, Err, length}
 use Rattle.tsa_base.specs.Tokens.{BadByte, Lexeme, tokens_of}
-use Rattle.tsa_forms.proofs.Cases.{on_choose}
-use Rattle.tsa_forms.specs.Exact as exact
 use Rattle.tsa_forms.specs.Reading.{Outcome, all}
-use Rattle.tsa_forms.specs.Spelling as forms
-use Rattle.tsa_forms.specs.Spelling.{by_rule, goes_done, goes_token, goes_part, goes_bar, goes_limit, goes_only, goes_left, goes_right}
-use Rattle.tsa_tree.specs.Answers.{below_limit}
 use Rattle.tsa_tree.specs.Expressions.{Identifier}
-use Rattle.tsa_tree.specs.Reads.{read}
-use Rattle.tsa_tree.specs.Rows.{Sort, some_items, items, Node, Call, Row, is_past, sees, rule}
 use Rattle.tsa_tree.specs.UnitAnswers.{Spells, IsAnswer, read_unit}
 use Rattle.tsa_tree.specs.UnitItems.{UnitItem}
 use Rattle.tsa_tree.specs.UnitLimits.{past_functions, past_points}
-use Rattle.tsa_tree.specs.UnitSpelling.{IsItems, no_items}
-use Rattle.tsa_tree.proofs.RowsRead.{read_exact}
-use Rattle.tsa_tree.proofs.RowsToDeclarations.{declaration_of}
+use Rattle.tsa_tree.specs.UnitSpelling.{IsItems}
 use Rattle.tsa_tree.proofs.UnitLaws.{an_answer}
 use Rattle.tsa_expr.specs.declared.refusal.SyntaxRefusal.{SyntaxRefusal}
 use Rattle.tsa_unit.specs.Parsing.{within_points, within_limits, parsed_of, unit_of}
+use Rattle.tsa_unit.proofs.ParsedLaws.{Unlimited, unlimited}
 use Rattle.tsa_print.specs.UnitPieces.{canonical_unit}
 use Rattle.tsa_print.specs.UnitPrintLaws.{IsUnitReadAgain}
 use Rattle.tsa_print.proofs.UnitReadAgain.{sound_unit_is_read_again}
@@ -28,37 +20,6 @@ use Rattle.tsa_tool.specs.Checks.{refusal_of, tree_in}
 use Rattle.tsa_tool.specs.PrintedAgain.{PrintedIsPrintedAgain}
 
 -- A unit that is read is spelled by all its tokens.
-module _ (ts : List Lexeme) where
-  mutual
-    free : {s : Sort} {c : Call s} {x : Node s} {a b : ℕ} → forms.Spells (rule ts) (sees ts) below_limit s c x a b
-        → forms.Spells (rule ts) (sees ts) all s c x a b
-    free (by_rule g) = by_rule (free_goes g)
-
-    free_goes : {s : Sort} {f : Row s} {x : Node s} {a b : ℕ} → forms.Goes (rule ts) (sees ts) below_limit s f x a b
-        → forms.Goes (rule ts) (sees ts) all s f x a b
-    free_goes goes_done = goes_done
-    free_goes (goes_token e g) = goes_token e (free_goes g)
-    free_goes (goes_part sp g) = goes_part (free sp) (free_goes g)
-    free_goes (goes_bar g) = goes_bar (free_goes g)
-    free_goes (goes_limit e g) = goes_limit refl (free_goes g)
-    free_goes (goes_only e g) = goes_only e (free_goes g)
-    free_goes (goes_left g) = goes_left (free_goes g)
-    free_goes (goes_right g) = goes_right (free_goes g)
-
-  abbrev Unlimited : Outcome (List UnitItem) → Type 0
-  Unlimited (Ok found) = IsItems ts all [] found.0 0 found.1
-  Unlimited (Err e) = Unit {0}
-
-  unlimited_rows : (r : Outcome (List UnitItem)) → exact.Exact (rule ts) (sees ts) below_limit some_items (items []) 0 r → Unlimited r
-  unlimited_rows (Ok found) x = (declaration_of ts all (free x.spelled)).0
-  unlimited_rows (Err e) x = tt
-
-  unlimited : Unlimited (read_unit ts)
-  unfolding read_unit
-  unlimited =
-      on_choose Unlimited (is_past ts 0) _ _ (λ e. no_items)
-      (λ e. unlimited_rows (read ts some_items (items []) 0) (read_exact ts some_items (items []) 0))
-
 within_points_gives : (xs tree : List UnitItem) (o : Option Identifier) → within_points xs o ≡ Ok tree → xs ≡ tree
 within_points_gives xs tree None e = cc
 within_points_gives xs tree (Some name) e = cc

@@ -1,10 +1,10 @@
 -- Functions with their bodies.
-use Rattle.std.proofs.Common.{ℕ, ◌+◌, ◌-◌, ◌≡◌, ◌≢◌, ◌∙◌, Bool, Some, None, true, false, nat_eq, ap, sym, subst, refl, List, [], ◌∷◌, ◌++◌, length, map, option_map, Ok, Err}
+use Rattle.std.proofs.Common.{ℕ, ◌+◌, ◌-◌, ◌≡◌, ◌≢◌, ◌∙◌, Some, None, true, nat_eq, ap, sym, subst, refl, List, [], ◌∷◌, ◌++◌, length, map, option_map, Ok}
 use Rattle.std.specs.Borrow.{Bor}
 use Rattle.tsa_base.specs.declared.token.Span.{Span}
 use Rattle.tsa_base.specs.Tokens.{Lexeme}
 use Rattle.tsa_forms.proofs.Cases.{goes, chosen, other}
-use Rattle.tsa_forms.specs.Reading.{Outcome, refuse, syntax, deep, then, choose}
+use Rattle.tsa_forms.specs.Reading.{then}
 use Rattle.tsa_tree.specs.declared.item.FnTree.{FnTree}
 use Rattle.tsa_tree.specs.declared.item.Item.{Item}
 use Rattle.tsa_tree.specs.declared.item.Item.TheVariants as item
@@ -31,15 +31,7 @@ use Rattle.tsa_decl.proofs.ListLaws.{map-push}
 use Rattle.tsa_decl.proofs.TokenLaws.{not_semicolon}
 use Rattle.tsa_decl.proofs.BegunLaws.{more_pointed}
 use Rattle.tsa_unit.specs.Pointed.{ArePointed}
-
--- a brace that opens a body, and the rest
-opens_law : {A : Type 0} (b c : Bool) (m : ℕ) (x : ℕ → Outcome A) (y : Outcome A)
-    → choose b (choose c (choose b (x (m + 1)) (Err (refuse syntax m))) (Err (refuse deep m))) (choose false y (Err (refuse syntax m)))
-    ≡ then (choose b (choose c (Ok (tt {0}, m + 1)) (Err (refuse deep m))) (Err (refuse syntax m))) (λ u n. x n)
-unfolding choose then
-opens_law true true m x y = refl
-opens_law true false m x y = refl
-opens_law false c m x y = refl
+use Rattle.tsa_unit.proofs.RowLaws.{opens_law}
 
 -- the last point is the end
 end_push : (ps : List Point) (p : Point) → end_of (ps ++ p ∷ []) ≡ p.span

@@ -52,7 +52,7 @@ module _ (ts : List Lexeme) where
     free_goes (goes_right g) = goes_right (free_goes g)
 
   -- a unit that was read is spelled, by all its tokens
-  abbrev Unlimited : Outcome (List UnitItem) → Type 0
+  abbrev pub Unlimited : Outcome (List UnitItem) → Type 0
   Unlimited (Ok found) = IsItems ts all [] found.0 0 found.1
   Unlimited (Err e) = Unit {0}
 
@@ -60,7 +60,7 @@ module _ (ts : List Lexeme) where
   unlimited_rows (Ok found) x = (declaration_of ts all (free x.spelled)).0
   unlimited_rows (Err e) x = tt
 
-  unlimited : Unlimited (read_unit ts)
+  pub unlimited : Unlimited (read_unit ts)
   unfolding read_unit
   unlimited =
       on_choose Unlimited (is_past ts 0) _ _ (λ e. no_items)
