@@ -145,7 +145,7 @@ pub fn structure<'a>(
     opening: Opening<'a>,
     attrs: Vec<Attr<'a>, &'a Bump>,
     aliased: bool,
-    list: &mut Vec<Item<'a>, &'a Bump>,
+    list: &mut Vec<Item<'a>>,
 ) -> Result<u32, SyntaxRefusal>
     requires room { length tokens.now ≤ INPUT_LIMIT }
     requires within { opening.next ≤ length tokens.now }
@@ -177,7 +177,7 @@ pub fn enumeration<'a>(
     aliases: Option<&Aliases>,
     opening: Opening<'a>,
     aliased: bool,
-    list: &mut Vec<Item<'a>, &'a Bump>,
+    list: &mut Vec<Item<'a>>,
 ) -> Result<u32, SyntaxRefusal>
     requires room { length tokens.now ≤ INPUT_LIMIT }
     requires within { opening.next ≤ length tokens.now }
@@ -207,7 +207,7 @@ pub fn plain_alias<'a>(
     tokens: &[Token<'_>],
     aliases: Option<&Aliases>,
     specified: Specified<'a>,
-    list: &mut Vec<Item<'a>, &'a Bump>,
+    list: &mut Vec<Item<'a>>,
 ) -> Result<u32, SyntaxRefusal>
     requires room { length tokens.now ≤ INPUT_LIMIT }
     requires within { specified.next ≤ length tokens.now }

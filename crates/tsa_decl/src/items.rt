@@ -42,7 +42,7 @@ pub fn begin_item<'a>(
     tokens: &[Token<'_>],
     at: u32,
     aliases: Option<&Aliases>,
-    list: &mut Vec<Item<'a>, &'a Bump>,
+    list: &mut Vec<Item<'a>>,
 ) -> Result<Begun<'a>, SyntaxRefusal>
     requires room { length tokens.now ≤ INPUT_LIMIT }
     requires within { at ≤ length tokens.now }
@@ -70,7 +70,7 @@ fn other<'a>(
     tokens: &[Token<'_>],
     at: u32,
     aliases: Option<&Aliases>,
-    list: &mut Vec<Item<'a>, &'a Bump>,
+    list: &mut Vec<Item<'a>>,
 ) -> Result<Begun<'a>, SyntaxRefusal>
     requires room { length tokens.now ≤ INPUT_LIMIT }
     requires within { at ≤ length tokens.now }
@@ -92,7 +92,7 @@ fn declared<'a>(
     tokens: &[Token<'_>],
     aliases: Option<&Aliases>,
     specified: Specified<'a>,
-    list: &mut Vec<Item<'a>, &'a Bump>,
+    list: &mut Vec<Item<'a>>,
 ) -> Result<Begun<'a>, SyntaxRefusal>
     requires room { length tokens.now ≤ INPUT_LIMIT }
     requires within { specified.next ≤ length tokens.now }
@@ -121,7 +121,7 @@ fn declared_of<'a>(
     at: u32,
     aliases: Option<&Aliases>,
     base: BaseType<'a>,
-    list: &mut Vec<Item<'a>, &'a Bump>,
+    list: &mut Vec<Item<'a>>,
 ) -> Result<Begun<'a>, SyntaxRefusal>
     requires room { length tokens.now ≤ INPUT_LIMIT }
     requires within { at ≤ length tokens.now }
@@ -143,7 +143,7 @@ fn alias_of<'a>(
     at: u32,
     aliases: Option<&Aliases>,
     base: BaseType<'a>,
-    list: &mut Vec<Item<'a>, &'a Bump>,
+    list: &mut Vec<Item<'a>>,
 ) -> Result<u32, SyntaxRefusal>
     requires room { length tokens.now ≤ INPUT_LIMIT }
     requires within { at ≤ length tokens.now }
@@ -177,7 +177,7 @@ fn struct_item<'a>(
     tokens: &[Token<'_>],
     at: u32,
     aliases: Option<&Aliases>,
-    list: &mut Vec<Item<'a>, &'a Bump>,
+    list: &mut Vec<Item<'a>>,
 ) -> Result<Begun<'a>, SyntaxRefusal>
     requires room { length tokens.now ≤ INPUT_LIMIT }
     requires within { at < length tokens.now }
@@ -220,7 +220,7 @@ fn enum_item<'a>(
     tokens: &[Token<'_>],
     at: u32,
     aliases: Option<&Aliases>,
-    list: &mut Vec<Item<'a>, &'a Bump>,
+    list: &mut Vec<Item<'a>>,
 ) -> Result<Begun<'a>, SyntaxRefusal>
     requires room { length tokens.now ≤ INPUT_LIMIT }
     requires within { at < length tokens.now }
@@ -246,7 +246,7 @@ fn typedef<'a>(
     tokens: &[Token<'_>],
     at: u32,
     aliases: Option<&Aliases>,
-    list: &mut Vec<Item<'a>, &'a Bump>,
+    list: &mut Vec<Item<'a>>,
 ) -> Result<u32, SyntaxRefusal>
     requires room { length tokens.now ≤ INPUT_LIMIT }
     requires within { at < length tokens.now }
@@ -271,7 +271,7 @@ fn struct_alias<'a>(
     tokens: &[Token<'_>],
     at: u32,
     aliases: Option<&Aliases>,
-    list: &mut Vec<Item<'a>, &'a Bump>,
+    list: &mut Vec<Item<'a>>,
 ) -> Result<u32, SyntaxRefusal>
     requires room { length tokens.now ≤ INPUT_LIMIT }
     requires within { at + 1 < length tokens.now }
@@ -299,7 +299,7 @@ fn enum_alias<'a>(
     tokens: &[Token<'_>],
     at: u32,
     aliases: Option<&Aliases>,
-    list: &mut Vec<Item<'a>, &'a Bump>,
+    list: &mut Vec<Item<'a>>,
 ) -> Result<u32, SyntaxRefusal>
     requires room { length tokens.now ≤ INPUT_LIMIT }
     requires within { at + 1 < length tokens.now }

@@ -17,7 +17,7 @@ mod view;
 
 pub use items::{Begun, begin_item};
 pub use locals::read_locals;
-pub use nodes::{keep, listed};
+pub use nodes::{in_arena, keep};
 pub use read::{read_declaration, read_head, read_local};
 pub use view::{is_close_brace_at, name, open, open_brace, semicolon};
 

@@ -98,7 +98,7 @@ pub fn globals<'a>(
     aliases: Option<&Aliases>,
     specified: Specified<'a>,
     first: Declarator<'a>,
-    list: &mut Vec<Item<'a>, &'a Bump>,
+    list: &mut Vec<Item<'a>>,
 ) -> Result<u32, SyntaxRefusal>
     requires room { count tokens.now ≤ INPUT_LIMIT }
     requires within { first.next ≤ count tokens.now }

@@ -17,7 +17,7 @@ ghost use Rattle.tsa_decl.specs.Outcomes.{finished};
 use crate::heads::head;
 use crate::items::{Begun, begin_item};
 use crate::locals::read_locals;
-use crate::nodes::{keep, listed};
+use crate::nodes::{in_arena, keep};
 use crate::view::semicolon;
 use bumpalo::Bump;
 use tsa_base::Token;
@@ -61,10 +61,10 @@ fn read_items<'a>(
     ensures gives { Gives (λ found. (item_shapes found.0.now, found.1)) result (read (lexemes tokens.now) some_items (item_call aliases.now false) at) }
     ensures ends { IfOk result (λ found. (at < found.1) × (found.1 ≤ length tokens.now)) }
 {
-    let mut list = Vec::new(bump);
+    let mut list = Vec::new(aliases.allocator());
     let begun = begin_item(bump, tokens, at, Some(aliases), &mut list)?;
     let next = finish(tokens, Some(aliases), begun, &mut list)?;
-    let items = listed(list);
+    let items = in_arena(bump, &list)?;
     Ok((items, next))
 }
 
@@ -74,7 +74,7 @@ fn finish<'a>(
     tokens: &[Token<'_>],
     aliases: Option<&Aliases>,
     begun: Begun<'a>,
-    list: &mut Vec<Item<'a>, &'a Bump>,
+    list: &mut Vec<Item<'a>>,
 ) -> Result<u32, SyntaxRefusal>
     requires room { length tokens.now ≤ INPUT_LIMIT }
     requires within { begun.next ≤ length tokens.now }

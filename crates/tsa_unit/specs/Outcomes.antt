@@ -1,5 +1,5 @@
 -- What the parts of statements give, by the rows.
-use Rattle.std.specs.Prelude.{ℕ, ◌+◌, ◌≤◌, List, Some, None, Ok, Err}
+use Rattle.std.specs.Prelude.{ℕ, ◌+◌, ◌≤◌, Bool, nat_eq, List, Some, None, Ok, Err}
 use Rattle.tsa_base.specs.declared.limits.TheConstants.{INPUT_LIMIT}
 use Rattle.std.specs.declared.option.Option.{Option}
 use Rattle.tsa_base.specs.declared.token.Span.{Span}
@@ -9,7 +9,7 @@ use Rattle.tsa_tree.specs.declared.sign.Sign.{Sign}
 use Rattle.tsa_tree.specs.declared.sign.Sign.TheVariants as sign
 use Rattle.tsa_tree.specs.Reads.{read}
 use Rattle.tsa_tree.specs.Expressions.{Expression}
-use Rattle.tsa_tree.specs.Rows.{an_expression, a_simple, a_statement, expression, simple, statement, a_close, a_semicolon, sees}
+use Rattle.tsa_tree.specs.Rows.{an_expression, a_simple, a_statement, expression, simple, statement, a_close, a_semicolon, mark, sees}
 use Rattle.tsa_tree.specs.Answers.{below_limit}
 use Rattle.tsa_tree.specs.Signs.{Aliases, sign_at, span_at, span_over, begins_statement}
 use Rattle.tsa_tree.specs.Statements as plain
@@ -25,6 +25,10 @@ AreNear tokens = (at : ℕ) → (span_at tokens at).from ≤ INPUT_LIMIT
 abbrev pub step_in : Sign → Option BinaryOp
 step_in (sign.Step op) = Some op
 step_in _ = None
+
+-- the sign of the brace that closes a block
+abbrev pub closes_block : Sign → Bool
+closes_block s = nat_eq (mark s) (mark sign.CloseBrace)
 
 -- a simple statement, without what ends it
 unfoldable pub simple_at : List Lexeme → Aliases → (depth at : ℕ) → Outcome Simple

@@ -105,7 +105,7 @@ pub fn do_statement<'a>(
     depth: u32,
     aliases: Option<&Aliases>,
     body: Body<'a>,
-    points: &mut Vec<Point<'a>, &'a Bump>,
+    points: &mut Vec<Point<'a>>,
 ) -> Result<Read<'a>, SyntaxRefusal>
     requires room { length tokens.now ≤ INPUT_LIMIT }
     requires within { (start < body.next) × (body.next ≤ length tokens.now) }

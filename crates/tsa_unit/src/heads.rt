@@ -68,7 +68,7 @@ pub fn marked_test<'a>(
     at: u32,
     depth: u32,
     aliases: Option<&Aliases>,
-    points: &mut Vec<Point<'a>, &'a Bump>,
+    points: &mut Vec<Point<'a>>,
 ) -> Result<Marked<'a>, SyntaxRefusal>
     requires room { length tokens.now ≤ INPUT_LIMIT }
     requires within { at ≤ length tokens.now }
@@ -97,7 +97,7 @@ pub fn while_head<'a>(
     start: u32,
     depth: u32,
     aliases: Option<&Aliases>,
-    points: &mut Vec<Point<'a>, &'a Bump>,
+    points: &mut Vec<Point<'a>>,
 ) -> Result<Headed<'a>, SyntaxRefusal>
     requires room { length tokens.now ≤ INPUT_LIMIT }
     requires within { start < length tokens.now }
@@ -128,7 +128,7 @@ pub fn switch_head<'a>(
     start: u32,
     depth: u32,
     aliases: Option<&Aliases>,
-    points: &mut Vec<Point<'a>, &'a Bump>,
+    points: &mut Vec<Point<'a>>,
 ) -> Result<Headed<'a>, SyntaxRefusal>
     requires room { length tokens.now ≤ INPUT_LIMIT }
     requires within { start < length tokens.now }
@@ -160,7 +160,7 @@ pub fn for_head<'a>(
     start: u32,
     depth: u32,
     aliases: Option<&Aliases>,
-    points: &mut Vec<Point<'a>, &'a Bump>,
+    points: &mut Vec<Point<'a>>,
 ) -> Result<Headed<'a>, SyntaxRefusal>
     requires room { length tokens.now ≤ INPUT_LIMIT }
     requires near { AreNear (lexemes tokens.now) }

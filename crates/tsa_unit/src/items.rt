@@ -14,8 +14,9 @@ ghost use Rattle.tsa_unit.specs.Outcomes.{AreNear};
 use crate::points::mark;
 use crate::statements::statements;
 use bumpalo::Bump;
+use std::alloc::Global;
 use tsa_base::Token;
-use tsa_decl::{begin_item, keep, listed, open_brace};
+use tsa_decl::{begin_item, in_arena, keep, open_brace};
 use tsa_expr::{Aliases, SyntaxRefusal, sign_at, span_at};
 use tsa_tree::item::{FnTree, Item};
 use tsa_tree::sign::Sign;
@@ -28,7 +29,7 @@ pub fn item<'a>(
     tokens: &[Token<'_>],
     at: u32,
     aliases: Option<&Aliases>,
-    list: &mut Vec<Item<'a>, &'a Bump>,
+    list: &mut Vec<Item<'a>>,
 ) -> Result<u32, SyntaxRefusal>
     requires room { length tokens.now ≤ INPUT_LIMIT }
     requires near { AreNear (lexemes tokens.now) }
@@ -41,7 +42,7 @@ pub fn item<'a>(
     let Some(head) = begun.head else {
         return Ok(begun.next);
     };
-    let (whole, next) = function(bump, tokens, begun.next, aliases, head)?;
+    let (whole, next) = function(*list.allocator(), bump, tokens, begun.next, aliases, head)?;
     keep(list, Item::Function(whole))?;
     Ok(next)
 }
@@ -49,6 +50,7 @@ pub fn item<'a>(
 /// A function from behind its head on: a `;`, or its body with the body's points, the last of which is its end.
 #[tactic(auto, using(crate::proofs::FunctionLaws::functions))]
 fn function<'a>(
+    alloc: Global,
     bump: &'a Bump,
     tokens: &[Token<'_>],
     at: u32,
@@ -67,10 +69,10 @@ fn function<'a>(
         return Ok((head, at + 1));
     }
     let inside = open_brace(tokens, at, 0, aliases)?;
-    let mut points = Vec::new(bump);
+    let mut points = Vec::new(alloc);
     let (body, next) = statements(bump, tokens, inside, 1, aliases, &mut points)?;
     mark(&mut points, Action::End, span_at(tokens, next - 1))?;
-    let points = listed(points);
+    let points = in_arena(bump, &points)?;
     Ok((with_body(head, body, points), next))
 }
 

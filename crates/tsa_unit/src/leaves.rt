@@ -65,7 +65,7 @@ pub fn simple_statement<'a>(
     at: u32,
     depth: u32,
     aliases: Option<&Aliases>,
-    points: &mut Vec<Point<'a>, &'a Bump>,
+    points: &mut Vec<Point<'a>>,
 ) -> Result<Read<'a>, SyntaxRefusal>
     requires room { length tokens.now ≤ INPUT_LIMIT }
     requires within { at ≤ length tokens.now }
@@ -91,7 +91,7 @@ fn closed<'a>(
     at: u32,
     aliases: Option<&Aliases>,
     deed: Deed<'a>,
-    points: &mut Vec<Point<'a>, &'a Bump>,
+    points: &mut Vec<Point<'a>>,
 ) -> Result<Read<'a>, SyntaxRefusal>
     requires room { length tokens.now ≤ INPUT_LIMIT }
     requires within { (start ≤ at) × (at ≤ length tokens.now) }
@@ -112,7 +112,7 @@ pub fn empty<'a>(
     tokens: &[Token<'_>],
     at: u32,
     aliases: Option<&Aliases>,
-    points: &mut Vec<Point<'a>, &'a Bump>,
+    points: &mut Vec<Point<'a>>,
 ) -> Result<Read<'a>, SyntaxRefusal>
     requires room { length tokens.now ≤ INPUT_LIMIT }
     requires within { at ≤ length tokens.now }
@@ -135,7 +135,7 @@ pub fn jump<'a>(
     start: u32,
     aliases: Option<&Aliases>,
     kind: StmtKind<'a>,
-    points: &mut Vec<Point<'a>, &'a Bump>,
+    points: &mut Vec<Point<'a>>,
 ) -> Result<Read<'a>, SyntaxRefusal>
     requires room { length tokens.now ≤ INPUT_LIMIT }
     requires within { start < length tokens.now }
@@ -160,7 +160,7 @@ pub fn goto<'a>(
     tokens: &[Token<'_>],
     start: u32,
     aliases: Option<&Aliases>,
-    points: &mut Vec<Point<'a>, &'a Bump>,
+    points: &mut Vec<Point<'a>>,
 ) -> Result<Read<'a>, SyntaxRefusal>
     requires room { length tokens.now ≤ INPUT_LIMIT }
     requires within { start < length tokens.now }
@@ -186,7 +186,7 @@ pub fn return_statement<'a>(
     start: u32,
     depth: u32,
     aliases: Option<&Aliases>,
-    points: &mut Vec<Point<'a>, &'a Bump>,
+    points: &mut Vec<Point<'a>>,
 ) -> Result<Read<'a>, SyntaxRefusal>
     requires room { length tokens.now ≤ INPUT_LIMIT }
     requires within { start < length tokens.now }

@@ -43,7 +43,7 @@ pub fn begin_statement<'a>(
     at: u32,
     depth: u32,
     aliases: Option<&Aliases>,
-    points: &mut Vec<Point<'a>, &'a Bump>,
+    points: &mut Vec<Point<'a>>,
 ) -> Result<Opening<'a>, SyntaxRefusal>
     requires room { length tokens.now ≤ INPUT_LIMIT }
     requires near { AreNear (lexemes tokens.now) }
@@ -75,7 +75,7 @@ fn named<'a>(
     at: u32,
     depth: u32,
     aliases: Option<&Aliases>,
-    points: &mut Vec<Point<'a>, &'a Bump>,
+    points: &mut Vec<Point<'a>>,
 ) -> Result<Opening<'a>, SyntaxRefusal>
     requires room { length tokens.now ≤ INPUT_LIMIT }
     requires within { at < length tokens.now }
@@ -104,7 +104,7 @@ fn worded<'a>(
     depth: u32,
     aliases: Option<&Aliases>,
     word: Keyword,
-    points: &mut Vec<Point<'a>, &'a Bump>,
+    points: &mut Vec<Point<'a>>,
 ) -> Result<Opening<'a>, SyntaxRefusal>
     requires room { length tokens.now ≤ INPUT_LIMIT }
     requires near { AreNear (lexemes tokens.now) }
@@ -145,7 +145,7 @@ fn jumped<'a>(
     depth: u32,
     aliases: Option<&Aliases>,
     word: Keyword,
-    points: &mut Vec<Point<'a>, &'a Bump>,
+    points: &mut Vec<Point<'a>>,
 ) -> Result<Read<'a>, SyntaxRefusal>
     requires room { length tokens.now ≤ INPUT_LIMIT }
     requires within { at < length tokens.now }

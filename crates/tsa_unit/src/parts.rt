@@ -53,7 +53,7 @@ fn simply<'a>(
     at: u32,
     depth: u32,
     aliases: Option<&Aliases>,
-    points: &mut Vec<Point<'a>, &'a Bump>,
+    points: &mut Vec<Point<'a>>,
 ) -> Result<Body<'a>, SyntaxRefusal>
     requires room { length tokens.now ≤ INPUT_LIMIT }
     requires within { at ≤ length tokens.now }
@@ -82,7 +82,7 @@ fn local_init<'a>(
     at: u32,
     depth: u32,
     aliases: Option<&Aliases>,
-    points: &mut Vec<Point<'a>, &'a Bump>,
+    points: &mut Vec<Point<'a>>,
 ) -> Result<Part<'a>, SyntaxRefusal>
     requires room { length tokens.now ≤ INPUT_LIMIT }
     requires within { at ≤ length tokens.now }
@@ -115,7 +115,7 @@ pub fn for_init<'a>(
     at: u32,
     depth: u32,
     aliases: Option<&Aliases>,
-    points: &mut Vec<Point<'a>, &'a Bump>,
+    points: &mut Vec<Point<'a>>,
 ) -> Result<Part<'a>, SyntaxRefusal>
     requires room { length tokens.now ≤ INPUT_LIMIT }
     requires within { at ≤ length tokens.now }
@@ -152,7 +152,7 @@ pub fn for_step<'a>(
     at: u32,
     depth: u32,
     aliases: Option<&Aliases>,
-    points: &mut Vec<Point<'a>, &'a Bump>,
+    points: &mut Vec<Point<'a>>,
 ) -> Result<Part<'a>, SyntaxRefusal>
     requires room { length tokens.now ≤ INPUT_LIMIT }
     requires within { at ≤ length tokens.now }
@@ -183,7 +183,7 @@ pub fn mark_loop<'a>(
     bump: &'a Bump,
     word: Span,
     test: Option<Expr<'a>>,
-    points: &mut Vec<Point<'a>, &'a Bump>,
+    points: &mut Vec<Point<'a>>,
 ) -> Result<u32, SyntaxRefusal>
     requires near { word.from ≤ INPUT_LIMIT }
     requires few { length points.now.items ≤ INPUT_LIMIT }
@@ -207,8 +207,8 @@ pub fn mark_loop<'a>(
 #[tactic(auto, using(crate::proofs::MarkLaws::declared))]
 pub fn declare<'a>(
     decls: &'a [Decl<'a>],
-    points: &mut Vec<Point<'a>, &'a Bump>,
-    list: &mut Vec<Stmt<'a>, &'a Bump>,
+    points: &mut Vec<Point<'a>>,
+    list: &mut Vec<Stmt<'a>>,
 ) -> Result<(), SyntaxRefusal>
     requires few { length points.now.items + length decls.now ≤ INPUT_LIMIT }
     ensures listed { OnOk result (stmt_shapes list.new.items ≡ joined (stmt_shapes list.old.items) (locals_before (decl_shapes decls.entry.now) none)) }
@@ -231,8 +231,8 @@ pub fn locals<'a>(
     at: u32,
     depth: u32,
     aliases: Option<&Aliases>,
-    points: &mut Vec<Point<'a>, &'a Bump>,
-    list: &mut Vec<Stmt<'a>, &'a Bump>,
+    points: &mut Vec<Point<'a>>,
+    list: &mut Vec<Stmt<'a>>,
 ) -> Result<u32, SyntaxRefusal>
     requires room { length tokens.now ≤ INPUT_LIMIT }
     requires within { at ≤ length tokens.now }

@@ -18,7 +18,7 @@ pub struct Read<'a> {
 
 /// Keeps a point behind the others, and gives its number.
 pub fn mark<'a>(
-    points: &mut Vec<Point<'a>, &'a Bump>,
+    points: &mut Vec<Point<'a>>,
     action: Action<'a>,
     span: Span,
 ) -> Result<u32, SyntaxRefusal>
@@ -36,7 +36,7 @@ pub fn mark<'a>(
 /// A statement of one point.
 #[tactic(auto, using(crate::proofs::PointLaws::alone))]
 pub fn pointed<'a>(
-    points: &mut Vec<Point<'a>, &'a Bump>,
+    points: &mut Vec<Point<'a>>,
     kind: StmtKind<'a>,
     action: Action<'a>,
     span: Span,
@@ -55,7 +55,7 @@ pub fn pointed<'a>(
 
 /// A statement of one point, up to before `next`.
 pub fn alone<'a>(
-    points: &mut Vec<Point<'a>, &'a Bump>,
+    points: &mut Vec<Point<'a>>,
     kind: StmtKind<'a>,
     action: Action<'a>,
     span: Span,
@@ -74,10 +74,7 @@ pub fn alone<'a>(
 
 /// The statement that a local is.
 #[tactic(auto, using(crate::proofs::MarkLaws::locals))]
-pub fn local<'a>(
-    points: &mut Vec<Point<'a>, &'a Bump>,
-    decl: &'a Decl<'a>,
-) -> Result<Stmt<'a>, SyntaxRefusal>
+pub fn local<'a>(points: &mut Vec<Point<'a>>, decl: &'a Decl<'a>) -> Result<Stmt<'a>, SyntaxRefusal>
     requires few { length points.now.items ≤ INPUT_LIMIT }
     ensures is { IfOk result (λ stmt. (stmt.kind ≡ StmtKind.Local decl.entry.now) × (stmt.span ≡ decl.entry.now.span)) }
     ensures pointed { IfOk result (λ stmt. IsPointed points.old.items points.new.items stmt) }

@@ -1,7 +1,7 @@
 //! What statements see of a sign.
 ghost use Rattle.std.specs.Prelude.{◌≡◌, ◌≢◌, None};
 ghost use Rattle.tsa_tree.specs.Signs.{assigns as spec_assigns, begins_type as spec_begins_type, begins_statement as spec_begins_statement};
-ghost use Rattle.tsa_unit.specs.Outcomes.{step_in};
+ghost use Rattle.tsa_unit.specs.Outcomes.{step_in, closes_block as spec_closes_block};
 
 use tsa_tree::expr::BinaryOp;
 use tsa_tree::sign::{Keyword, Sign};
@@ -25,6 +25,16 @@ pub fn assigns(sign: Sign) -> Option<Option<BinaryOp>>
         Sign::Equals => Some(None),
         Sign::Assign(op) => Some(Some(op)),
         _ => None,
+    }
+}
+
+/// Whether a sign closes a block (C11 6.8.2).
+pub fn closes_block(sign: Sign) -> bool
+    ensures { result ≡ spec_closes_block sign }
+{
+    match sign {
+        Sign::CloseBrace => true,
+        _ => false,
     }
 }
 

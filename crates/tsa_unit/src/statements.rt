@@ -22,10 +22,10 @@ use crate::heads::{Headed, Marked};
 use crate::openings::{Opening, begin_statement};
 use crate::parts::{Body, locals};
 use crate::points::Read;
-use crate::signs::{begins_statement, begins_type};
+use crate::signs::{begins_statement, begins_type, closes_block};
 use bumpalo::Bump;
 use tsa_base::{NESTING_LIMIT, Token};
-use tsa_decl::{is_close_brace_at, keep, listed, open_brace};
+use tsa_decl::{in_arena, keep, open_brace};
 use tsa_expr::{Aliases, SyntaxCode, SyntaxRefusal, refuse, sign_at};
 use tsa_tree::stmt::{Point, Stmt};
 
@@ -38,7 +38,7 @@ pub fn statement<'a>(
     at: u32,
     depth: u32,
     aliases: Option<&Aliases>,
-    points: &mut Vec<Point<'a>, &'a Bump>,
+    points: &mut Vec<Point<'a>>,
 ) -> Result<Read<'a>, SyntaxRefusal>
     requires room { length tokens.now ≤ INPUT_LIMIT }
     requires near { AreNear (lexemes tokens.now) }
@@ -68,7 +68,7 @@ fn body<'a>(
     at: u32,
     depth: u32,
     aliases: Option<&Aliases>,
-    points: &mut Vec<Point<'a>, &'a Bump>,
+    points: &mut Vec<Point<'a>>,
 ) -> Result<Body<'a>, SyntaxRefusal>
     requires room { length tokens.now ≤ INPUT_LIMIT }
     requires near { AreNear (lexemes tokens.now) }
@@ -104,7 +104,7 @@ fn ending<'a>(
     depth: u32,
     aliases: Option<&Aliases>,
     headed: Headed<'a>,
-    points: &mut Vec<Point<'a>, &'a Bump>,
+    points: &mut Vec<Point<'a>>,
 ) -> Result<Read<'a>, SyntaxRefusal>
     requires room { length tokens.now ≤ INPUT_LIMIT }
     requires near { AreNear (lexemes tokens.now) }
@@ -130,7 +130,7 @@ fn arms<'a>(
     depth: u32,
     aliases: Option<&Aliases>,
     marked: Marked<'a>,
-    points: &mut Vec<Point<'a>, &'a Bump>,
+    points: &mut Vec<Point<'a>>,
 ) -> Result<Read<'a>, SyntaxRefusal>
     requires room { length tokens.now ≤ INPUT_LIMIT }
     requires near { AreNear (lexemes tokens.now) }
@@ -159,7 +159,7 @@ fn do_loop<'a>(
     start: u32,
     depth: u32,
     aliases: Option<&Aliases>,
-    points: &mut Vec<Point<'a>, &'a Bump>,
+    points: &mut Vec<Point<'a>>,
 ) -> Result<Read<'a>, SyntaxRefusal>
     requires room { length tokens.now ≤ INPUT_LIMIT }
     requires near { AreNear (lexemes tokens.now) }
@@ -184,7 +184,7 @@ fn block<'a>(
     start: u32,
     depth: u32,
     aliases: Option<&Aliases>,
-    points: &mut Vec<Point<'a>, &'a Bump>,
+    points: &mut Vec<Point<'a>>,
 ) -> Result<Read<'a>, SyntaxRefusal>
     requires room { length tokens.now ≤ INPUT_LIMIT }
     requires near { AreNear (lexemes tokens.now) }
@@ -210,7 +210,7 @@ pub fn statements<'a>(
     at: u32,
     depth: u32,
     aliases: Option<&Aliases>,
-    points: &mut Vec<Point<'a>, &'a Bump>,
+    points: &mut Vec<Point<'a>>,
 ) -> Result<(&'a [Stmt<'a>], u32), SyntaxRefusal>
     requires room { length tokens.now ≤ INPUT_LIMIT }
     requires near { AreNear (lexemes tokens.now) }
@@ -222,10 +222,14 @@ pub fn statements<'a>(
     ensures few { IfOk result (λ found. length points.new.items < found.1) }
     ensures ends { IfOk result (λ found. (at < found.1) × (found.1 ≤ length tokens.now)) }
 {
-    let mut list = Vec::new(bump);
+    let mut list = Vec::new(*points.allocator());
     let mut next = at;
-    'statements: while !is_close_brace_at(tokens, next, aliases) {
-        next = if begins_type(sign_at(tokens, next, aliases)) {
+    'statements: loop {
+        let sign = sign_at(tokens, next, aliases);
+        if closes_block(sign) {
+            return Ok((in_arena(bump, &list)?, next + 1));
+        }
+        next = if begins_type(sign) {
             locals(bump, tokens, next, depth, aliases, points, &mut list)?
         } else {
             let read = statement(bump, tokens, next, depth, aliases, points)?;
@@ -233,5 +237,4 @@ pub fn statements<'a>(
             read.next
         };
     }
-    Ok((listed(list), next + 1))
 }

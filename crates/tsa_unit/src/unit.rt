@@ -17,9 +17,9 @@ use crate::items::item;
 use crate::limits::within_limits;
 use crate::names::learn_from;
 use bumpalo::Bump;
-use bumpalo::collections::into_bump_slice;
 use std::alloc::Global;
 use tsa_base::Token;
+use tsa_decl::in_arena;
 use tsa_expr::{Aliases, SyntaxCode, SyntaxRefusal};
 use tsa_tree::Parsed;
 use tsa_tree::item::{Item, UnitTree};
@@ -87,7 +87,7 @@ fn within<'a>(
     ensures points { IfOk result (λ items. HaveTheirPoints items.now) }
 {
     let list = read_items(alloc, bump, tokens)?;
-    let items = into_bump_slice(list);
+    let items = in_arena(bump, &list)?;
     within_limits(items)?;
     Ok(items)
 }
@@ -98,14 +98,14 @@ fn read_items<'a>(
     alloc: Global,
     bump: &'a Bump,
     tokens: &[Token<'_>],
-) -> Result<Vec<Item<'a>, &'a Bump>, SyntaxRefusal>
+) -> Result<Vec<Item<'a>>, SyntaxRefusal>
     requires room { length tokens.now ≤ INPUT_LIMIT }
     requires near { AreNear (lexemes tokens.now) }
     ensures gives { Gives (λ list. (item_shapes list.items, length tokens.now)) result (read_unit (lexemes tokens.now)) }
     ensures points { IfOk result (λ list. HaveTheirPoints list.items) }
 {
     let mut aliases = Aliases::new(alloc);
-    let mut list = Vec::new(bump);
+    let mut list = Vec::new(alloc);
     let mut next = 0;
     'items: while (next as usize) < tokens.len() {
         next = next_item(bump, tokens, next, &mut aliases, &mut list)?;
@@ -120,7 +120,7 @@ fn next_item<'a>(
     tokens: &[Token<'_>],
     at: u32,
     aliases: &mut Aliases,
-    list: &mut Vec<Item<'a>, &'a Bump>,
+    list: &mut Vec<Item<'a>>,
 ) -> Result<u32, SyntaxRefusal>
     requires room { length tokens.now ≤ INPUT_LIMIT }
     requires near { AreNear (lexemes tokens.now) }
