@@ -1,6 +1,6 @@
 -- Pieces that are put on a page one behind another, and the text of a page.
-use Rattle.std.proofs.Common.{ℕ, ◌≡◌, ◌<◌, ◌+◌, ◌-◌, List, [], ◌∷◌, ◌++◌, Bool, false, if◌then◌else◌, Option, refl, sym, ap, ◌∙◌, suc, arith}
-use Rattle.std.proofs.lemmas.List.{append_assoc, append-nil}
+use Rattle.std.proofs.Common.{ℕ, ◌≡◌, ◌+◌, ◌-◌, List, [], ◌∷◌, ◌++◌, Bool, false, if◌then◌else◌, Option, refl, sym, ap, ◌∙◌, zero, suc, ◌*◌, ◌≤◌, length, take, replicate, arith}
+use Rattle.std.proofs.lemmas.List.{append_assoc, append-nil, take_all, replicate-append-replicate}
 use Rattle.tsa_tree.specs.declared.expr.BinaryOp.{BinaryOp}
 use Rattle.tsa_print.specs.declared.mark.Mark.{Mark}
 use Rattle.tsa_print.specs.declared.sheet.Behind.{Behind}
@@ -25,19 +25,21 @@ put_laid page (p ∷ ps) =
     ∙ ap (λ x. page.text ++ x) (append_assoc before (piece_text p ++ line_end p) behind
     ∙ ap (λ x. before ++ x) (append_assoc (piece_text p) (line_end p) behind))
 
--- a further level is indented
-pub indent_all : (n : ℕ) → indentation n ≡ indentation (n - 0)
-indent_all n = let e : n ≡ n - 0 = omega arith in ap indentation e
-
-pub indent_one : (n i : ℕ) → i < n → indentation (n - i) ≡ 32 ∷ 32 ∷ indentation (n - (i + 1))
+-- so many blanks indent a line
+blanks : (levels : ℕ) → indentation levels ≡ replicate (2 * levels) 32
 unfolding indentation
-indent_one n i h =
-    let e : n - i ≡ suc (n - (i + 1)) = omega (arith, h) in
-    ap indentation e
+blanks zero = refl
+blanks (suc levels) =
+    let e : 2 + 2 * levels ≡ 2 * suc levels = omega arith in
+    ap (λ x. 32 ∷ 32 ∷ x) (blanks levels) ∙ replicate-append-replicate 2 (2 * levels) 32 ∙ ap (λ n. replicate n 32) e
 
-pub indent_done : (n i : ℕ) → n ≡ i → indentation (n - i) ≡ []
-unfolding indentation
-indent_done n i h = let e : n - i ≡ 0 = omega (arith, h) in ap indentation e
+pub indented : (text : List ℕ) (levels : ℕ) → take (length text + 2 * levels) text ++ replicate (length text + 2 * levels - length text) 32 ≡ text ++ indentation levels
+indented text levels =
+    let all : length text ≤ length text + 2 * levels = omega arith in
+    let rest : length text + 2 * levels - length text ≡ 2 * levels = omega arith in
+    ap (λ x. x ++ replicate (length text + 2 * levels - length text) 32) (take_all (length text + 2 * levels) text all)
+    ∙ ap (λ n. text ++ replicate n 32) rest
+    ∙ ap (λ x. text ++ x) (sym (blanks levels))
 
 pub lead_same : (levels : ℕ) (behind : Behind) (p : Piece) → lead levels behind p ≡ lead_by levels behind (closes_level p) (binds_left p)
 lead_same levels LineStart p = refl

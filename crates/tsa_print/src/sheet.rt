@@ -29,13 +29,11 @@ pub struct Sheet {
 }
 
 // Appends two blanks for each open block or struct.
-#[tactic(auto, using(crate::proofs::Pages::indent_all))]
+#[tactic(auto, using(crate::proofs::Pages::indented))]
 fn indent(text: &mut Vec<u8>, levels: u32) -> Result<(), NoMemory>
     ensures { OnOk result (text.new.items ≡ text.old.items ++ indentation levels) }
 {
-    'levels: for _ in 0..levels {
-        text.extend_from_slice(b"  ")?;
-    }
+    text.resize(text.len() + 2 * levels as usize, b' ')?;
     Ok(())
 }
 
