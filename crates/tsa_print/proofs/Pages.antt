@@ -1,6 +1,6 @@
 -- Pieces that are put on a page one behind another, and the text of a page.
-use Rattle.std.proofs.Common.{ℕ, ◌≡◌, ◌+◌, ◌-◌, List, [], ◌∷◌, ◌++◌, Bool, false, if◌then◌else◌, Option, refl, sym, ap, ◌∙◌, zero, suc, ◌*◌, ◌≤◌, length, take, replicate, arith}
-use Rattle.std.proofs.lemmas.List.{append_assoc, append-nil, take_all, replicate-append-replicate}
+use Rattle.std.proofs.Common.{ℕ, ◌≡◌, ◌+◌, ◌-◌, List, [], ◌∷◌, ◌++◌, Bool, false, if◌then◌else◌, Option, refl, sym, ap, ◌∙◌, zero, suc, ◌*◌, ◌≤◌, take, replicate, arith}
+use Rattle.std.proofs.lemmas.List.{append_assoc, append-nil, take-replicate, replicate-append-replicate}
 use Rattle.tsa_tree.specs.declared.expr.BinaryOp.{BinaryOp}
 use Rattle.tsa_print.specs.declared.mark.Mark.{Mark}
 use Rattle.tsa_print.specs.declared.sheet.Behind.{Behind}
@@ -33,13 +33,23 @@ blanks (suc levels) =
     let e : 2 + 2 * levels ≡ 2 * suc levels = omega arith in
     ap (λ x. 32 ∷ 32 ∷ x) (blanks levels) ∙ replicate-append-replicate 2 (2 * levels) 32 ∙ ap (λ n. replicate n 32) e
 
-pub indented : (text : List ℕ) (levels : ℕ) → take (length text + 2 * levels) text ++ replicate (length text + 2 * levels - length text) 32 ≡ text ++ indentation levels
-indented text levels =
-    let all : length text ≤ length text + 2 * levels = omega arith in
-    let rest : length text + 2 * levels - length text ≡ 2 * levels = omega arith in
-    ap (λ x. x ++ replicate (length text + 2 * levels - length text) 32) (take_all (length text + 2 * levels) text all)
-    ∙ ap (λ n. text ++ replicate n 32) rest
-    ∙ ap (λ x. text ++ x) (sym (blanks levels))
+-- before any blank is written, after some more, and after all
+pub indent_all : (text : List ℕ) (levels : ℕ) → text ++ replicate (2 * levels) 32 ≡ text ++ indentation levels
+indent_all text levels = ap (λ x. text ++ x) (sym (blanks levels))
+
+pub indent_more : (text longer whole : List ℕ) (left part : ℕ) → part ≤ left → part ≤ 256 → text ++ replicate left 32 ≡ whole
+    → longer ≡ text ++ take part (replicate 256 32) → longer ++ replicate (left - part) 32 ≡ whole
+indent_more text longer whole left part low few h e =
+    let parts : part + (left - part) ≡ left = omega (arith, low) in
+    ap (λ x. x ++ replicate (left - part) 32) (e ∙ ap (λ x. text ++ x) (take-replicate part 256 32 few))
+    ∙ append_assoc text (replicate part 32) (replicate (left - part) 32)
+    ∙ ap (λ x. text ++ x) (replicate-append-replicate part (left - part) 32 ∙ ap (λ n. replicate n 32) parts)
+    ∙ h
+
+pub indent_done : (text whole : List ℕ) (left : ℕ) → left ≡ 0 → text ++ replicate left 32 ≡ whole → text ≡ whole
+indent_done text whole left e h = sym (append-nil text) ∙ ap (λ n. text ++ replicate n 32) (sym e) ∙ h
+
+pub ruleset indents = (indent_all, indent_more, indent_done)
 
 pub lead_same : (levels : ℕ) (behind : Behind) (p : Piece) → lead levels behind p ≡ lead_by levels behind (closes_level p) (binds_left p)
 lead_same levels LineStart p = refl

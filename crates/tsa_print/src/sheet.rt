@@ -28,12 +28,20 @@ pub struct Sheet {
     pub behind: Behind,
 }
 
-// Appends two blanks for each open block or struct.
-#[tactic(auto, using(crate::proofs::Pages::indented))]
+const BLANKS: [u8; 256] = [b' '; 256];
+
+// Appends two blanks for each open block or struct. Most tokens begin no line, so it stands apart from what puts them.
+#[inline(never)]
+#[tactic(auto, using(crate::proofs::Pages::indents))]
 fn indent(text: &mut Vec<u8>, levels: u32) -> Result<(), NoMemory>
     ensures { OnOk result (text.new.items ≡ text.old.items ++ indentation levels) }
 {
-    text.resize(text.len() + 2 * levels as usize, b' ')?;
+    let mut left = 2 * levels as usize;
+    'blanks: while left > 0 {
+        let part = left.min(BLANKS.len());
+        text.extend_from_slice(&BLANKS[..part])?;
+        left -= part;
+    }
     Ok(())
 }
 
