@@ -31,7 +31,6 @@ mod HeadsApart
 mod StatementsApart
 mod UnitTokens
 mod WrittenParts
-mod Rows
 mod ReadAgain
 mod PlainDeclarationPieces
 mod PlainPieces
@@ -45,5 +44,3 @@ pub mod UnitReadAgain
 mod Pages
 mod InlinePieces
 mod Steps
-mod InitialiserTrees
-mod StatementTrees

@@ -4,8 +4,8 @@ use Rattle.std.specs.Borrow.{Bor}
 use Rattle.std.specs.declared.option.Option.{Option}
 use Rattle.tsa_tree.specs.declared.stmt.Stmt.{Stmt}
 use Rattle.tsa_tree.specs.Expressions.{Expression, nowhere}
-use Rattle.tsa_tree.specs.Statements.{Simple, ForInit, no_init, Statement, if_alone, if_else}
-use Rattle.tsa_tree.specs.StatementShapes.{init_of, step_of, stmt_shape}
+use Rattle.tsa_tree.specs.Statements.{Simple, ForInit, Statement, if_alone, if_else}
+use Rattle.tsa_tree.specs.StatementShapes.{stmt_shape}
 use Rattle.tsa_print.specs.declared.sheet.Behind.{Behind}
 use Rattle.tsa_print.specs.declared.sheet.Behind.TheVariants.{LineStart, Tight, Loose}
 use Rattle.tsa_print.specs.declared.sheet.Sheet.{Sheet}
@@ -41,15 +41,6 @@ put_one page p =
 abbrev pub put : Page → List Piece → Page
 put page [] = page
 put page (p ∷ ps) = put (put_one page p) ps
-
--- the first and the third part of a `for` in the arena
-abbrev pub init_given : Option (Bor Stmt) → ForInit
-init_given None = no_init
-init_given (Some x) = init_of x.now.kind x.now.span
-
-abbrev pub step_given : Option (Bor Stmt) → Option Simple
-step_given None = None
-step_given (Some x) = step_of x.now.kind x.now.span
 
 -- what stands before the body of a `for`
 abbrev pub for_pieces : ForInit → Option Expression → Option Simple → List Piece

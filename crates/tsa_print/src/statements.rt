@@ -5,12 +5,12 @@ ghost use Rattle.tsa_tree.specs.Expressions.{nowhere};
 ghost use Rattle.tsa_tree.specs.ItemShapes.{decl_shape};
 ghost use Rattle.tsa_tree.specs.Shapes.{shape};
 ghost use Rattle.tsa_tree.specs.Statements.{assignment, do_loop};
-ghost use Rattle.tsa_tree.specs.StatementShapes.{stmt_shape, stmt_shapes};
+ghost use Rattle.tsa_tree.specs.StatementShapes.{init_given, step_given, stmt_shape, stmt_shapes};
 ghost use Rattle.tsa_print.specs.Canonical.{word, pieces, mark};
 ghost use Rattle.tsa_print.specs.declared.mark.Mark.TheVariants as marks;
 ghost use Rattle.tsa_print.specs.UnitPieces.{simple_pieces, optional_pieces, test_pieces, for_init_pieces, for_step_pieces, statement_pieces, statements_pieces};
 ghost use Rattle.tsa_print.specs.DeclarationPieces.{declaration_pieces};
-ghost use Rattle.tsa_print.specs.Sheets.{page_of, put, init_given, step_given, for_pieces, if_pieces};
+ghost use Rattle.tsa_print.specs.Sheets.{page_of, put, for_pieces, if_pieces};
 
 use crate::declarations::put_declaration;
 use crate::mark::Mark;

@@ -62,3 +62,6 @@ pub mod StatementExamples
 pub mod UnitExamples
 pub mod PointExamples
 pub mod FunctionLaws
+pub mod CallTrees
+pub mod InitialiserTrees
+pub mod StatementTrees

@@ -1,6 +1,7 @@
 -- What statements and points of the arena are without the arena, and how the points of statements are numbered.
 use Rattle.std.specs.Prelude.{ℕ, ◌+◌, ◌≡◌, List, [], ◌∷◌, Bool, true, false, length, option_map, Some, None}
 use Rattle.std.specs.declared.option.Option.{Option}
+use Rattle.std.specs.Borrow.{Bor}
 use Rattle.tsa_base.specs.declared.token.Span.{Span}
 use Rattle.tsa_tree.specs.declared.stmt.StmtKind.{StmtKind, Held-StmtKind-If-2, None', Some', Row_of-Stmt, end_of-Stmt, more_of-Stmt}
 use Rattle.tsa_tree.specs.declared.stmt.StmtKind.TheVariants.{Block', Empty, Local, Eval, Assign, If', While', DoWhile', For', Switch', Case', Otherwise', Label', Break, Continue, Goto, Return}
@@ -34,6 +35,15 @@ init_held (Some' pointer kind point span) = init_of kind span
 abbrev pub step_held : Held-StmtKind-If-2 → Option Simple
 step_held None' = None
 step_held (Some' pointer kind point span) = step_of kind span
+
+-- the same, where the part may be left out
+abbrev pub init_given : Option (Bor Stmt) → ForInit
+init_given None = no_init
+init_given (Some x) = init_of x.now.kind x.now.span
+
+abbrev pub step_given : Option (Bor Stmt) → Option Simple
+step_given None = None
+step_given (Some x) = step_of x.now.kind x.now.span
 
 abbrev mutual
   pub stmt_shape : StmtKind → Span → Statement

@@ -5,7 +5,7 @@ use Rattle.tsa_print.specs.Canonical.{mark}
 use Rattle.tsa_print.specs.DeclarationPieces.{initialiser_pieces, initialisers_pieces, further_pieces}
 use Rattle.tsa_print.specs.Sheets.{page_of, put}
 use Rattle.tsa_print.proofs.Steps.{put_first, put_element_behind, dropped, parted_at}
-use Rattle.tsa_print.proofs.InitialiserTrees.{tall, talls, list_at}
+use Rattle.tsa_tree.proofs.InitialiserTrees.{tall, talls, list_at}
 use Rattle.tsa_print.proofs.declarations.+initialisers.Goals as goal
 
 pub put_further_initialisers-each-preserved : goal.put_further_initialisers-each-preserved

@@ -5,7 +5,7 @@ use Rattle.tsa_print.specs.declared.mark.Mark.TheVariants as marks
 use Rattle.tsa_print.specs.UnitPieces.{statement_pieces, statements_pieces}
 use Rattle.tsa_print.specs.Sheets.{page_of, put}
 use Rattle.tsa_print.proofs.Steps.{put_element}
-use Rattle.tsa_print.proofs.StatementTrees.{tall, talls, shape_of, block_at}
+use Rattle.tsa_tree.proofs.StatementTrees.{tall, talls, shape_of, block_at}
 use Rattle.tsa_print.proofs.statements.+statements.Goals as goal
 
 pub put_statement-put_block-requires : goal.put_statement-put_block-requires

@@ -1,14 +1,16 @@
 -- Statements in the arena, and how tall they are.
-use Rattle.std.proofs.Common.{ℕ, ◌≡◌, ◌∙◌, ◌+◌, max, List, Option, Some, None, refl, ap}
+use Rattle.std.proofs.Common.{ℕ, ◌≡◌, ◌∙◌, ◌+◌, max, List, Option, Some, None, option_map, refl, ap}
 use Rattle.std.specs.Borrow.{Bor}
 use mathlib.Core.Former.{Count}
 use Rattle.tsa_base.specs.declared.token.Span.{Span}
+use Rattle.tsa_tree.specs.declared.expr.Expr.{Expr}
 use Rattle.tsa_tree.specs.declared.stmt.Stmt.{Stmt}
 use Rattle.tsa_tree.specs.declared.stmt.StmtKind.{StmtKind, Row_of-Stmt, end_of-Stmt, more_of-Stmt, items-the_row-Stmt, items_hidden-the_row-Stmt-0}
 use Rattle.tsa_tree.specs.declared.stmt.StmtKind.TheVariants as kind
 use Rattle.tsa_tree.specs.declared.stmt.StmtKind.TheVariants.{Block'}
 use Rattle.tsa_tree.specs.Statements.{Statement, block, empty, local, simple, if_alone, if_else, while_loop, do_loop, for_loop, switch, case, otherwise, label, break, continue, goto, return, Statements, none, more}
-use Rattle.tsa_tree.specs.StatementShapes.{stmt_shape, stmt_shapes, stmt_row_shape}
+use Rattle.tsa_tree.specs.Shapes.{shape}
+use Rattle.tsa_tree.specs.StatementShapes.{init_given, step_given, stmt_shape, stmt_shapes, stmt_row_shape}
 
 abbrev mutual
   pub tall : Statement → ℕ
@@ -56,3 +58,20 @@ shape-block items span =
 
 pub block_at : (x : Stmt) (items : Bor (List Stmt)) → x.kind ≡ kind.Block items → shape_of x ≡ block (stmt_shapes items.now) x.span
 block_at x items is = ap (λ k. stmt_shape k x.span) is ∙ shape-block items x.span
+
+-- a `for` with the parts that may be left out
+pub for_at : (x : Stmt) (init : Option (Bor Stmt)) (test : Option Expr) (step : Option (Bor Stmt)) (body : Bor Stmt) → x.kind ≡ kind.For init test step body
+    → shape_of x ≡ for_loop (init_given init) (option_map shape test) (step_given step) (shape_of body.now) x.span
+for_at x init test step body is = ap (λ k. stmt_shape k x.span) is ∙ parts init step
+  where
+    parts : (i s : Option (Bor Stmt)) → stmt_shape (kind.For i test s body) x.span
+        ≡ for_loop (init_given i) (option_map shape test) (step_given s) (shape_of body.now) x.span
+    parts None None = refl
+    parts None (Some s) = refl
+    parts (Some i) None = refl
+    parts (Some i) (Some s) = refl
+
+-- an `if` with an `else`
+pub else_at : (x : Stmt) (test : Expr) (arm other : Bor Stmt) (given : Option (Bor Stmt)) → x.kind ≡ kind.If test arm given → given ≡ Some other
+    → shape_of x ≡ if_else (shape test) (shape_of arm.now) (shape_of other.now) x.span
+else_at x test arm other given is some = ap (λ k. stmt_shape k x.span) is ∙ ap (λ g. stmt_shape (kind.If test arm g) x.span) some
