@@ -27,6 +27,3 @@ pub use token::{LexCode, Span, Token, TokenKind};
 pub use traits::{Failed, NoMemory, PushTrouble, Sink, Source};
 pub use value::Value;
 pub use write::write_all;
-
-#[cfg(test)]
-mod tests;

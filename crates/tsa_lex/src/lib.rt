@@ -11,12 +11,3 @@ mod tokens;
 
 pub use reserved::is_reserved;
 pub use tokens::{LexRefusal, lex};
-
-#[cfg(test)]
-mod gap_tests;
-#[cfg(test)]
-mod number_tests;
-#[cfg(test)]
-mod punct_tests;
-#[cfg(test)]
-mod tests;

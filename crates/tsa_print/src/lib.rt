@@ -16,6 +16,3 @@ pub use laws::{
     read_expressions_can_be_printed, read_units_can_be_printed,
 };
 pub use print::print_expr;
-
-#[cfg(test)]
-mod tests;

@@ -26,12 +26,3 @@ pub use laws::{
     warnings_are_the_failing_premises, what_is_printed_is_printed_again,
 };
 pub use top::tool;
-
-#[cfg(test)]
-mod name_tests;
-#[cfg(test)]
-mod print_tests;
-#[cfg(test)]
-mod syntax_tests;
-#[cfg(test)]
-mod tests;

@@ -1,0 +1,14 @@
+//! Each public call of the libraries once with ample memory, ends that fail in mid-stream, and what no command shows: the
+//! tokens of a text, and where the nodes of a tree stand in it. What commands show stands in the data of the program `rows`.
+#![tactic(auto)]
+
+#[cfg(test)]
+mod ends;
+#[cfg(test)]
+mod items;
+#[cfg(test)]
+mod nodes;
+#[cfg(test)]
+mod statements;
+#[cfg(test)]
+mod texts;
