@@ -1,56 +1,81 @@
 -- An attribute, from its name or macro word to its parenthesis.
-use Rattle.std.proofs.Common.{ℕ, ◌+◌, ◌≡◌, ◌≢◌, ◌∙◌, ap, sym, refl, Bool, true, false, List, [], ◌∷◌, Some, None, Ok, Err, nat_eq}
-use Rattle.std.specs.declared.option.Option.{Option}
+use Rattle.std.proofs.Common.{ℕ, ◌+◌, ◌<◌, ◌≤◌, ◌≡◌, ◌≢◌, ◌∙◌, ap, sym, refl, Bool, true, false, List, [], ◌∷◌, ◌++◌, Some, None, Ok, Err, nat_eq}
 use Rattle.tsa_base.specs.declared.token.Span.{Span}
 use Rattle.tsa_base.specs.Tokens.{Lexeme}
 use Rattle.tsa_forms.proofs.Cases.{chosen, other, goes}
-use Rattle.tsa_forms.specs.Reading.{Outcome, refuse, syntax, barred, then, choose}
+use Rattle.tsa_forms.specs.Reading.{Outcome, refuse, syntax, deep, barred, then, choose}
+use Rattle.tsa_tree.specs.declared.attr.Attr.{Attr}
 use Rattle.tsa_tree.specs.declared.attr.AttrKind.{AttrKind}
-use Rattle.tsa_tree.specs.declared.expr.Expr.{Expr}
 use Rattle.tsa_tree.specs.declared.sign.Sign.{Sign}
 use Rattle.tsa_tree.specs.declared.sign.Sign.TheVariants as sign
 use Rattle.tsa_tree.specs.AttributeRefusals.{lacking}
 use Rattle.tsa_tree.specs.Attributes as takes
-use Rattle.tsa_tree.specs.Attributes.{Attribute, Taking, taking, unquoted, try_value}
+use Rattle.tsa_tree.specs.Attributes.{Attribute, Taking, taking, unquoted, try_value, attr_shape, attr_shapes}
 use Rattle.tsa_tree.specs.AttributeSpelling.{attribute}
 use Rattle.tsa_tree.specs.Expressions.{Expression, Arguments, none, more}
 use Rattle.tsa_tree.specs.Reads.{read}
-use Rattle.tsa_tree.specs.Rows.{an_expression, some_arguments, some_attributes, expression, series, Row, a_close, a_comma, a_text, is_given, mark, sees, lacks, arguments_row}
-use Rattle.tsa_tree.specs.Shapes.{shapes}
+use Rattle.tsa_tree.specs.Rows.{an_expression, some_arguments, some_attributes, expression, series, Row, a_close, a_comma, a_text, is_given, mark, sees, lacking_at, arguments_row}
 use Rattle.tsa_tree.specs.Signs.{Aliases, sign_at, identifier_at, span_over}
 use Rattle.tsa_expr.specs.declared.refusal.SyntaxRefusal.{SyntaxRefusal}
 use Rattle.tsa_expr.specs.Gives.{Fails}
-use Rattle.tsa_expr.specs.Seen as arguments
 use Rattle.tsa_expr.proofs.Answering.{fails_then, fails_same, gives_same, not_comma}
-use Rattle.tsa_attr.specs.Outcomes.{one_token, opening, arguments_at, series_at, attribute_at}
+use Rattle.tsa_attr.specs.Outcomes.{after, one_token, opening, arguments_at, attribute_at}
 use Rattle.tsa_attr.specs.Seen.{made}
-use Rattle.tsa_attr.proofs.Joining.{then-then, then-same, then-choose, token-law}
-use Rattle.tsa_attr.proofs.Openings.{going}
+use Rattle.tsa_attr.proofs.Joining.{then-then, then-same, then-choose, token-law, shapes-push}
+use Rattle.tsa_attr.proofs.Openings.{going, open_wrong, open_deep, open_goes}
 
 not_text : (s : Sign) → s ≢ sign.Text → nat_eq (mark s) 16 ≡ false
 not_text sign.Text h = absurd (h refl)
 not_text _ h = refl
 
-arguments_none : (r : Outcome Arguments) → arguments.after none r ≡ r
-unfolding then
-arguments_none (Ok p) = refl
-arguments_none (Err e) = refl
-
 module _ (ts : List Lexeme) (aliases : Aliases) where
-  -- by the kind
-  pub attribute_lacks : (d : ℕ) (k : AttrKind) (m : ℕ) → lacks ts aliases k m ≡ true → attribute_at ts aliases d k m ≡ Err (refuse (barred lacking) m)
+  -- by what stands behind the name
+  attribute_at_sign : (d : ℕ) (k : AttrKind) (m : ℕ) (s : Sign) → sign_at ts aliases (m + 1) ≡ s
+      → attribute_at ts aliases d k m
+      ≡ choose (lacking_at ts aliases k m s) (Err (refuse (barred lacking) m)) (then (opening ts aliases d (m + 1)) (λ u n. arguments_at ts aliases (d + 1) k m (taking k)))
   unfolding attribute_at
-  attribute_lacks d k m e = chosen _ _ _ e
+  attribute_at_sign d k m s e =
+      ap (λ s. choose (lacking_at ts aliases k m s) (Err (refuse (barred lacking) m)) (then (opening ts aliases d (m + 1)) (λ u n. arguments_at ts aliases (d + 1) k m (taking k)))) e
 
-  pub attribute_fails : (d : ℕ) (k : AttrKind) (m : ℕ) (e : SyntaxRefusal) → lacks ts aliases k m ≡ false → Fails e (opening ts aliases d (m + 1))
-      → Fails e (attribute_at ts aliases d k m)
-  unfolding attribute_at
-  attribute_fails d k m e l h = fails_same e _ _ (other _ _ _ l) (fails_then e _ _ h)
+  pub attribute_ended : (d : ℕ) (k : AttrKind) (m : ℕ) → sign_at ts aliases (m + 1) ≡ sign.End → attribute_at ts aliases d k m ≡ Err (refuse syntax (m + 1))
+  unfolding then
+  attribute_ended d k m e =
+      attribute_at_sign d k m sign.End e ∙ other _ _ _ refl
+      ∙ ap (λ r. then r (λ u n. arguments_at ts aliases (d + 1) k m (taking k))) (open_wrong ts aliases d (m + 1) (λ h. let never : sign.End ≡ sign.Open = sym e ∙ h in cc))
 
-  pub attribute_goes : (d : ℕ) (k : AttrKind) (m n : ℕ) (t : Taking) → lacks ts aliases k m ≡ false → opening ts aliases d (m + 1) ≡ Ok (tt, n)
+  lacking_bare : (k : AttrKind) (m : ℕ) (s : Sign) → s ≢ sign.End → s ≢ sign.Open → lacking_at ts aliases k m s ≡ true
+  lacking_bare k m sign.End h o = absurd (h refl)
+  lacking_bare k m sign.Open h o = absurd (o refl)
+  lacking_bare k m _ h o = refl
+
+  pub attribute_bare : (d : ℕ) (k : AttrKind) (m : ℕ) → sign_at ts aliases (m + 1) ≢ sign.End → sign_at ts aliases (m + 1) ≢ sign.Open
+      → attribute_at ts aliases d k m ≡ Err (refuse (barred lacking) m)
+  attribute_bare d k m h o = attribute_at_sign d k m _ refl ∙ chosen _ _ _ (lacking_bare k m (sign_at ts aliases (m + 1)) h o)
+
+  pub attribute_empty : (d : ℕ) (k : AttrKind) (m : ℕ) → sign_at ts aliases (m + 1) ≡ sign.Open → lacking_at ts aliases k m sign.Open ≡ true
+      → attribute_at ts aliases d k m ≡ Err (refuse (barred lacking) m)
+  attribute_empty d k m e l = attribute_at_sign d k m sign.Open e ∙ chosen _ _ _ l
+
+  pub attribute_deep : (d : ℕ) (k : AttrKind) (m : ℕ) → sign_at ts aliases (m + 1) ≡ sign.Open → lacking_at ts aliases k m sign.Open ≡ false → 100 ≤ d
+      → attribute_at ts aliases d k m ≡ Err (refuse deep (m + 1))
+  unfolding then
+  attribute_deep d k m e l h =
+      attribute_at_sign d k m sign.Open e ∙ other _ _ _ l
+      ∙ ap (λ r. then r (λ u n. arguments_at ts aliases (d + 1) k m (taking k))) (open_deep ts aliases d (m + 1) e h)
+
+  pub attribute_goes : (d : ℕ) (k : AttrKind) (m : ℕ) (t : Taking) → sign_at ts aliases (m + 1) ≡ sign.Open → lacking_at ts aliases k m sign.Open ≡ false → d < 100
       → taking k ≡ t → attribute_at ts aliases d k m ≡ arguments_at ts aliases (d + 1) k m t
-  unfolding attribute_at
-  attribute_goes d k m n t l h e = other _ _ _ l ∙ goes _ _ tt n h ∙ ap (arguments_at ts aliases (d + 1) k m) e
+  attribute_goes d k m t e l h q =
+      attribute_at_sign d k m sign.Open e ∙ other _ _ _ l ∙ goes _ _ tt (m + 1 + 1) (open_goes ts aliases d (m + 1) e h)
+      ∙ ap (arguments_at ts aliases (d + 1) k m) q
+
+  -- at the end of a list
+  pub appended_fails : (xs : List Attr) (r : Outcome (List Attribute)) (e : SyntaxRefusal) → Fails e r → Fails e (after (attr_shapes xs) r)
+  appended_fails xs r e h = fails_then e _ _ h
+
+  pub appended_goes : (xs : List Attr) (r : Outcome (List Attribute)) (x : Attr) (n : ℕ) → r ≡ Ok (attr_shape x ∷ [], n)
+      → after (attr_shapes xs) r ≡ Ok (attr_shapes (xs ++ x ∷ []), n)
+  appended_goes xs r x n h = goes _ _ (attr_shape x ∷ []) n h ∙ ap (λ ys. Ok (ys, n)) (sym (shapes-push xs x))
 
   -- a text
   text_at : (d : ℕ) (k : AttrKind) (m : ℕ) → sign_at ts aliases (m + 1 + 1) ≡ sign.Text
@@ -108,24 +133,15 @@ module _ (ts : List Lexeme) (aliases : Aliases) where
       ∙ ap (λ y. Ok (y ∷ [], i)) (sym p)
 
   -- expressions
-  pub list_same : (d : ℕ) (k : AttrKind) (m : ℕ) → arguments_at ts aliases d k m takes.expressions ≡ series_at ts aliases d k m None (m + 1 + 1)
-  unfolding arguments_at series_at
-  list_same d k m = refl
+  pub list_fails : (d : ℕ) (k : AttrKind) (m : ℕ) (e : SyntaxRefusal) → Fails e (read ts some_arguments (series aliases d) (m + 1 + 1))
+      → Fails e (arguments_at ts aliases d k m takes.expressions)
+  unfolding arguments_at
+  list_fails d k m e h = fails_then e _ _ h
 
-  pub series_fails : (d : ℕ) (k : AttrKind) (m : ℕ) (v : Option Bool) (at : ℕ) (e : SyntaxRefusal)
-      → Fails e (arguments.after none (read ts some_arguments (series aliases d) at)) → Fails e (series_at ts aliases d k m v at)
-  unfolding series_at
-  series_fails d k m v at e h = fails_then e _ _ (fails_same e _ _ (sym (arguments_none _)) h)
-
-  pub series_goes : (d : ℕ) (k : AttrKind) (m : ℕ) (v : Option Bool) (at : ℕ) (zs : List Expr) (xs ys : Arguments) (n : ℕ) (x : Attribute) (span : Span)
-      → zs ≡ [] → arguments.after (shapes zs) (read ts some_arguments (series aliases d) at) ≡ Ok (xs, n)
-      → x ≡ made k None v ys span → ys ≡ xs → span ≡ span_over ts m n → series_at ts aliases d k m v at ≡ Ok (x ∷ [], n)
-  unfolding series_at
-  series_goes d k m v at zs xs ys n x span z h p q r =
-      goes _ _ xs n (sym (arguments_none _) ∙ ap (λ zs. arguments.after (shapes zs) (read ts some_arguments (series aliases d) at)) (sym z) ∙ h)
-      ∙ ap (λ xs. Ok (made k None v xs (span_over ts m n) ∷ [], n)) (sym q)
-      ∙ ap (λ span. Ok (made k None v ys span ∷ [], n)) (sym r)
-      ∙ ap (λ x. Ok (x ∷ [], n)) (sym p)
+  pub list_goes : (d : ℕ) (k : AttrKind) (m : ℕ) (xs : Arguments) (n i : ℕ) (x : Attribute) → read ts some_arguments (series aliases d) (m + 1 + 1) ≡ Ok (xs, n)
+      → x ≡ attribute ts k None None xs m n → i ≡ n → arguments_at ts aliases d k m takes.expressions ≡ Ok (x ∷ [], i)
+  unfolding arguments_at
+  list_goes d k m xs n i x h p q = goes _ _ xs n h ∙ ap (λ x. Ok (x ∷ [], n)) (sym p) ∙ ap (λ n. Ok (x ∷ [], n)) (sym q)
 
   -- a try
   pub try_wrong : (d : ℕ) (k : AttrKind) (m : ℕ) → try_value (identifier_at ts (m + 1 + 1)).text ≡ None
@@ -138,12 +154,24 @@ module _ (ts : List Lexeme) (aliases : Aliases) where
   unfolding arguments_at
   try_alone d k m v e h = chosen _ _ _ (ap is_given e) ∙ other _ _ _ (not_comma (sign_at ts aliases (m + 1 + 1 + 1)) h)
 
-  pub try_goes : (d : ℕ) (k : AttrKind) (m : ℕ) (v : Bool) → try_value (identifier_at ts (m + 1 + 1)).text ≡ Some v
-      → sign_at ts aliases (m + 1 + 1 + 1) ≡ sign.Comma → arguments_at ts aliases d k m takes.a_try ≡ series_at ts aliases d k m (Some v) (m + 1 + 1 + 1 + 1)
-  unfolding arguments_at series_at
-  try_goes d k m v e h =
+  try_at : (d : ℕ) (k : AttrKind) (m : ℕ) (v : Bool) → try_value (identifier_at ts (m + 1 + 1)).text ≡ Some v
+      → sign_at ts aliases (m + 1 + 1 + 1) ≡ sign.Comma → arguments_at ts aliases d k m takes.a_try
+      ≡ then (read ts some_arguments (series aliases d) (m + 1 + 1 + 1 + 1)) (λ xs n. Ok (attribute ts k None (Some v) xs m n ∷ [], n))
+  unfolding arguments_at
+  try_at d k m v e h =
       chosen _ _ _ (ap is_given e) ∙ chosen _ _ _ (ap (λ s. nat_eq (mark s) 10) h)
       ∙ ap (λ v. then (read ts some_arguments (series aliases d) (m + 1 + 1 + 1 + 1)) (λ xs n. Ok (attribute ts k None v xs m n ∷ [], n))) e
+
+  pub try_fails : (d : ℕ) (k : AttrKind) (m : ℕ) (v : Bool) (e : SyntaxRefusal) → try_value (identifier_at ts (m + 1 + 1)).text ≡ Some v
+      → sign_at ts aliases (m + 1 + 1 + 1) ≡ sign.Comma → Fails e (read ts some_arguments (series aliases d) (m + 1 + 1 + 1 + 1))
+      → Fails e (arguments_at ts aliases d k m takes.a_try)
+  try_fails d k m v e t c h = fails_same e _ _ (try_at d k m v t c) (fails_then e _ _ h)
+
+  pub try_goes : (d : ℕ) (k : AttrKind) (m : ℕ) (v : Bool) (xs : Arguments) (n i : ℕ) (x : Attribute) → try_value (identifier_at ts (m + 1 + 1)).text ≡ Some v
+      → sign_at ts aliases (m + 1 + 1 + 1) ≡ sign.Comma → read ts some_arguments (series aliases d) (m + 1 + 1 + 1 + 1) ≡ Ok (xs, n)
+      → x ≡ attribute ts k None (Some v) xs m n → i ≡ n → arguments_at ts aliases d k m takes.a_try ≡ Ok (x ∷ [], i)
+  try_goes d k m v xs n i x t c h p q =
+      try_at d k m v t c ∙ goes _ _ xs n h ∙ ap (λ x. Ok (x ∷ [], n)) (sym p) ∙ ap (λ n. Ok (x ∷ [], n)) (sym q)
 
   -- what follows an attribute
   pub follows : (d : ℕ) (k : AttrKind) (m : ℕ) (t : Taking) (end : List Attribute → ℕ → Row some_attributes)
@@ -164,14 +192,14 @@ module _ (ts : List Lexeme) (aliases : Aliases) where
       ∙ sym (then-choose (sees ts (a_comma aliases) (m + 1 + 1 + 1)) _ _ _))
       ∙ sym (then-choose (is_given (try_value (identifier_at ts (m + 1 + 1)).text)) _ _ _)
 
-pub ruleset attributes = (attribute_lacks, attribute_fails, attribute_goes, gives_same)
+pub ruleset appended = (appended_fails, appended_goes)
+
+pub ruleset attributes = (attribute_ended, attribute_bare, attribute_empty, attribute_deep, attribute_goes, gives_same)
 
 pub ruleset texts = (text_wrong, text_fails, text_goes)
 
 pub ruleset expressions = (one_fails, one_unclosed, one_goes)
 
-pub ruleset lists = (list_same, gives_same)
+pub ruleset lists = (list_fails, list_goes)
 
-pub ruleset serials = (series_fails, series_goes)
-
-pub ruleset attempts = (try_wrong, try_alone, try_goes, gives_same)
+pub ruleset attempts = (try_wrong, try_alone, try_fails, try_goes)

@@ -1,5 +1,5 @@
 -- Entries of a list of attributes, one by one.
-use Rattle.std.proofs.Common.{ℕ, ◌+◌, ◌<◌, subst, length, ◌≡◌, ◌≢◌, ◌∙◌, ap, sym, refl, Bool, true, false, ◌&&◌, List, [], ◌∷◌, ◌++◌, Option, Some, None, Result, Ok, Err, nat_eq}
+use Rattle.std.proofs.Common.{ℕ, ◌+◌, ◌<◌, ◌≤◌, subst, length, ◌≡◌, ◌≢◌, ◌∙◌, ap, sym, refl, Bool, true, false, ◌&&◌, List, [], ◌∷◌, ◌++◌, Option, Some, None, Result, Ok, Err, nat_eq}
 use Rattle.std.proofs.lemmas.List.{length-map}
 use Rattle.std.proofs.lemmas.Option.{slice_get_within}
 use Rattle.std.specs.List.{slice_get}
@@ -16,7 +16,7 @@ use Rattle.tsa_tree.specs.declared.sign.Meaning.{Meaning}
 use Rattle.tsa_tree.specs.declared.sign.Meaning.TheVariants as mean
 use Rattle.tsa_tree.specs.Answers.{below_limit}
 use Rattle.tsa_tree.specs.AttributeRefusals.{left_out, lacking}
-use Rattle.tsa_tree.specs.Attributes.{Attribute, taking, attr_shape, attr_shapes}
+use Rattle.tsa_tree.specs.Attributes.{Attribute, taking, attr_shapes}
 use Rattle.tsa_tree.specs.Reads.{read}
 use Rattle.tsa_tree.specs.Rows.{a_skip, some_attributes, Row, entries, balanced, closing_parenthesis, an_open, mark, sees, lacks, arguments_row, entry_row, entries_end}
 use Rattle.tsa_tree.specs.Signs.{Aliases, lexemes, sign_at, is_word, kind_in, is_word_at, entry_meaning}
@@ -25,8 +25,8 @@ use Rattle.tsa_expr.specs.Gives.{Fails, Gives}
 use Rattle.tsa_expr.proofs.Answering.{fails_then, fails_same, gives_same, not_open, not_close, not_comma}
 use Rattle.tsa_attr.specs.Outcomes.{after, opening, attribute_at, ignored_at, entry_by, entry_at, entries_on}
 use Rattle.tsa_attr.specs.Seen.{passed}
-use Rattle.tsa_attr.proofs.Joining.{then-then, then-same, then-ok, passed_at, append-nil, shapes-push, after-then, after-after}
-use Rattle.tsa_attr.proofs.Openings.{going, opens_at}
+use Rattle.tsa_attr.proofs.Joining.{then-then, then-same, then-ok, passed_at, append-nil, after-then, after-after}
+use Rattle.tsa_attr.proofs.Openings.{going, open_deep, open_goes, opens_at}
 use Rattle.tsa_attr.proofs.Contents.{follows}
 
 pub word_within : (tokens : List Token) (m : ℕ) → is_word_at (lexemes tokens) m ≡ true → m < length tokens
@@ -43,14 +43,16 @@ module _ (ts : List Lexeme) (aliases : Aliases) where
   unfolding ignored_at
   ignored_alone d m h = other _ _ _ (not_open (sign_at ts aliases (m + 1)) h)
 
-  pub ignored_fails : (d m : ℕ) (e : SyntaxRefusal) → sign_at ts aliases (m + 1) ≡ sign.Open → Fails e (opening ts aliases d (m + 1)) → Fails e (ignored_at ts aliases d m)
-  unfolding ignored_at
-  ignored_fails d m e s h = fails_same e _ _ (chosen _ _ _ (ap (λ s. nat_eq (mark s) 6) s)) (fails_then e _ _ h)
+  pub ignored_deep : (d m : ℕ) → sign_at ts aliases (m + 1) ≡ sign.Open → 100 ≤ d → ignored_at ts aliases d m ≡ Err (refuse deep (m + 1))
+  unfolding ignored_at then
+  ignored_deep d m s h =
+      chosen _ _ _ (ap (λ s. nat_eq (mark s) 6) s)
+      ∙ ap (λ r. then r (λ u n. read ts a_skip (balanced aliases (d + 1) closing_parenthesis) n)) (open_deep ts aliases d (m + 1) s h)
 
-  pub ignored_list : (d m n : ℕ) → sign_at ts aliases (m + 1) ≡ sign.Open → opening ts aliases d (m + 1) ≡ Ok (tt, n)
-      → ignored_at ts aliases d m ≡ read ts a_skip (balanced aliases (d + 1) closing_parenthesis) n
+  pub ignored_list : (d m : ℕ) → sign_at ts aliases (m + 1) ≡ sign.Open → d < 100
+      → ignored_at ts aliases d m ≡ read ts a_skip (balanced aliases (d + 1) closing_parenthesis) (m + 1 + 1)
   unfolding ignored_at
-  ignored_list d m n s h = chosen _ _ _ (ap (λ s. nat_eq (mark s) 6) s) ∙ goes _ _ tt n h
+  ignored_list d m s h = chosen _ _ _ (ap (λ s. nat_eq (mark s) 6) s) ∙ goes _ _ tt (m + 1 + 1) (open_goes ts aliases d (m + 1) s h)
 
   -- an entry by its meaning
   entry_is : (d m : ℕ) (w : Meaning) → is_word_at ts m ≡ true → entry_meaning ts aliases m ≡ w → entry_at ts aliases d m ≡ entry_by ts aliases d m w
@@ -61,14 +63,9 @@ module _ (ts : List Lexeme) (aliases : Aliases) where
   unfolding entry_at then
   entry_wrong xs d m h = ap (after (attr_shapes xs)) (other _ _ _ h)
 
-  pub entry_fails : (xs : List Attr) (d : ℕ) (k : AttrKind) (m : ℕ) (e : SyntaxRefusal) → is_word_at ts m ≡ true → entry_meaning ts aliases m ≡ mean.Known k
-      → Fails e (attribute_at ts aliases d k m) → Fails e (after (attr_shapes xs) (entry_at ts aliases d m))
-  entry_fails xs d k m e w s h = fails_then e _ _ (fails_same e _ _ (entry_is d m (mean.Known k) w s) h)
-
-  pub entry_goes : (xs : List Attr) (d : ℕ) (k : AttrKind) (m : ℕ) (x : Attr) (n : ℕ) → is_word_at ts m ≡ true → entry_meaning ts aliases m ≡ mean.Known k
-      → attribute_at ts aliases d k m ≡ Ok (attr_shape x ∷ [], n) → after (attr_shapes xs) (entry_at ts aliases d m) ≡ Ok (attr_shapes (xs ++ x ∷ []), n)
-  entry_goes xs d k m x n w s h =
-      goes _ _ (attr_shape x ∷ []) n (entry_is d m (mean.Known k) w s ∙ h) ∙ ap (λ ys. Ok (ys, n)) (sym (shapes-push xs x))
+  pub entry_known : (xs : List Attr) (d : ℕ) (k : AttrKind) (m : ℕ) → is_word_at ts m ≡ true → entry_meaning ts aliases m ≡ mean.Known k
+      → after (attr_shapes xs) (entry_at ts aliases d m) ≡ after (attr_shapes xs) (attribute_at ts aliases d k m)
+  entry_known xs d k m w s = ap (after (attr_shapes xs)) (entry_is d m (mean.Known k) w s)
 
   pub entry_left_out : (xs : List Attr) (d m : ℕ) → is_word_at ts m ≡ true → entry_meaning ts aliases m ≡ mean.LeftOut
       → after (attr_shapes xs) (entry_at ts aliases d m) ≡ Err (refuse (barred left_out) m)
@@ -193,8 +190,8 @@ module _ (ts : List Lexeme) (aliases : Aliases) where
       after-entries (attr_shapes xs) d m ∙ goes _ _ (attr_shapes ys) n h
       ∙ chosen _ _ _ (ap (λ s. nat_eq (mark s) 10) c) ∙ chosen _ _ _ (ap (λ s. nat_eq (mark s) 10) c)
 
-pub ruleset ignoring = (ignored_alone, ignored_fails, ignored_list, gives_same)
+pub ruleset ignoring = (ignored_alone, ignored_deep, ignored_list, gives_same)
 
-pub ruleset one_entry = (word_within, entry_wrong, entry_fails, entry_goes, entry_left_out, entry_ignored)
+pub ruleset one_entry = (word_within, entry_wrong, entry_known, entry_left_out, entry_ignored, gives_same)
 
 pub ruleset lists = (entries_fail, entries_wrong, entries_last, entries_more, fails_same, gives_same)

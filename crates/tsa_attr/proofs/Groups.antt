@@ -10,17 +10,18 @@ use Rattle.tsa_tree.specs.declared.attr.AttrKind.{AttrKind}
 use Rattle.tsa_tree.specs.declared.sign.Sign.{Sign}
 use Rattle.tsa_tree.specs.declared.sign.Sign.TheVariants as sign
 use Rattle.tsa_tree.specs.AttributeRefusals.{left_out, lacking}
-use Rattle.tsa_tree.specs.Attributes.{Attribute, taking, attr_shape, attr_shapes}
+use Rattle.tsa_tree.specs.Attributes.{Attribute, taking, attr_shapes}
 use Rattle.tsa_tree.specs.Reads.{read}
 use Rattle.tsa_tree.specs.Rows.{some_attributes, attributes, group, entries, Row, a_close, mark, sees, lacks, opens, arguments_row, group_row, is_attribute_sign}
 use Rattle.tsa_tree.specs.Signs.{Aliases, sign_at}
 use Rattle.tsa_expr.specs.declared.refusal.SyntaxRefusal.{SyntaxRefusal}
 use Rattle.tsa_expr.specs.Gives.{Fails, Gives}
 use Rattle.tsa_expr.proofs.Answering.{fails_then, fails_same, gives_same}
+use Rattle.tsa_expr.proofs.Places.{sign_within}
 use Rattle.tsa_attr.specs.Outcomes.{after, one_token, opening, arguments_at, attribute_at}
 use Rattle.tsa_tree.specs.AttributeAnswers.{read_any}
 use Rattle.tsa_attr.specs.Seen.{passed}
-use Rattle.tsa_attr.proofs.Joining.{then-same, then-ok, append-nil, shapes-push, passed_at, after-then, after-then-as, after-after, after-nothing}
+use Rattle.tsa_attr.proofs.Joining.{then-same, then-ok, append-nil, passed_at, after-then, after-then-as, after-after, after-nothing}
 use Rattle.tsa_attr.proofs.Openings.{going, opens_at}
 
 close-law : {A : Type 0} (b : Bool) (x : A) (m : ℕ)
@@ -46,32 +47,6 @@ module _ (ts : List Lexeme) (aliases : Aliases) where
       ∙ ap (λ r. choose (lacks ts aliases k m) (Err (refuse (barred lacking) m)) r)
       (chosen _ _ _ (ap (λ s. nat_eq (mark s) 23) e)
       ∙ opens_at ts aliases some_attributes d (m + 1) (arguments_row ts aliases (d + 1) k m (taking k) (λ x e. done (x ∷ []))))
-
-  pub macro_fails : (xs : List Attr) (d : ℕ) (k : AttrKind) (m : ℕ) (e : SyntaxRefusal) → sign_at ts aliases m ≡ sign.Macro k → Fails e (attribute_at ts aliases d k m)
-      → Fails e (after (attr_shapes xs) (read ts some_attributes (group aliases d) m))
-  macro_fails xs d k m e s h = fails_then e _ _ (fails_same e _ _ (macro_at d k m s) h)
-
-  pub macro_goes : (xs : List Attr) (d : ℕ) (k : AttrKind) (m : ℕ) (x : Attr) (n : ℕ) → sign_at ts aliases m ≡ sign.Macro k
-      → attribute_at ts aliases d k m ≡ Ok (attr_shape x ∷ [], n)
-      → after (attr_shapes xs) (read ts some_attributes (group aliases d) m) ≡ Ok (attr_shapes (xs ++ x ∷ []), n)
-  macro_goes xs d k m x n s h =
-      goes _ _ (attr_shape x ∷ []) n (macro_at d k m s ∙ h) ∙ ap (λ ys. Ok (ys, n)) (sym (shapes-push xs x))
-
-  pub macro_left_out : (xs : List Attr) (d m : ℕ) → sign_at ts aliases m ≡ sign.LeftOutMacro
-      → after (attr_shapes xs) (read ts some_attributes (group aliases d) m) ≡ Err (refuse (barred left_out) m)
-  unfolding then
-  macro_left_out xs d m s = ap (after (attr_shapes xs)) (at_sign d m sign.LeftOutMacro s ∙ chosen _ _ _ refl)
-
-  wrong_sign : (d m : ℕ) (s : Sign) → is_attribute_sign s ≡ false → going ts some_attributes (group_row ts aliases d m s) m ≡ Err (refuse syntax m)
-  wrong_sign d m (sign.Macro k) e = cc
-  wrong_sign d m sign.LeftOutMacro e = cc
-  wrong_sign d m sign.Attribute e = cc
-  wrong_sign d m _ e = other _ _ _ refl
-
-  pub group_wrong : (xs : List Attr) (d m : ℕ) → is_attribute_sign (sign_at ts aliases m) ≡ false
-      → after (attr_shapes xs) (read ts some_attributes (group aliases d) m) ≡ Err (refuse syntax m)
-  unfolding then
-  group_wrong xs d m e = ap (after (attr_shapes xs)) (at_sign d m (sign_at ts aliases m) refl ∙ wrong_sign d m (sign_at ts aliases m) e)
 
   -- lists
   abbrev within : (d m : ℕ) → Row some_attributes
@@ -168,29 +143,58 @@ module _ (ts : List Lexeme) (aliases : Aliases) where
       ∙ after-then-as front (read ts some_attributes (group aliases d) m) _ (groups_on d)
       (λ xs n. on-law front xs (is_attribute_sign (sign_at ts aliases n)) n (read ts some_attributes (attributes aliases d) n))
 
-  pub many_fail : (xs : List Attr) (d m : ℕ) (e : SyntaxRefusal) → Fails e (after (attr_shapes xs) (read ts some_attributes (group aliases d) m))
-      → Fails e (after (attr_shapes xs) (read ts some_attributes (attributes aliases d) m))
-  many_fail xs d m e h = fails_same e _ _ (after-groups (attr_shapes xs) d m) (fails_then e _ _ h)
-
-  pub many_last : (xs ys : List Attr) (d m n : ℕ) → after (attr_shapes xs) (read ts some_attributes (group aliases d) m) ≡ Ok (attr_shapes ys, n)
-      → is_attribute_sign (sign_at ts aliases n) ≡ false
-      → after (attr_shapes xs) (read ts some_attributes (attributes aliases d) m) ≡ Ok (attr_shapes ys, n)
-  many_last xs ys d m n h e = after-groups (attr_shapes xs) d m ∙ goes _ _ (attr_shapes ys) n h ∙ other _ _ _ e
-
-  pub many_more : (xs ys : List Attr) (d m n : ℕ) → after (attr_shapes xs) (read ts some_attributes (group aliases d) m) ≡ Ok (attr_shapes ys, n)
-      → is_attribute_sign (sign_at ts aliases n) ≡ true
-      → after (attr_shapes xs) (read ts some_attributes (attributes aliases d) m) ≡ after (attr_shapes ys) (read ts some_attributes (attributes aliases d) n)
-  many_more xs ys d m n h e = after-groups (attr_shapes xs) d m ∙ goes _ _ (attr_shapes ys) n h ∙ chosen _ _ _ e
-
   -- any number of groups, behind those that were there before
-  pub more_none : (front : List Attribute) (d m : ℕ) → is_attribute_sign (sign_at ts aliases m) ≡ false → after front (read_any ts aliases d m) ≡ Ok (front, m)
-  unfolding read_any then
-  more_none front d m e = ap (after front) (other _ _ _ e) ∙ ap (λ xs. Ok (xs, m)) (append-nil front)
+  any-law : (front : List Attribute) (b : Bool) (n : ℕ) (r : Outcome (List Attribute)) → after front (choose b r (Ok ([], n))) ≡ choose b (after front r) (Ok (front, n))
+  unfolding choose then
+  any-law front true n r = refl
+  any-law front false n r = ap (λ ys. Ok (ys, n)) (append-nil front)
 
-  pub more_same : (front : List Attribute) (d m : ℕ) → is_attribute_sign (sign_at ts aliases m) ≡ true
-      → after front (read_any ts aliases d m) ≡ after front (read ts some_attributes (attributes aliases d) m)
+  any_on : (d : ℕ) (front : List Attribute) (n : ℕ) → after front (read_any ts aliases d n) ≡ groups_on d front n
   unfolding read_any
-  more_same front d m e = ap (after front) (chosen _ _ _ e)
+  any_on d front n = any-law front (is_attribute_sign (sign_at ts aliases n)) n (read ts some_attributes (attributes aliases d) n)
+
+  any_group : (front : List Attribute) (d m : ℕ) → is_attribute_sign (sign_at ts aliases m) ≡ true
+      → after front (read_any ts aliases d m) ≡ then (after front (read ts some_attributes (group aliases d) m)) (groups_on d)
+  any_group front d m e = any_on d front m ∙ chosen _ _ _ e ∙ after-groups front d m
+
+  pub no_group : (xs : List Attr) (d m : ℕ) → is_attribute_sign (sign_at ts aliases m) ≡ false → after (attr_shapes xs) (read_any ts aliases d m) ≡ Ok (attr_shapes xs, m)
+  no_group xs d m e = any_on d (attr_shapes xs) m ∙ other _ _ _ e
+
+  group_then : (xs ys : List Attr) (d m n : ℕ) (r : Outcome (List Attribute)) → is_attribute_sign (sign_at ts aliases m) ≡ true
+      → read ts some_attributes (group aliases d) m ≡ r → after (attr_shapes xs) r ≡ Ok (attr_shapes ys, n)
+      → after (attr_shapes xs) (read_any ts aliases d m) ≡ after (attr_shapes ys) (read_any ts aliases d n)
+  group_then xs ys d m n r e q h =
+      any_group (attr_shapes xs) d m e ∙ goes _ _ (attr_shapes ys) n (ap (after (attr_shapes xs)) q ∙ h) ∙ sym (any_on d (attr_shapes ys) n)
+
+  group_refused : (xs : List Attr) (d m : ℕ) (r : Outcome (List Attribute)) (e : SyntaxRefusal) → is_attribute_sign (sign_at ts aliases m) ≡ true
+      → read ts some_attributes (group aliases d) m ≡ r → Fails e (after (attr_shapes xs) r) → Fails e (after (attr_shapes xs) (read_any ts aliases d m))
+  group_refused xs d m r e i q h =
+      fails_same e _ _ (any_group (attr_shapes xs) d m i) (fails_then e _ _ (fails_same e _ _ (ap (after (attr_shapes xs)) q) h))
+
+  pub macro_goes : (xs ys : List Attr) (d : ℕ) (k : AttrKind) (m n : ℕ) → sign_at ts aliases m ≡ sign.Macro k
+      → after (attr_shapes xs) (attribute_at ts aliases d k m) ≡ Ok (attr_shapes ys, n)
+      → after (attr_shapes xs) (read_any ts aliases d m) ≡ after (attr_shapes ys) (read_any ts aliases d n)
+  macro_goes xs ys d k m n s h = group_then xs ys d m n _ (ap is_attribute_sign s) (macro_at d k m s) h
+
+  pub macro_fails : (xs : List Attr) (d : ℕ) (k : AttrKind) (m : ℕ) (e : SyntaxRefusal) → sign_at ts aliases m ≡ sign.Macro k
+      → Fails e (after (attr_shapes xs) (attribute_at ts aliases d k m)) → Fails e (after (attr_shapes xs) (read_any ts aliases d m))
+  macro_fails xs d k m e s h = group_refused xs d m _ e (ap is_attribute_sign s) (macro_at d k m s) h
+
+  pub macro_left_out : (xs : List Attr) (d m : ℕ) → sign_at ts aliases m ≡ sign.LeftOutMacro
+      → after (attr_shapes xs) (read_any ts aliases d m) ≡ Err (refuse (barred left_out) m)
+  unfolding then
+  macro_left_out xs d m s =
+      any_group (attr_shapes xs) d m (ap is_attribute_sign s)
+      ∙ ap (λ r. then (after (attr_shapes xs) r) (groups_on d)) (at_sign d m sign.LeftOutMacro s ∙ chosen _ _ _ refl)
+
+  pub list_goes : (xs ys : List Attr) (d m n : ℕ) → sign_at ts aliases m ≡ sign.Attribute
+      → after (attr_shapes xs) (read ts some_attributes (group aliases d) m) ≡ Ok (attr_shapes ys, n)
+      → after (attr_shapes xs) (read_any ts aliases d m) ≡ after (attr_shapes ys) (read_any ts aliases d n)
+  list_goes xs ys d m n s h = group_then xs ys d m n _ (ap is_attribute_sign s) refl h
+
+  pub list_fails : (xs : List Attr) (d m : ℕ) (e : SyntaxRefusal) → sign_at ts aliases m ≡ sign.Attribute
+      → Fails e (after (attr_shapes xs) (read ts some_attributes (group aliases d) m)) → Fails e (after (attr_shapes xs) (read_any ts aliases d m))
+  list_fails xs d m e s h = group_refused xs d m _ e (ap is_attribute_sign s) refl h
 
   -- any number of groups
   pub any_fails : (d m : ℕ) (e : SyntaxRefusal) → Fails e (after [] (read_any ts aliases d m)) → Fails e (read_any ts aliases d m)
@@ -199,12 +203,8 @@ module _ (ts : List Lexeme) (aliases : Aliases) where
   pub any_goes : (d m : ℕ) (xs : List Attribute) (n : ℕ) → after [] (read_any ts aliases d m) ≡ Ok (xs, n) → read_any ts aliases d m ≡ Ok (xs, n)
   any_goes d m xs n h = sym (after-nothing _) ∙ h
 
-pub ruleset groups = (macro_fails, macro_goes, macro_left_out, group_wrong)
+pub ruleset groups = (sign_within, no_group, macro_goes, macro_fails, macro_left_out, list_goes, list_fails, fails_same, gives_same)
 
-pub ruleset bracketed = (bracketed_first, bracketed_second, bracketed_empty, bracketed_full, bracketed_fails)
-
-pub ruleset many = (many_fail, many_last, many_more, fails_same, gives_same)
-
-pub ruleset more = (more_none, more_same, gives_same)
+pub ruleset attribute_lists = (sign_within, bracketed_first, bracketed_second, bracketed_empty, bracketed_full, bracketed_fails)
 
 pub ruleset any = (any_fails, any_goes)

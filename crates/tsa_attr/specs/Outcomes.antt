@@ -1,6 +1,5 @@
 -- What reading by the rows gives for the pieces of a part.
-use Rattle.std.specs.Prelude.{ℕ, ◌+◌, List, [], ◌∷◌, ◌++◌, Bool, None, Ok, Err}
-use Rattle.std.specs.declared.option.Option.{Option}
+use Rattle.std.specs.Prelude.{ℕ, ◌+◌, List, [], ◌∷◌, ◌++◌, Ok, Err}
 use Rattle.tsa_base.specs.Tokens.{Lexeme}
 use Rattle.tsa_tree.specs.declared.attr.AttrKind.{AttrKind}
 use Rattle.tsa_tree.specs.declared.sign.Meaning.{Meaning}
@@ -8,9 +7,8 @@ use Rattle.tsa_tree.specs.declared.sign.Meaning.TheVariants as mean
 use Rattle.tsa_tree.specs.Answers.{below_limit}
 use Rattle.tsa_tree.specs.AttributeRefusals.{left_out, lacking}
 use Rattle.tsa_tree.specs.Attributes.{Attribute, Taking, taking}
-use Rattle.tsa_tree.specs.AttributeSpelling.{attribute}
 use Rattle.tsa_tree.specs.Reads.{read}
-use Rattle.tsa_tree.specs.Rows.{some_arguments, some_attributes, a_skip, series, balanced, Kind, an_open, closing_parenthesis, sees, lacks, arguments_row, entries_end}
+use Rattle.tsa_tree.specs.Rows.{some_attributes, a_skip, balanced, Kind, an_open, closing_parenthesis, sees, lacks, arguments_row, entries_end}
 use Rattle.tsa_tree.specs.Signs.{Aliases, is_word_at, entry_meaning}
 use Rattle.tsa_expr.specs.declared.refusal.SyntaxRefusal.{SyntaxRefusal}
 use Rattle.tsa_expr.specs.declared.refusal.SyntaxRefusal.TheVariants.{At, NoMemory}
@@ -37,11 +35,6 @@ module _ (tokens : List Lexeme) (aliases : Aliases) where
   unfoldable pub arguments_at : (d : ℕ) → AttrKind → (m : ℕ) → Taking → Outcome (List Attribute)
   arguments_at d k m takes =
       follow (sees tokens) below_limit (read tokens) some_attributes (arguments_row tokens aliases d k m takes (λ x e. done (x ∷ []))) (m + 1 + 1)
-
-  -- expressions from a place on, as the arguments of the attribute at m
-  unfoldable pub series_at : (d : ℕ) → AttrKind → (m : ℕ) → Option Bool → (at : ℕ) → Outcome (List Attribute)
-  series_at d k m success at =
-      then (read tokens some_arguments (series aliases d) at) (λ xs n. Ok (attribute tokens k None success xs m n ∷ [], n))
 
   -- the attribute whose name or macro word stands at m
   unfoldable pub attribute_at : (d : ℕ) → AttrKind → (m : ℕ) → Outcome (List Attribute)

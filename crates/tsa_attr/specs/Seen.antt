@@ -1,5 +1,5 @@
 -- What the readers' results are without the arena.
-use Rattle.std.specs.Prelude.{ℕ, List, [], ◌∷◌, Bool, Some, None}
+use Rattle.std.specs.Prelude.{ℕ, ◌<◌, ◌≤◌, length, List, [], ◌∷◌, Bool, Some, None}
 use Rattle.std.specs.declared.option.Option.{Option}
 use Rattle.tsa_base.specs.declared.token.Span.{Span}
 use Rattle.tsa_tree.specs.declared.attr.AttrKind.{AttrKind}
@@ -9,9 +9,10 @@ use Rattle.tsa_tree.specs.Attributes.{Attribute, attr_shape}
 use Rattle.tsa_tree.specs.Attributes as takes
 use Rattle.tsa_tree.specs.Expressions.{Arguments}
 use Rattle.tsa_tree.specs.Rows as rows
+use Rattle.tsa_expr.specs.declared.source.Reader.{Reader}
 use Rattle.tsa_attr.specs.declared.balance.Closer.{Closer}
 use Rattle.tsa_attr.specs.declared.balance.Closer.TheVariants.{Parenthesis, Bracket, Brace}
-use Rattle.tsa_attr.specs.declared.takes.Reading.{Reading}
+use Rattle.tsa_attr.specs.declared.reading.Reading.{Reading}
 use Rattle.tsa_attr.specs.declared.view.Content.{Content}
 use Rattle.tsa_attr.specs.declared.view.Content.TheVariants.{Text, Expression, Expressions, Try}
 
@@ -45,3 +46,7 @@ opened_by sign.Open = Some Parenthesis
 opened_by sign.OpenBracket = Some Bracket
 opened_by sign.OpenBrace = Some Brace
 opened_by _ = None
+
+-- a place behind another, in the tokens
+abbrev pub IsBehind : Reader → (at next : ℕ) → Type 0
+IsBehind reader at next = (at < next) × (next ≤ length reader.tokens.now)

@@ -1,16 +1,15 @@
 //! Balanced tokens are passed over.
 ghost use Rattle.std.specs.Prelude.{◌≡◌, ◌+◌, ◌≤◌, ◌<◌, length, nat_eq, suc, IfOk};
-ghost use Rattle.tsa_base.specs.declared.limits.TheConstants.{INPUT_LIMIT, NESTING_LIMIT};
+ghost use Rattle.tsa_base.specs.declared.limits.TheConstants.{NESTING_LIMIT};
 ghost use Rattle.tsa_tree.specs.Reads.{read};
-ghost use Rattle.tsa_tree.specs.Rows.{mark, a_skip, balanced as balanced_call, closer_kind};
-ghost use Rattle.tsa_tree.specs.Signs.{lexemes};
+ghost use Rattle.tsa_tree.specs.Rows.{mark, a_skip, balanced, closer_kind};
 ghost use Rattle.tsa_expr.specs.Gives.{Gives};
-ghost use Rattle.tsa_expr.specs.Known.{known};
-ghost use Rattle.tsa_attr.specs.Seen.{passed, row_closer, opened_by};
+ghost use Rattle.tsa_expr.specs.Source.{input, named};
+ghost use Rattle.tsa_attr.specs.Seen.{IsBehind, passed, row_closer, opened_by};
 
 use crate::view::is_plain;
-use tsa_base::{NESTING_LIMIT, Token};
-use tsa_expr::{Aliases, SyntaxCode, SyntaxRefusal, refuse, sign_at};
+use tsa_base::NESTING_LIMIT;
+use tsa_expr::{Reader, SyntaxCode, SyntaxRefusal, refuse};
 use tsa_tree::sign::Sign;
 
 /// What closes balanced tokens.
@@ -42,7 +41,7 @@ fn closes(closer: Closer, sign: Sign) -> bool
 }
 
 /// What closes the list that a sign opens.
-fn opened(sign: Sign) -> Option<Closer>
+fn closer_of(sign: Sign) -> Option<Closer>
     ensures { result ≡ opened_by sign }
 {
     match sign {
@@ -55,31 +54,27 @@ fn opened(sign: Sign) -> Option<Closer>
 
 /// The place behind balanced tokens and the token that closes them. Each parenthesis, bracket and brace is counted as open.
 #[tactic(auto, using(crate::proofs::Balancing::balances))]
-pub fn balanced(
-    tokens: &[Token<'_>],
+pub fn skip_balanced(
+    reader: Reader<'_, '_>,
     at: u32,
     depth: u32,
-    aliases: Option<&Aliases>,
     closer: Closer,
 ) -> Result<u32, SyntaxRefusal>
-    requires room { length tokens.now ≤ INPUT_LIMIT }
-    requires within { at ≤ length tokens.now }
-    requires shallow { depth ≤ NESTING_LIMIT }
-    ensures gives { Gives passed result (read (lexemes tokens.now) a_skip (balanced_call (known aliases.entry) depth (row_closer closer)) at) }
-    ensures ends { IfOk result (λ next. (at < next) × (next ≤ length tokens.now)) }
+    ensures gives { Gives passed result (read (input reader.entry) a_skip (balanced (named reader.entry) depth (row_closer closer)) at) }
+    ensures ends { IfOk result (IsBehind reader.entry at) }
 {
     let mut next = at;
     'tokens: loop {
-        let sign = sign_at(tokens, next, aliases);
+        let sign = reader.sign(next);
         if closes(closer, sign) {
             return Ok(next + 1);
         }
-        match opened(sign) {
+        match closer_of(sign) {
             Some(inner) => {
                 if depth >= NESTING_LIMIT {
                     return Err(refuse(SyntaxCode::LM2, next));
                 }
-                next = balanced(tokens, next + 1, depth + 1, aliases, inner)?;
+                next = skip_balanced(reader, next + 1, depth + 1, inner)?;
             }
             None => {
                 if !is_plain(sign) {

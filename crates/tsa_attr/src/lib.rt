@@ -6,13 +6,9 @@ mod lists;
 mod nodes;
 mod read;
 mod reader;
+mod reading;
 mod takes;
 mod view;
 
 pub use read::{read_attributes, read_groups, read_more};
 pub use view::begins_group;
-
-#[cfg(test)]
-mod alias_tests;
-#[cfg(test)]
-mod tests;

@@ -6,15 +6,14 @@ ghost use Rattle.tsa_tree.specs.AttributeRefusals as reason;
 ghost use Rattle.tsa_tree.specs.Attributes.{attr_shapes};
 ghost use Rattle.tsa_tree.specs.Signs.{lexemes};
 ghost use Rattle.tsa_expr.specs.Gives.{Gives};
-ghost use Rattle.tsa_expr.specs.Known.{known};
+ghost use Rattle.tsa_expr.specs.Source.{input, named};
 ghost use Rattle.tsa_attr.specs.Outcomes.{IsOfAttributes, after};
 
-use crate::nodes::kept;
-use crate::reader::attributes;
-use crate::view::begins_group;
+use crate::nodes::into_arena;
+use crate::reader::groups;
 use bumpalo::Bump;
 use tsa_base::Token;
-use tsa_expr::{Aliases, SyntaxCode, SyntaxRefusal, sign_at};
+use tsa_expr::{Reader, SyntaxCode, SyntaxRefusal};
 use tsa_tree::attr::Attr;
 
 /// All attributes that begin at a token, where `depth` constructs are open and no names of types are known, and the token
@@ -30,7 +29,6 @@ pub fn read_attributes<'a>(
 ) -> Result<(&'a [Attr<'a>], u32), SyntaxRefusal>
     requires room { length tokens.now ≤ INPUT_LIMIT }
     requires within { at ≤ length tokens.now }
-    requires shallow { depth ≤ NESTING_LIMIT }
     ensures found { IfOk result (λ found. IsLongest (lexemes tokens.now) [] depth at (attr_shapes found.0.now) found.1) }
     ensures broken { (token : ℕ) → IsErrOf result (SyntaxRefusal.At SyntaxCode.SY1 token) → IsBroken (lexemes tokens.now) [] depth at token }
     ensures left_out { (token : ℕ) → IsErrOf result (SyntaxRefusal.At SyntaxCode.AT1 token) → IsRefused (lexemes tokens.now) [] depth at reason.left_out token }
@@ -39,47 +37,40 @@ pub fn read_attributes<'a>(
     ensures no_other { (refusal : _) → IsErrOf result refusal → IsOfAttributes refusal }
     ensures next { IfOk result (λ found. (at ≤ found.1) × (found.1 ≤ length tokens.now)) }
 {
-    read_groups(bump, tokens, at, depth, None)
+    let reader = Reader {
+        bump,
+        tokens,
+        aliases: None,
+    };
+    read_groups(reader, at, depth)
 }
 
 /// All attributes that begin at a token, and the token after them, as reading by the rows gives them.
 #[tactic(auto, using(crate::proofs::Groups::any))]
 pub fn read_groups<'a>(
-    bump: &'a Bump,
-    tokens: &[Token<'_>],
+    reader: Reader<'a, '_>,
     at: u32,
     depth: u32,
-    aliases: Option<&Aliases>,
 ) -> Result<(&'a [Attr<'a>], u32), SyntaxRefusal>
-    requires room { length tokens.now ≤ INPUT_LIMIT }
-    requires within { at ≤ length tokens.now }
-    requires shallow { depth ≤ NESTING_LIMIT }
-    ensures gives { Gives (λ found. (attr_shapes found.0.now, found.1)) result (read_any (lexemes tokens.now) (known aliases.entry) depth at) }
-    ensures ends { IfOk result (λ found. (at ≤ found.1) × (found.1 ≤ length tokens.now)) }
+    requires within { at ≤ length reader.tokens.now }
+    ensures gives { Gives (λ found. (attr_shapes found.0.now, found.1)) result (read_any (input reader.entry) (named reader.entry) depth at) }
+    ensures ends { IfOk result (λ found. (at ≤ found.1) × (found.1 ≤ length reader.entry.tokens.now)) }
 {
-    let mut items = Vec::new(bump);
-    let next = read_more(bump, tokens, at, depth, aliases, &mut items)?;
-    Ok((kept(items), next))
+    let mut items = Vec::new(reader.bump);
+    let next = groups(reader, at, depth, &mut items)?;
+    Ok((into_arena(items), next))
 }
 
 /// The same at the end of a list: the groups at a token, none or more, behind those that the list has.
-#[tactic(auto, using(crate::proofs::Groups::more))]
 pub fn read_more<'a>(
-    bump: &'a Bump,
-    tokens: &[Token<'_>],
+    reader: Reader<'a, '_>,
     at: u32,
     depth: u32,
-    aliases: Option<&Aliases>,
     list: &mut Vec<Attr<'a>, &'a Bump>,
 ) -> Result<u32, SyntaxRefusal>
-    requires room { length tokens.now ≤ INPUT_LIMIT }
-    requires within { at ≤ length tokens.now }
-    requires shallow { depth ≤ NESTING_LIMIT }
-    ensures gives { Gives (λ next. (attr_shapes list.new.items, next)) result (after (attr_shapes list.old.items) (read_any (lexemes tokens.now) (known aliases.entry) depth at)) }
-    ensures ends { IfOk result (λ next. (at ≤ next) × (next ≤ length tokens.now)) }
+    requires within { at ≤ length reader.tokens.now }
+    ensures gives { Gives (λ next. (attr_shapes list.new.items, next)) result (after (attr_shapes list.old.items) (read_any (input reader.entry) (named reader.entry) depth at)) }
+    ensures ends { IfOk result (λ next. (at ≤ next) × (next ≤ length reader.entry.tokens.now)) }
 {
-    if !begins_group(sign_at(tokens, at, aliases)) {
-        return Ok(at);
-    }
-    attributes(bump, tokens, at, depth, aliases, list)
+    groups(reader, at, depth, list)
 }

@@ -1,178 +1,136 @@
 //! An attribute is read, from its name or macro word to its parenthesis.
-ghost use Rattle.std.specs.Prelude.{◌+◌, ◌≤◌, ◌<◌, length, IfOk};
-ghost use Rattle.tsa_base.specs.declared.limits.TheConstants.{INPUT_LIMIT, NESTING_LIMIT};
+ghost use Rattle.std.specs.Prelude.{◌≤◌, ◌<◌, length, IfOk};
 ghost use Rattle.tsa_tree.specs.Attributes as takes;
-ghost use Rattle.tsa_tree.specs.Signs.{lexemes};
+ghost use Rattle.tsa_tree.specs.Attributes.{attr_shapes};
 ghost use Rattle.tsa_expr.specs.Gives.{Gives};
-ghost use Rattle.tsa_expr.specs.Known.{known};
-ghost use Rattle.tsa_attr.specs.Outcomes.{arguments_at, series_at, attribute_at};
-ghost use Rattle.tsa_attr.specs.Seen.{seen};
+ghost use Rattle.tsa_expr.specs.Source.{input, named};
+ghost use Rattle.tsa_attr.specs.Outcomes.{after, arguments_at, attribute_at};
+ghost use Rattle.tsa_attr.specs.Seen.{IsBehind, seen};
 
-use crate::nodes::{alone, listed, of_args, of_text, text_at};
-use crate::view::{Content, close, lacks, open, taking, try_value_at};
+use crate::nodes::{append, list_of_one, of_args, of_list, of_text, text_at};
+use crate::reading::{AttributeName, Reading};
+use crate::view::{Content, close, content_of, lacks_inside, try_value_at};
 use bumpalo::Bump;
-use tsa_base::Token;
-use tsa_expr::{
-    Aliases, SyntaxCode, SyntaxRefusal, read_expression, read_series, refuse, sign_at, span_over,
-};
-use tsa_tree::attr::{Attr, AttrKind};
+use tsa_base::NESTING_LIMIT;
+use tsa_expr::{Reader, SyntaxCode, SyntaxRefusal, refuse};
+use tsa_tree::attr::Attr;
 use tsa_tree::sign::Sign;
 
-/// An attribute that was read, and the token after it.
-#[derive(Clone, Copy)]
-pub struct Reading<'a> {
-    pub attr: Attr<'a>,
-    pub next: u32,
+/// An attribute at the end of a list, and the token after it.
+#[tactic(auto, using(crate::proofs::Contents::appended))]
+pub fn append_attribute<'a>(
+    reader: Reader<'a, '_>,
+    name: AttributeName,
+    depth: u32,
+    list: &mut Vec<Attr<'a>, &'a Bump>,
+) -> Result<u32, SyntaxRefusal>
+    ensures gives { Gives (λ next. (attr_shapes list.new.items, next)) result (after (attr_shapes list.old.items) (attribute_at (input reader.entry) (named reader.entry) depth name.kind name.at)) }
+    ensures ends { IfOk result (IsBehind reader.entry name.at) }
+{
+    let reading = attribute(reader, name, depth)?;
+    append(list, reading.attr)?;
+    Ok(reading.next)
 }
 
-/// The attribute of a kind whose name or macro word stands at a token.
+/// An attribute, by what stands behind its name.
 #[tactic(auto, using(crate::proofs::Contents::attributes))]
-pub fn attribute<'a>(
-    bump: &'a Bump,
-    tokens: &[Token<'_>],
-    at: u32,
+fn attribute<'a>(
+    reader: Reader<'a, '_>,
+    name: AttributeName,
     depth: u32,
-    aliases: Option<&Aliases>,
-    kind: AttrKind,
 ) -> Result<Reading<'a>, SyntaxRefusal>
-    requires room { length tokens.now ≤ INPUT_LIMIT }
-    requires within { at ≤ length tokens.now }
-    requires shallow { depth ≤ NESTING_LIMIT }
-    ensures gives { Gives seen result (attribute_at (lexemes tokens.now) (known aliases.entry) depth kind at) }
-    ensures ends { IfOk result (λ r. (at < r.next) × (r.next ≤ length tokens.now)) }
+    ensures gives { Gives seen result (attribute_at (input reader.entry) (named reader.entry) depth name.kind name.at) }
+    ensures ends { IfOk result (λ r. IsBehind reader.entry name.at r.next) }
 {
-    if lacks(tokens, at, aliases, kind) {
-        return Err(refuse(SyntaxCode::AT2, at));
+    let sign = reader.sign(name.at + 1);
+    if let Sign::End = sign {
+        return Err(refuse(SyntaxCode::SY1, name.at + 1));
     }
-    let inside = open(tokens, at + 1, depth, aliases)?;
-    match taking(kind) {
-        Content::Text => text(bump, tokens, at, depth + 1, aliases, kind),
-        Content::Expression => expression(bump, tokens, at, depth + 1, aliases, kind),
-        Content::Expressions => expressions(bump, tokens, at, depth + 1, aliases, kind),
-        Content::Try => attempt(bump, tokens, at, depth + 1, aliases, kind),
+    let Sign::Open = sign else {
+        return Err(refuse(SyntaxCode::AT2, name.at));
+    };
+    if lacks_inside(reader, name) {
+        return Err(refuse(SyntaxCode::AT2, name.at));
+    }
+    if depth >= NESTING_LIMIT {
+        return Err(refuse(SyntaxCode::LM2, name.at + 1));
+    }
+    match content_of(name.kind) {
+        Content::Text => text(reader, name, depth + 1),
+        Content::Expression => expression(reader, name, depth + 1),
+        Content::Expressions => expressions(reader, name, depth + 1),
+        Content::Try => attempt(reader, name, depth + 1),
     }
 }
 
 /// A text and the closing parenthesis.
 #[tactic(auto, using(crate::proofs::Contents::texts))]
 fn text<'a>(
-    bump: &'a Bump,
-    tokens: &[Token<'_>],
-    at: u32,
+    reader: Reader<'a, '_>,
+    name: AttributeName,
     depth: u32,
-    aliases: Option<&Aliases>,
-    kind: AttrKind,
 ) -> Result<Reading<'a>, SyntaxRefusal>
-    requires room { length tokens.now ≤ INPUT_LIMIT }
-    requires within { at + 1 + 1 ≤ length tokens.now }
-    ensures gives { Gives seen result (arguments_at (lexemes tokens.now) (known aliases.entry) depth kind at takes.a_text) }
-    ensures ends { IfOk result (λ r. (at < r.next) × (r.next ≤ length tokens.now)) }
+    ensures gives { Gives seen result (arguments_at (input reader.entry) (named reader.entry) depth name.kind name.at takes.a_text) }
+    ensures ends { IfOk result (λ r. IsBehind reader.entry name.at r.next) }
 {
-    let Sign::Text = sign_at(tokens, at + 1 + 1, aliases) else {
-        return Err(refuse(SyntaxCode::SY1, at + 1 + 1));
+    let at = name.at + 1 + 1;
+    let Sign::Text = reader.sign(at) else {
+        return Err(refuse(SyntaxCode::SY1, at));
     };
-    let next = close(tokens, at + 1 + 1 + 1, aliases)?;
-    let text = text_at(bump, tokens, at + 1 + 1)?;
-    Ok(of_text(kind, text, span_over(tokens, at, next), next))
+    let next = close(reader, at + 1)?;
+    let text = text_at(reader, at)?;
+    let attr = of_text(name.kind, text, reader.over(name.at, next));
+    Ok(Reading { attr, next })
 }
 
 /// One expression and the closing parenthesis.
 #[tactic(auto, using(crate::proofs::Contents::expressions))]
 fn expression<'a>(
-    bump: &'a Bump,
-    tokens: &[Token<'_>],
-    at: u32,
+    reader: Reader<'a, '_>,
+    name: AttributeName,
     depth: u32,
-    aliases: Option<&Aliases>,
-    kind: AttrKind,
 ) -> Result<Reading<'a>, SyntaxRefusal>
-    requires room { length tokens.now ≤ INPUT_LIMIT }
-    requires within { at + 1 + 1 ≤ length tokens.now }
-    requires shallow { depth ≤ NESTING_LIMIT }
-    ensures gives { Gives seen result (arguments_at (lexemes tokens.now) (known aliases.entry) depth kind at takes.one_expression) }
-    ensures ends { IfOk result (λ r. (at < r.next) × (r.next ≤ length tokens.now)) }
+    ensures gives { Gives seen result (arguments_at (input reader.entry) (named reader.entry) depth name.kind name.at takes.one_expression) }
+    ensures ends { IfOk result (λ r. IsBehind reader.entry name.at r.next) }
 {
-    let inner = read_expression(bump, tokens, at + 1 + 1, depth, aliases)?;
-    let next = close(tokens, inner.next, aliases)?;
-    let args = alone(bump, inner.tree)?;
-    let span = span_over(tokens, at, next);
-    Ok(of_args(kind, None, args, span, next))
+    let inner = reader.expression(name.at + 1 + 1, depth, 0)?;
+    let next = close(reader, inner.next)?;
+    let args = list_of_one(reader.bump, inner.tree)?;
+    let attr = of_args(name.kind, None, args, reader.over(name.at, next));
+    Ok(Reading { attr, next })
 }
 
 /// Expressions and the closing parenthesis.
 #[tactic(auto, using(crate::proofs::Contents::lists))]
 fn expressions<'a>(
-    bump: &'a Bump,
-    tokens: &[Token<'_>],
-    at: u32,
+    reader: Reader<'a, '_>,
+    name: AttributeName,
     depth: u32,
-    aliases: Option<&Aliases>,
-    kind: AttrKind,
 ) -> Result<Reading<'a>, SyntaxRefusal>
-    requires room { length tokens.now ≤ INPUT_LIMIT }
-    requires within { at + 1 + 1 ≤ length tokens.now }
-    requires shallow { depth ≤ NESTING_LIMIT }
-    ensures gives { Gives seen result (arguments_at (lexemes tokens.now) (known aliases.entry) depth kind at takes.expressions) }
-    ensures ends { IfOk result (λ r. (at < r.next) × (r.next ≤ length tokens.now)) }
+    ensures gives { Gives seen result (arguments_at (input reader.entry) (named reader.entry) depth name.kind name.at takes.expressions) }
+    ensures ends { IfOk result (λ r. IsBehind reader.entry name.at r.next) }
 {
-    series(bump, tokens, at, depth, aliases, kind, None, at + 1 + 1)
+    let args = reader.arguments(name.at + 1 + 1, depth)?;
+    Ok(of_list(reader, name, None, args))
 }
 
 /// The result of a try, a comma, expressions and the closing parenthesis.
 #[tactic(auto, using(crate::proofs::Contents::attempts))]
 fn attempt<'a>(
-    bump: &'a Bump,
-    tokens: &[Token<'_>],
-    at: u32,
+    reader: Reader<'a, '_>,
+    name: AttributeName,
     depth: u32,
-    aliases: Option<&Aliases>,
-    kind: AttrKind,
 ) -> Result<Reading<'a>, SyntaxRefusal>
-    requires room { length tokens.now ≤ INPUT_LIMIT }
-    requires within { at + 1 + 1 ≤ length tokens.now }
-    requires shallow { depth ≤ NESTING_LIMIT }
-    ensures gives { Gives seen result (arguments_at (lexemes tokens.now) (known aliases.entry) depth kind at takes.a_try) }
-    ensures ends { IfOk result (λ r. (at < r.next) × (r.next ≤ length tokens.now)) }
+    ensures gives { Gives seen result (arguments_at (input reader.entry) (named reader.entry) depth name.kind name.at takes.a_try) }
+    ensures ends { IfOk result (λ r. IsBehind reader.entry name.at r.next) }
 {
-    let Some(success) = try_value_at(tokens, at + 1 + 1) else {
-        return Err(refuse(SyntaxCode::SY1, at + 1 + 1));
+    let at = name.at + 1 + 1;
+    let Some(success) = try_value_at(reader, at) else {
+        return Err(refuse(SyntaxCode::SY1, at));
     };
-    let Sign::Comma = sign_at(tokens, at + 1 + 1 + 1, aliases) else {
-        return Err(refuse(SyntaxCode::SY1, at + 1 + 1 + 1));
+    let Sign::Comma = reader.sign(at + 1) else {
+        return Err(refuse(SyntaxCode::SY1, at + 1));
     };
-    series(
-        bump,
-        tokens,
-        at,
-        depth,
-        aliases,
-        kind,
-        Some(success),
-        at + 1 + 1 + 1 + 1,
-    )
-}
-
-/// The expressions of the attribute at a token, from `from` on, and the closing parenthesis.
-#[tactic(auto, using(crate::proofs::Contents::serials))]
-fn series<'a>(
-    bump: &'a Bump,
-    tokens: &[Token<'_>],
-    at: u32,
-    depth: u32,
-    aliases: Option<&Aliases>,
-    kind: AttrKind,
-    success: Option<bool>,
-    from: u32,
-) -> Result<Reading<'a>, SyntaxRefusal>
-    requires room { length tokens.now ≤ INPUT_LIMIT }
-    requires behind { at < from }
-    requires within { from ≤ length tokens.now }
-    requires shallow { depth ≤ NESTING_LIMIT }
-    ensures gives { Gives seen result (series_at (lexemes tokens.now) (known aliases.entry) depth kind at success from) }
-    ensures ends { IfOk result (λ r. (at < r.next) × (r.next ≤ length tokens.now)) }
-{
-    let mut items = Vec::new(bump);
-    let next = read_series(bump, tokens, from, depth, aliases, &mut items)?;
-    let span = span_over(tokens, at, next);
-    Ok(of_args(kind, success, listed(items), span, next))
+    let args = reader.arguments(at + 1 + 1, depth)?;
+    Ok(of_list(reader, name, Some(success), args))
 }

@@ -1,17 +1,18 @@
 //! What attributes see at a place of the tokens.
 ghost use Rattle.std.specs.Prelude.{◌≡◌, ◌+◌, ◌≤◌, ◌<◌, length, Some, None, IfOk, OnOk};
 ghost use Rattle.std.specs.Str.{bytes_eq};
-ghost use Rattle.tsa_base.specs.declared.limits.TheConstants.{INPUT_LIMIT, NESTING_LIMIT};
-ghost use Rattle.tsa_tree.specs.Attributes.{try_value as spec_try, taking as spec_taking};
-ghost use Rattle.tsa_tree.specs.Rows.{sees, a_close, is_attribute_sign as spec_begins, lacks as spec_lacks, lacking_at, takes_result as spec_takes};
-ghost use Rattle.tsa_tree.specs.Signs.{lexemes, identifier_at, is_plain_sign as spec_plain, entry_meaning as spec_meaning};
+ghost use Rattle.tsa_base.specs.declared.limits.TheConstants.{NESTING_LIMIT};
+ghost use Rattle.tsa_tree.specs.Attributes.{try_value as spec_try, taking};
+ghost use Rattle.tsa_tree.specs.Rows.{sees, a_close, is_attribute_sign as spec_begins, lacking_at, takes_result as spec_takes};
+ghost use Rattle.tsa_tree.specs.Signs.{identifier_at, is_plain_sign as spec_plain, entry_meaning as spec_meaning};
 ghost use Rattle.tsa_expr.specs.Gives.{Gives};
-ghost use Rattle.tsa_expr.specs.Known.{known};
+ghost use Rattle.tsa_expr.specs.Source.{input, named};
 ghost use Rattle.tsa_attr.specs.Outcomes.{opening, one_token};
 ghost use Rattle.tsa_attr.specs.Seen.{passed, taking_of};
 
-use tsa_base::{NESTING_LIMIT, Token};
-use tsa_expr::{Aliases, SyntaxCode, SyntaxRefusal, meaning_at, refuse, sign_at};
+use crate::reading::AttributeName;
+use tsa_base::NESTING_LIMIT;
+use tsa_expr::{Reader, SyntaxCode, SyntaxRefusal, refuse};
 use tsa_tree::attr::AttrKind;
 use tsa_tree::sign::{Meaning, Sign};
 
@@ -29,8 +30,8 @@ pub enum Content {
 }
 
 /// What an attribute of a kind takes.
-pub fn taking(kind: AttrKind) -> Content
-    ensures { spec_taking kind ≡ taking_of result }
+pub fn content_of(kind: AttrKind) -> Content
+    ensures { taking kind ≡ taking_of result }
 {
     match kind {
         AttrKind::Capability => Content::Text,
@@ -74,22 +75,22 @@ pub fn is_plain(sign: Sign) -> bool
 }
 
 /// Whether a closing parenthesis stands at a place.
-pub fn is_close_at(tokens: &[Token<'_>], at: u32, aliases: Option<&Aliases>) -> bool
-    ensures { result ≡ sees (lexemes tokens.now) (a_close (known aliases.entry)) at }
+pub fn is_close_at(reader: Reader<'_, '_>, at: u32) -> bool
+    ensures { result ≡ sees (input reader.entry) (a_close (named reader.entry)) at }
 {
-    match sign_at(tokens, at, aliases) {
+    match reader.sign(at) {
         Sign::Close => true,
         _ => false,
     }
 }
 
 /// What the word at a place means in a list of attributes.
-pub fn entry_meaning(tokens: &[Token<'_>], at: u32, aliases: Option<&Aliases>) -> Meaning
-    ensures { result ≡ spec_meaning (lexemes tokens.now) (known aliases.entry) at }
+pub fn entry_meaning(reader: Reader<'_, '_>, at: u32) -> Meaning
+    ensures { result ≡ spec_meaning (input reader.entry) (named reader.entry) at }
 {
-    match sign_at(tokens, at, aliases) {
+    match reader.sign(at) {
         Sign::LeftOutMacro => Meaning::LeftOut,
-        _ => meaning_at(tokens, at),
+        _ => reader.meaning(at),
     }
 }
 
@@ -120,10 +121,10 @@ fn try_value(text: &[u8]) -> Option<bool>
 
 /// The result that the token at a place names for a try.
 #[tactic(auto, unfolding(tsa_tree::specs::Signs::identifier_at, tsa_tree::specs::Attributes::try_value))]
-pub fn try_value_at(tokens: &[Token<'_>], at: u32) -> Option<bool>
-    ensures { result ≡ spec_try (identifier_at (lexemes tokens.now) at).text }
+pub fn try_value_at(reader: Reader<'_, '_>, at: u32) -> Option<bool>
+    ensures { result ≡ spec_try (identifier_at (input reader.entry) at).text }
 {
-    match tokens.get(at as usize) {
+    match reader.tokens.get(at as usize) {
         Some(token) => try_value(token.text),
         None => None,
     }
@@ -131,59 +132,39 @@ pub fn try_value_at(tokens: &[Token<'_>], at: u32) -> Option<bool>
 
 /// Whether an attribute of a kind takes the result of a try.
 fn takes_result(kind: AttrKind) -> bool
-    ensures { result ≡ spec_takes (spec_taking kind) }
+    ensures { result ≡ spec_takes (taking kind) }
 {
-    match taking(kind) {
+    match content_of(kind) {
         Content::Try => true,
         _ => false,
     }
 }
 
-/// Whether the parenthesis of the attribute at a place has nothing in it, or the result of a try alone.
-fn lacks_inside(tokens: &[Token<'_>], at: u32, aliases: Option<&Aliases>, kind: AttrKind) -> bool
-    requires room { length tokens.now ≤ INPUT_LIMIT }
-    requires within { at ≤ length tokens.now }
-    ensures { result ≡ lacking_at (lexemes tokens.now) (known aliases.entry) kind at Sign.Open }
+/// Whether the parenthesis of an attribute has nothing in it, or the result of a try alone.
+pub fn lacks_inside(reader: Reader<'_, '_>, name: AttributeName) -> bool
+    ensures { result ≡ lacking_at (input reader.entry) (named reader.entry) name.kind name.at Sign.Open }
 {
-    if is_close_at(tokens, at + 1 + 1, aliases) {
+    let at = name.at + 1 + 1;
+    if is_close_at(reader, at) {
         return true;
     }
-    if !takes_result(kind) {
+    if !takes_result(name.kind) {
         return false;
     }
-    match try_value_at(tokens, at + 1 + 1) {
-        Some(_) => is_close_at(tokens, at + 1 + 1 + 1, aliases),
+    match try_value_at(reader, at) {
+        Some(_) => is_close_at(reader, at + 1),
         None => false,
-    }
-}
-
-/// Whether the attribute whose name stands at a place has no argument.
-pub fn lacks(tokens: &[Token<'_>], at: u32, aliases: Option<&Aliases>, kind: AttrKind) -> bool
-    requires room { length tokens.now ≤ INPUT_LIMIT }
-    requires within { at ≤ length tokens.now }
-    ensures { result ≡ spec_lacks (lexemes tokens.now) (known aliases.entry) kind at }
-{
-    match sign_at(tokens, at + 1, aliases) {
-        Sign::End => false,
-        Sign::Open => lacks_inside(tokens, at, aliases, kind),
-        _ => true,
     }
 }
 
 /// The place behind a parenthesis that opens a construct.
 #[tactic(auto, using(crate::proofs::Openings::openings))]
-pub fn open(
-    tokens: &[Token<'_>],
-    at: u32,
-    depth: u32,
-    aliases: Option<&Aliases>,
-) -> Result<u32, SyntaxRefusal>
-    requires room { length tokens.now ≤ INPUT_LIMIT }
-    ensures gives { Gives passed result (opening (lexemes tokens.now) (known aliases.entry) depth at) }
-    ensures ends { IfOk result (λ next. (next ≡ at + 1) × (at < length tokens.now)) }
+pub fn open(reader: Reader<'_, '_>, at: u32, depth: u32) -> Result<u32, SyntaxRefusal>
+    ensures gives { Gives passed result (opening (input reader.entry) (named reader.entry) depth at) }
+    ensures ends { IfOk result (λ next. (next ≡ at + 1) × (at < length reader.entry.tokens.now)) }
     ensures low { OnOk result (depth < NESTING_LIMIT) }
 {
-    let Sign::Open = sign_at(tokens, at, aliases) else {
+    let Sign::Open = reader.sign(at) else {
         return Err(refuse(SyntaxCode::SY1, at));
     };
     if depth >= NESTING_LIMIT {
@@ -194,12 +175,11 @@ pub fn open(
 
 /// The place behind a closing parenthesis.
 #[tactic(auto, using(crate::proofs::Openings::closings))]
-pub fn close(tokens: &[Token<'_>], at: u32, aliases: Option<&Aliases>) -> Result<u32, SyntaxRefusal>
-    requires room { length tokens.now ≤ INPUT_LIMIT }
-    ensures gives { Gives passed result (one_token (lexemes tokens.now) (a_close (known aliases.entry)) at) }
-    ensures ends { IfOk result (λ next. (next ≡ at + 1) × (at < length tokens.now)) }
+pub fn close(reader: Reader<'_, '_>, at: u32) -> Result<u32, SyntaxRefusal>
+    ensures gives { Gives passed result (one_token (input reader.entry) (a_close (named reader.entry)) at) }
+    ensures ends { IfOk result (λ next. (next ≡ at + 1) × (at < length reader.entry.tokens.now)) }
 {
-    let Sign::Close = sign_at(tokens, at, aliases) else {
+    let Sign::Close = reader.sign(at) else {
         return Err(refuse(SyntaxCode::SY1, at));
     };
     Ok(at + 1)

@@ -1,5 +1,5 @@
 -- Stars, names and lengths, one by one.
-use Rattle.std.proofs.Common.{ℕ, ◌+◌, ◌<◌, ◌≤◌, ◌≡◌, ◌≢◌, ◌∙◌, ap, refl, sym, Bool, true, false, List, Some, None, Ok, Err, nat_eq}
+use Rattle.std.proofs.Common.{ℕ, ◌+◌, ◌<◌, ◌≤◌, ◌≡◌, ◌≢◌, ◌∙◌, ap, refl, sym, Bool, true, false, List, Option, Some, None, Ok, Err, nat_eq}
 use Rattle.tsa_base.specs.Tokens.{Lexeme}
 use Rattle.tsa_forms.proofs.Cases.{chosen, other, goes}
 use Rattle.tsa_forms.specs.Form.{done, token}
@@ -13,7 +13,7 @@ use Rattle.tsa_tree.specs.declared.sign.Sign.TheVariants as sign
 use Rattle.tsa_tree.specs.Declarations.{Declarator}
 use Rattle.tsa_tree.specs.Expressions.{Expression, Identifier}
 use Rattle.tsa_tree.specs.Reads.{read}
-use Rattle.tsa_tree.specs.Rows.{an_expression, a_declarator, expression, declarator, a_name, a_keyword, a_close_bracket, mark, sees}
+use Rattle.tsa_tree.specs.Rows.{an_expression, a_declarator, expression, declarator, a_name, is_keyword, a_close_bracket, mark, sees}
 use Rattle.tsa_tree.specs.Shapes.{shape}
 use Rattle.tsa_tree.specs.Signs.{Aliases, sign_at, identifier_at, is_star}
 use Rattle.tsa_expr.specs.declared.refusal.SyntaxRefusal.{SyntaxRefusal}
@@ -23,6 +23,7 @@ use Rattle.tsa_decl.specs.declared.declarators.Star.{Star}
 use Rattle.tsa_decl.specs.Outcomes.{name_at, star_at, length_at}
 use Rattle.tsa_decl.specs.Seen.{seen_star}
 use Rattle.tsa_decl.proofs.Pieces.{star_then}
+use Rattle.tsa_decl.proofs.TokenLaws.{name_wrong, name_goes}
 
 not_star : (s : Sign) → s ≢ sign.Operator op.Times → is_star s ≡ false
 not_star (sign.Operator op.Times) h = absurd (h refl)
@@ -38,15 +39,15 @@ module _ (ts : List Lexeme) (aliases : Aliases) where
   unfolding star_at
   star_none m h = other _ _ _ (not_star (sign_at ts aliases m) h)
 
-  pub star_const : (m : ℕ) → sign_at ts aliases m ≡ sign.Operator op.Times → sees ts (a_keyword aliases key.Const) (m + 1) ≡ true
+  pub star_const : (m : ℕ) (s : Sign) → sign_at ts aliases m ≡ sign.Operator op.Times → s ≡ sign_at ts aliases (m + 1) → is_keyword key.Const s ≡ true
       → star_at ts aliases m ≡ (true, true, m + 1 + 1)
   unfolding star_at
-  star_const m e c = chosen _ _ _ (ap is_star e) ∙ chosen _ _ _ c
+  star_const m s e q c = chosen _ _ _ (ap is_star e) ∙ chosen _ _ _ (ap (is_keyword key.Const) (sym q) ∙ c)
 
-  pub star_plain : (m : ℕ) → sign_at ts aliases m ≡ sign.Operator op.Times → sees ts (a_keyword aliases key.Const) (m + 1) ≡ false
+  pub star_plain : (m : ℕ) (s : Sign) → sign_at ts aliases m ≡ sign.Operator op.Times → s ≡ sign_at ts aliases (m + 1) → is_keyword key.Const s ≡ false
       → star_at ts aliases m ≡ (true, false, m + 1)
   unfolding star_at
-  star_plain m e c = chosen _ _ _ (ap is_star e) ∙ other _ _ _ c
+  star_plain m s e q c = chosen _ _ _ (ap is_star e) ∙ other _ _ _ (ap (is_keyword key.Const) (sym q) ∙ c)
 
   -- a star and a name
   abbrev declarator_of : (m : ℕ) → Bool → Bool → Identifier → Declarator
@@ -67,13 +68,17 @@ module _ (ts : List Lexeme) (aliases : Aliases) where
       ∙ named-law (sees ts (a_name aliases) (star_at ts aliases m).2) _ _ (declarator_of m (star_at ts aliases m).0 (star_at ts aliases m).1)
       ∙ ap (λ star. then (name_at ts aliases star.2) (λ x e. Ok (declarator_of m star.0 star.1 x, e))) h
 
-  pub declarator_fails : (m : ℕ) (s : Star) (e : SyntaxRefusal) → star_at ts aliases m ≡ seen_star s → Fails e (name_at ts aliases s.next)
-      → Fails e (read ts a_declarator (declarator aliases) m)
-  declarator_fails m s e h f = fails_same e _ _ (declarator_at m s.pointer s.constant s.next h) (fails_then e _ _ f)
+  pub declarator_wrong : (m : ℕ) (s : Star) → star_at ts aliases m ≡ seen_star s → s.sign ≡ sign_at ts aliases s.next → s.sign ≢ sign.Name
+      → read ts a_declarator (declarator aliases) m ≡ Err (refuse syntax s.next)
+  unfolding then
+  declarator_wrong m s h e k =
+      declarator_at m s.pointer s.constant s.next h
+      ∙ ap (λ r. then r (λ x e. Ok (declarator_of m s.pointer s.constant x, e))) (name_wrong ts aliases s.next (λ q. k (e ∙ q)))
 
-  pub declarator_goes : (m : ℕ) (s : Star) (x : Identifier) → star_at ts aliases m ≡ seen_star s → name_at ts aliases s.next ≡ Ok (x, s.next + 1)
-      → read ts a_declarator (declarator aliases) m ≡ Ok (declarator_of m s.pointer s.constant x, s.next + 1)
-  declarator_goes m s x h k = declarator_at m s.pointer s.constant s.next h ∙ goes _ _ x (s.next + 1) k
+  pub declarator_goes : (m : ℕ) (s : Star) (x : Identifier) → star_at ts aliases m ≡ seen_star s → s.sign ≡ sign_at ts aliases s.next → s.sign ≡ sign.Name
+      → x ≡ identifier_at ts s.next → read ts a_declarator (declarator aliases) m ≡ Ok (declarator_of m s.pointer s.constant x, s.next + 1)
+  declarator_goes m s x h e k q =
+      declarator_at m s.pointer s.constant s.next h ∙ goes _ _ x (s.next + 1) (name_goes ts aliases s.next x (sym e ∙ k) q)
 
   -- the length of an array
   length_open : (d m : ℕ) → sign_at ts aliases m ≡ sign.OpenBracket → d < 100
@@ -100,14 +105,14 @@ module _ (ts : List Lexeme) (aliases : Aliases) where
       → length_at ts aliases d m ≡ Err (refuse syntax n)
   length_unclosed d m x n s h r c = length_open d m s h ∙ goes _ _ x n r ∙ other _ _ _ (not_close_bracket (sign_at ts aliases n) c)
 
-  pub length_goes : (d m : ℕ) (x : Expr) (n : ℕ) (y : Expr) → sign_at ts aliases m ≡ sign.OpenBracket → d < 100
-      → read ts an_expression (expression aliases (d + 1) 0) (m + 1) ≡ Ok (shape x, n) → sign_at ts aliases n ≡ sign.CloseBracket → y ≡ x
-      → length_at ts aliases d m ≡ Ok (Some (shape y), n + 1)
-  length_goes d m x n y s h r c e =
-      length_open d m s h ∙ goes _ _ (shape x) n r ∙ chosen _ _ _ (ap (λ s. nat_eq (mark s) 9) c) ∙ ap (λ x. Ok (Some (shape x), n + 1)) (sym e)
+  pub length_goes : (d m : ℕ) (x : Expr) (n : ℕ) (r : Option Expression × ℕ) → sign_at ts aliases m ≡ sign.OpenBracket → d < 100
+      → read ts an_expression (expression aliases (d + 1) 0) (m + 1) ≡ Ok (shape x, n) → sign_at ts aliases n ≡ sign.CloseBracket
+      → r ≡ (Some (shape x), n + 1) → length_at ts aliases d m ≡ Ok r
+  length_goes d m x n r s h q c e =
+      length_open d m s h ∙ goes _ _ (shape x) n q ∙ chosen _ _ _ (ap (λ s. nat_eq (mark s) 9) c) ∙ ap Ok (sym e)
 
 pub ruleset stars = (star_none, star_const, star_plain)
 
-pub ruleset named = (declarator_fails, declarator_goes)
+pub ruleset named = (declarator_wrong, declarator_goes)
 
 pub ruleset lengths = (length_none, length_deep, length_fails, length_unclosed, length_goes)

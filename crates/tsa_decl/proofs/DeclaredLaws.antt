@@ -17,16 +17,16 @@ use Rattle.tsa_tree.specs.Signs.{Aliases, sign_at, span_over}
 use Rattle.tsa_expr.specs.declared.refusal.SyntaxRefusal.{SyntaxRefusal}
 use Rattle.tsa_expr.specs.Gives.{Fails}
 use Rattle.tsa_expr.proofs.Answering.{fails_then, fails_same}
-use Rattle.tsa_attr.proofs.Joining.{then-same}
+use Rattle.tsa_attr.proofs.Joining.{then-then, then-same, then-ok}
 use Rattle.tsa_decl.specs.declared.declared.Role as read_role
 use Rattle.tsa_decl.specs.declared.declared.Role.TheVariants.{Member, Global}
-use Rattle.tsa_decl.specs.Outcomes.{going, length_at, init_at, delimiter_at}
+use Rattle.tsa_decl.specs.Outcomes.{going, length_at, init_at, suffix_at, delimiter_at}
 use Rattle.tsa_decl.specs.Seen.{row_role}
 use Rattle.tsa_decl.proofs.TokenLaws.{not_equals}
 use Rattle.tsa_decl.proofs.Pieces.{length_then, attributes_then}
 
 -- a piece behind its token, or nothing
-pub token-option-law : {A B C : Type 0} (b : Bool) (m : ℕ) (r : Outcome A) (g : A → B) (f : Option B → ℕ → Outcome C)
+token-option-law : {A B C : Type 0} (b : Bool) (m : ℕ) (r : Outcome A) (g : A → B) (f : Option B → ℕ → Outcome C)
     → choose b (choose b (then r (λ x n. f (Some (g x)) n)) (Err (refuse syntax m))) (f None m)
     ≡ then (choose b (then r (λ x n. Ok (Some (g x), n))) (Ok (None, m))) f
 unfolding choose then
@@ -85,14 +85,11 @@ module _ (ts : List Lexeme) (aliases : Aliases) where
   delimiter_then x m = delimiter-law (sees ts (a_comma aliases) m) (sees ts (a_semicolon aliases) m) m (declares x)
 
   -- the pieces one behind another
-  abbrev behind_init_at : Specified → Declarator → Option Expression → List Attribute → Option Initialiser → ℕ → Outcome Declared
-  behind_init_at t c l xs i f = then (delimiter_at ts aliases f) (λ g h. Ok (declares (declaration t c l xs i (span_over ts c.start f)) g, h))
+  abbrev suffix : (l : Option Expression) (xs : List Attribute) (i : Option Initialiser) → ℕ → Outcome (Option Expression × List Attribute × Option Initialiser)
+  suffix l xs i f = Ok ((l, xs, i), f)
 
-  abbrev behind_attributes_at : Role → (d : ℕ) → Specified → Declarator → Option Expression → List Attribute → ℕ → Outcome Declared
-  behind_attributes_at r d t c l xs e = then (init_at ts aliases r d e) (behind_init_at t c l xs)
-
-  abbrev behind_length_at : Role → (d : ℕ) → Specified → Declarator → Option Expression → ℕ → Outcome Declared
-  behind_length_at r d t c l n = then (read_any ts aliases d n) (behind_attributes_at r d t c l)
+  abbrev behind_init_at : Specified → Declarator → Option Expression × List Attribute × Option Initialiser → ℕ → Outcome Declared
+  behind_init_at t c p f = then (delimiter_at ts aliases f) (λ g h. Ok (declares (declaration t c p.0 p.1 p.2 (span_over ts c.start f)) g, h))
 
   abbrev init_row : Specified → Declarator → Option Expression → List Attribute → Option Initialiser → ℕ → Row a_declared
   init_row t c l xs i f = delimiter ts aliases (declaration t c l xs i (span_over ts c.start f)) f
@@ -103,58 +100,81 @@ module _ (ts : List Lexeme) (aliases : Aliases) where
   abbrev length_row : Role → (d : ℕ) → Specified → Declarator → Option Expression → ℕ → Row a_declared
   length_row r d t c l n = behind_attributes ts aliases d n (attributes_row r d t c l)
 
+  init_goes_on : (r : Role) (d : ℕ) (t : Specified) (c : Declarator) (l : Option Expression) (xs : List Attribute) (e : ℕ)
+      → going ts a_declared (attributes_row r d t c l xs e) e ≡ then (then (init_at ts aliases r d e) (suffix l xs)) (behind_init_at t c)
+  init_goes_on r d t c l xs e =
+      init_then r d e (init_row t c l xs)
+      ∙ then-same (init_at ts aliases r d e) _ _ (λ i f. delimiter_then (declaration t c l xs i (span_over ts c.start f)) f ∙ sym (then-ok (l, xs, i) f (behind_init_at t c)))
+      ∙ sym (then-then (init_at ts aliases r d e) (suffix l xs) (behind_init_at t c))
+
+  attributes_go_on : (r : Role) (d : ℕ) (t : Specified) (c : Declarator) (l : Option Expression) (n : ℕ)
+      → going ts a_declared (length_row r d t c l n) n
+      ≡ then (then (read_any ts aliases d n) (λ xs e. then (init_at ts aliases r d e) (suffix l xs))) (behind_init_at t c)
+  attributes_go_on r d t c l n =
+      attributes_then ts aliases a_declared d n (attributes_row r d t c l)
+      ∙ then-same (read_any ts aliases d n) _ _ (λ xs e. init_goes_on r d t c l xs e)
+      ∙ sym (then-then (read_any ts aliases d n) _ (behind_init_at t c))
+
   rest_at : (r : Role) (d : ℕ) (t : Specified) (c : Declarator) (m : ℕ)
-      → read ts a_declared (declared_rest aliases r d t c) m ≡ then (length_at ts aliases d m) (behind_length_at r d t c)
+      → read ts a_declared (declared_rest aliases r d t c) m ≡ then (suffix_at ts aliases r d m) (behind_init_at t c)
+  unfolding suffix_at
   rest_at r d t c m =
       read_steps ts a_declared (declared_rest aliases r d t c) m
       ∙ length_then ts aliases a_declared d m (length_row r d t c)
-      ∙ then-same (length_at ts aliases d m) _ (behind_length_at r d t c) (λ l n. attributes_then ts aliases a_declared d n (attributes_row r d t c l)
-      ∙ then-same (read_any ts aliases d n) _ (behind_attributes_at r d t c l) (λ xs e. init_then r d e (init_row t c l xs)
-      ∙ then-same (init_at ts aliases r d e) _ (behind_init_at t c l xs) (λ i f. delimiter_then (declaration t c l xs i (span_over ts c.start f)) f)))
+      ∙ then-same (length_at ts aliases d m) _ _ (λ l n. attributes_go_on r d t c l n)
+      ∙ sym (then-then (length_at ts aliases d m) _ (behind_init_at t c))
 
-  pub rest_length : (r : Role) (d : ℕ) (t : Specified) (c : Declarator) (m : ℕ) (e : SyntaxRefusal) → Fails e (length_at ts aliases d m)
+  pub rest_suffix : (r : Role) (d : ℕ) (t : Specified) (c : Declarator) (m : ℕ) (e : SyntaxRefusal) → Fails e (suffix_at ts aliases r d m)
       → Fails e (read ts a_declared (declared_rest aliases r d t c) m)
-  rest_length r d t c m e h = fails_same e _ _ (rest_at r d t c m) (fails_then e _ _ h)
+  rest_suffix r d t c m e h = fails_same e _ _ (rest_at r d t c m) (fails_then e _ _ h)
 
-  with_length : (r : Role) (d : ℕ) (t : Specified) (c : Declarator) (m : ℕ) (l : Option Expression) (n : ℕ) → length_at ts aliases d m ≡ Ok (l, n)
-      → read ts a_declared (declared_rest aliases r d t c) m ≡ behind_length_at r d t c l n
-  with_length r d t c m l n h = rest_at r d t c m ∙ goes _ _ l n h
+  with_suffix : (r : Role) (d : ℕ) (t : Specified) (c : Declarator) (m : ℕ) (l : Option Expression) (xs : List Attribute) (i : Option Initialiser) (b : ℕ)
+      → suffix_at ts aliases r d m ≡ Ok ((l, xs, i), b) → read ts a_declared (declared_rest aliases r d t c) m ≡ behind_init_at t c (l, xs, i) b
+  with_suffix r d t c m l xs i b h = rest_at r d t c m ∙ goes _ _ (l, xs, i) b h
 
-  pub rest_attributes : (r : Role) (d : ℕ) (t : Specified) (c : Declarator) (m : ℕ) (l : Option Expression) (n : ℕ) (e : SyntaxRefusal)
-      → length_at ts aliases d m ≡ Ok (l, n) → Fails e (read_any ts aliases d n) → Fails e (read ts a_declared (declared_rest aliases r d t c) m)
-  rest_attributes r d t c m l n e h f = fails_same e _ _ (with_length r d t c m l n h) (fails_then e _ _ f)
-
-  with_attributes : (r : Role) (d : ℕ) (t : Specified) (c : Declarator) (m : ℕ) (l : Option Expression) (n : ℕ) (xs : List Attribute) (a : ℕ)
-      → length_at ts aliases d m ≡ Ok (l, n) → read_any ts aliases d n ≡ Ok (xs, a)
-      → read ts a_declared (declared_rest aliases r d t c) m ≡ behind_attributes_at r d t c l xs a
-  with_attributes r d t c m l n xs a h k = with_length r d t c m l n h ∙ goes _ _ xs a k
-
-  pub rest_init : (r : Role) (d : ℕ) (t : Specified) (c : Declarator) (m : ℕ) (l : Option Expression) (n : ℕ) (xs : List Attribute) (a : ℕ)
-      (e : SyntaxRefusal) → length_at ts aliases d m ≡ Ok (l, n) → read_any ts aliases d n ≡ Ok (xs, a) → Fails e (init_at ts aliases r d a)
+  pub rest_delimiter : (r : Role) (d : ℕ) (t : Specified) (c : Declarator) (m : ℕ) (l : Option Expression) (xs : List Attribute)
+      (i : Option Initialiser) (b : ℕ) (e : SyntaxRefusal) → suffix_at ts aliases r d m ≡ Ok ((l, xs, i), b) → Fails e (delimiter_at ts aliases b)
       → Fails e (read ts a_declared (declared_rest aliases r d t c) m)
-  rest_init r d t c m l n xs a e h k f = fails_same e _ _ (with_attributes r d t c m l n xs a h k) (fails_then e _ _ f)
+  rest_delimiter r d t c m l xs i b e h f = fails_same e _ _ (with_suffix r d t c m l xs i b h) (fails_then e _ _ f)
 
-  with_init : (r : Role) (d : ℕ) (t : Specified) (c : Declarator) (m : ℕ) (l : Option Expression) (n : ℕ) (xs : List Attribute) (a : ℕ)
-      (i : Option Initialiser) (b : ℕ) → length_at ts aliases d m ≡ Ok (l, n) → read_any ts aliases d n ≡ Ok (xs, a)
-      → init_at ts aliases r d a ≡ Ok (i, b) → read ts a_declared (declared_rest aliases r d t c) m ≡ behind_init_at t c l xs i b
-  with_init r d t c m l n xs a i b h k j = with_attributes r d t c m l n xs a h k ∙ goes _ _ i b j
-
-  pub rest_delimiter : (r : Role) (d : ℕ) (t : Specified) (c : Declarator) (m : ℕ) (l : Option Expression) (n : ℕ) (xs : List Attribute) (a : ℕ)
-      (i : Option Initialiser) (b : ℕ) (e : SyntaxRefusal) → length_at ts aliases d m ≡ Ok (l, n) → read_any ts aliases d n ≡ Ok (xs, a)
-      → init_at ts aliases r d a ≡ Ok (i, b) → Fails e (delimiter_at ts aliases b) → Fails e (read ts a_declared (declared_rest aliases r d t c) m)
-  rest_delimiter r d t c m l n xs a i b e h k j f = fails_same e _ _ (with_init r d t c m l n xs a i b h k j) (fails_then e _ _ f)
-
-  -- where w constructs are open
-  pub rest_goes : (r : Role) (w d : ℕ) (t : Specified) (c : Declarator) (m : ℕ) (l : Option Expression) (n : ℕ) (xs : List Attribute) (a : ℕ)
-      (i : Option Initialiser) (b : ℕ) (g : Bool) (z : ℕ) (x : Declaration) (s : Span) → w ≡ d → length_at ts aliases w m ≡ Ok (l, n)
-      → read_any ts aliases w n ≡ Ok (xs, a) → init_at ts aliases r d a ≡ Ok (i, b) → delimiter_at ts aliases b ≡ Ok (g, z)
-      → x ≡ declaration t c l xs i s → s ≡ span_over ts c.start b → read ts a_declared (declared_rest aliases r d t c) m ≡ Ok (declares x g, z)
-  rest_goes r w d t c m l n xs a i b g z x s o h k j f p q =
-      with_init r d t c m l n xs a i b (ap (λ d. length_at ts aliases d m) (sym o) ∙ h) (ap (λ d. read_any ts aliases d n) (sym o) ∙ k) j
+  pub rest_goes : (r : Role) (d : ℕ) (t : Specified) (c : Declarator) (m : ℕ) (l : Option Expression) (xs : List Attribute)
+      (i : Option Initialiser) (b : ℕ) (g : Bool) (z : ℕ) (x : Declaration) (s : Span) → suffix_at ts aliases r d m ≡ Ok ((l, xs, i), b)
+      → delimiter_at ts aliases b ≡ Ok (g, z) → x ≡ declaration t c l xs i s → s ≡ span_over ts c.start b
+      → read ts a_declared (declared_rest aliases r d t c) m ≡ Ok (declares x g, z)
+  rest_goes r d t c m l xs i b g z x s h f p q =
+      with_suffix r d t c m l xs i b h
       ∙ goes _ _ g z f
       ∙ ap (λ s. Ok (declares (declaration t c l xs i s) g, z)) (sym q)
       ∙ ap (λ x. Ok (declares x g, z)) (sym p)
 
+  -- what follows a name, piece by piece
+  pub suffix_length : (r : Role) (d m : ℕ) (e : SyntaxRefusal) → Fails e (length_at ts aliases d m) → Fails e (suffix_at ts aliases r d m)
+  unfolding suffix_at
+  suffix_length r d m e h = fails_then e _ _ h
+
+  behind_length : (r : Role) (d m : ℕ) (l : Option Expression) (n : ℕ) → length_at ts aliases d m ≡ Ok (l, n)
+      → suffix_at ts aliases r d m ≡ then (read_any ts aliases d n) (λ xs e. then (init_at ts aliases r d e) (suffix l xs))
+  unfolding suffix_at
+  behind_length r d m l n h = goes _ _ l n h
+
+  pub suffix_attributes : (r : Role) (d m : ℕ) (l : Option Expression) (n : ℕ) (e : SyntaxRefusal)
+      → length_at ts aliases d m ≡ Ok (l, n) → Fails e (read_any ts aliases d n) → Fails e (suffix_at ts aliases r d m)
+  suffix_attributes r d m l n e h f = fails_same e _ _ (behind_length r d m l n h) (fails_then e _ _ f)
+
+  pub suffix_init : (r : Role) (d m : ℕ) (l : Option Expression) (n : ℕ) (xs : List Attribute) (a : ℕ) (e : SyntaxRefusal)
+      → length_at ts aliases d m ≡ Ok (l, n) → read_any ts aliases d n ≡ Ok (xs, a) → Fails e (init_at ts aliases r d a) → Fails e (suffix_at ts aliases r d m)
+  suffix_init r d m l n xs a e h k f = fails_same e _ _ (behind_length r d m l n h ∙ goes _ _ xs a k) (fails_then e _ _ f)
+
+  -- where w constructs are open
+  pub suffix_goes : (r : Role) (w d m : ℕ) (l : Option Expression) (n : ℕ) (xs : List Attribute) (a : ℕ) (i : Option Initialiser) (b : ℕ)
+      → w ≡ d → length_at ts aliases w m ≡ Ok (l, n) → read_any ts aliases w n ≡ Ok (xs, a) → init_at ts aliases r d a ≡ Ok (i, b)
+      → suffix_at ts aliases r d m ≡ Ok ((l, xs, i), b)
+  suffix_goes r w d m l n xs a i b o h k j =
+      behind_length r d m l n (ap (λ d. length_at ts aliases d m) (sym o) ∙ h) ∙ goes _ _ xs a (ap (λ d. read_any ts aliases d n) (sym o) ∙ k)
+      ∙ goes _ _ i b j
+
 pub ruleset initialising = (init_none, init_unset, init_fails, init_goes)
 
-pub ruleset rests = (rest_length, rest_attributes, rest_init, rest_delimiter, rest_goes)
+pub ruleset suffixes = (suffix_length, suffix_attributes, suffix_init, suffix_goes)
+
+pub ruleset rests = (rest_suffix, rest_delimiter, rest_goes)

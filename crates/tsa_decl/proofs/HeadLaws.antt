@@ -14,9 +14,9 @@ use Rattle.tsa_tree.specs.Rows.{Sort, some_parameters, a_skip, a_specifier, a_de
 use Rattle.tsa_tree.specs.Signs.{Aliases, sign_at, is_storage}
 use Rattle.tsa_expr.specs.declared.refusal.SyntaxRefusal.{SyntaxRefusal}
 use Rattle.tsa_expr.specs.Gives.{Fails}
-use Rattle.tsa_expr.proofs.Answering.{fails_then, fails_same, then_done}
+use Rattle.tsa_expr.proofs.Answering.{fails_then, fails_same, gives_same, then_done}
 use Rattle.tsa_attr.proofs.Joining.{opens-law, then-same}
-use Rattle.tsa_decl.specs.Outcomes.{going, opening, storage_at}
+use Rattle.tsa_decl.specs.Outcomes.{going, opening, storage_at, head_end_at}
 use Rattle.tsa_decl.proofs.Pieces.{storage_then, attributes_then}
 
 abbrev signed : List Parameter → List Attribute → Signature
@@ -102,19 +102,27 @@ module _ (ts : List Lexeme) (aliases : Aliases) where
       → Fails e (read ts a_head (head aliases) m)
   head_unnamed m n t i e h r f = fails_same e _ _ (head_at m n h ∙ goes _ _ t i r) (fails_then e _ _ f)
 
-  pub head_unsigned : (m n : ℕ) (t : Specified) (i : ℕ) (c : Declarator) (j : ℕ) (e : SyntaxRefusal) → storage_at ts aliases m ≡ Ok (tt, n)
+  pub head_same : (m n : ℕ) (t : Specified) (i : ℕ) (c : Declarator) (j : ℕ) → storage_at ts aliases m ≡ Ok (tt, n)
       → read ts a_specifier (specifier aliases) n ≡ Ok (t, i) → read ts a_declarator (declarator aliases) i ≡ Ok (c, j)
-      → Fails e (read ts a_signature (signature aliases) j) → Fails e (read ts a_head (head aliases) m)
-  head_unsigned m n t i c j e h r q f = fails_same e _ _ (head_at m n h ∙ goes _ _ t i r ∙ goes _ _ c j q) (fails_then e _ _ f)
+      → read ts a_head (head aliases) m ≡ head_end_at ts aliases t c j
+  unfolding head_end_at
+  head_same m n t i c j h r q = head_at m n h ∙ goes _ _ t i r ∙ goes _ _ c j q
 
-  pub head_goes : (m n : ℕ) (t : Specified) (i : ℕ) (c : Declarator) (j : ℕ) (s : Signature) (k : ℕ) (x : Head) → storage_at ts aliases m ≡ Ok (tt, n)
-      → read ts a_specifier (specifier aliases) n ≡ Ok (t, i) → read ts a_declarator (declarator aliases) i ≡ Ok (c, j)
-      → read ts a_signature (signature aliases) j ≡ Ok (s, k) → x ≡ head_of t c s → read ts a_head (head aliases) m ≡ Ok (x, k)
-  head_goes m n t i c j s k x h r q f p =
-      head_at m n h ∙ goes _ _ t i r ∙ goes _ _ c j q ∙ goes _ _ s k f ∙ ap (λ x. Ok (x, k)) (sym p)
+  -- behind its declarator
+  pub end_fails : (t : Specified) (c : Declarator) (m : ℕ) (e : SyntaxRefusal) → Fails e (read ts a_signature (signature aliases) m)
+      → Fails e (head_end_at ts aliases t c m)
+  unfolding head_end_at
+  end_fails t c m e f = fails_then e _ _ f
+
+  pub end_goes : (t : Specified) (c : Declarator) (m : ℕ) (s : Signature) (k : ℕ) (x : Head) → read ts a_signature (signature aliases) m ≡ Ok (s, k)
+      → x ≡ head_of t c s → head_end_at ts aliases t c m ≡ Ok (x, k)
+  unfolding head_end_at
+  end_goes t c m s k x f p = goes _ _ s k f ∙ ap (λ x. Ok (x, k)) (sym p)
 
 pub ruleset words = (storage_ends, storage_more)
 
 pub ruleset signatures = (signature_unopened, signature_fails, signature_wrong, signature_goes)
 
-pub ruleset heads = (head_fails, head_unnamed, head_unsigned, head_goes)
+pub ruleset heads = (head_fails, head_unnamed, head_same, gives_same)
+
+pub ruleset ends = (end_fails, end_goes)

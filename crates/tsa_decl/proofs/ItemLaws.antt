@@ -1,5 +1,5 @@
 -- Items by their first tokens: whether a function may have a body is told behind its head alone.
-use Rattle.std.proofs.Common.{ℕ, ◌+◌, ◌≡◌, ◌≢◌, ◌∙◌, ap, sym, refl, List, Ok, nat_eq, Bool, Some}
+use Rattle.std.proofs.Common.{ℕ, ◌+◌, ◌≡◌, ◌≢◌, ◌∙◌, ap, sym, refl, List, Ok, Err, nat_eq, Bool, Some}
 use Rattle.tsa_base.specs.Tokens.{Lexeme}
 use Rattle.tsa_forms.proofs.Cases.{chosen, other, goes}
 use Rattle.tsa_forms.specs.Form.{done, part}
@@ -10,7 +10,7 @@ use Rattle.tsa_tree.specs.declared.item.Item.{Item}
 use Rattle.tsa_tree.specs.declared.sign.Keyword.TheVariants as key
 use Rattle.tsa_tree.specs.declared.sign.Sign.{Sign}
 use Rattle.tsa_tree.specs.declared.sign.Sign.TheVariants as sign
-use Rattle.tsa_tree.specs.Declarations.{Base, Specified, Declarator, Signature, head_of}
+use Rattle.tsa_tree.specs.Declarations.{Base, Specified, Declarator, Signature, Head, head_of}
 use Rattle.tsa_tree.specs.UnitItems.{UnitItem}
 use Rattle.tsa_tree.specs.ItemShapes.{head_shape}
 use Rattle.tsa_tree.specs.UnitShapes.{item_shapes}
@@ -21,8 +21,14 @@ use Rattle.tsa_expr.specs.declared.refusal.SyntaxRefusal.{SyntaxRefusal}
 use Rattle.tsa_expr.specs.Gives.{Fails}
 use Rattle.tsa_expr.proofs.Answering.{fails_then, fails_same, gives_same, not_open, then_done}
 use Rattle.tsa_attr.proofs.Joining.{then-then, then-same, then-ok}
-use Rattle.tsa_decl.specs.Outcomes.{after, finished, going_items, storage_at, specified_at, globals_at, other_item_at}
+use Rattle.tsa_decl.specs.Outcomes.{after, finished, going_items, storage_at, specified_at, globals_at, head_end_at, other_item_at}
 use Rattle.tsa_decl.proofs.Pieces.{consts_then, storage_then}
+
+head-law : {B : Type 0} (r : Outcome Signature) (make : Signature → Head) (go : Head → ℕ → Outcome B)
+    → then r (λ s n. go (make s) n) ≡ then (then r (λ s n. Ok (make s, n))) go
+unfolding then
+head-law (Ok p) make go = refl
+head-law (Err e) make go = refl
 
 module _ (ts : List Lexeme) (aliases : Aliases) (bodies : Bool) where
   -- behind a type
@@ -48,23 +54,26 @@ module _ (ts : List Lexeme) (aliases : Aliases) (bodies : Bool) where
   declared_globals xs t m c n h k =
       ap (after (item_shapes xs)) (declared_is t m ∙ goes _ _ c n h ∙ other _ _ _ (not_open (sign_at ts aliases n) k))
 
+  -- a head before its `;` or block
   function_at : (t : Specified) (m : ℕ) (c : Declarator) (n : ℕ) → read ts a_declarator (declarator aliases) m ≡ Ok (c, n)
       → sign_at ts aliases n ≡ sign.Open
-      → read ts some_items (declared aliases bodies t) m ≡ then (read ts a_signature (signature aliases) n) (function_rest t c)
-  function_at t m c n h k = declared_is t m ∙ goes _ _ c n h ∙ chosen _ _ _ (ap (λ s. nat_eq (mark s) 6) k)
+      → read ts some_items (declared aliases bodies t) m
+      ≡ then (head_end_at ts aliases t c n) (λ head e. going_items ts (function_end ts aliases bodies head e) e)
+  unfolding head_end_at
+  function_at t m c n h k =
+      declared_is t m ∙ goes _ _ c n h ∙ chosen _ _ _ (ap (λ s. nat_eq (mark s) 6) k)
+      ∙ head-law (read ts a_signature (signature aliases) n) (head_of t c) (λ head e. going_items ts (function_end ts aliases bodies head e) e)
 
-  pub function_unsigned : (xs : List Item) (t : Specified) (m : ℕ) (c : Declarator) (n : ℕ) (e : SyntaxRefusal) → read ts a_declarator (declarator aliases) m ≡ Ok (c, n)
-      → sign_at ts aliases n ≡ sign.Open → Fails e (read ts a_signature (signature aliases) n)
+  pub function_fails : (xs : List Item) (t : Specified) (m : ℕ) (c : Declarator) (n : ℕ) (e : SyntaxRefusal) → read ts a_declarator (declarator aliases) m ≡ Ok (c, n)
+      → sign_at ts aliases n ≡ sign.Open → Fails e (head_end_at ts aliases t c n)
       → Fails e (after (item_shapes xs) (read ts some_items (declared aliases bodies t) m))
-  function_unsigned xs t m c n e h k f = fails_then e _ _ (fails_same e _ _ (function_at t m c n h k) (fails_then e _ _ f))
+  function_fails xs t m c n e h k f = fails_then e _ _ (fails_same e _ _ (function_at t m c n h k) (fails_then e _ _ f))
 
-  pub function_begins : (xs : List Item) (t : Specified) (m : ℕ) (c : Declarator) (n : ℕ) (s : Signature) (i : ℕ) (x : FnTree)
+  pub function_begins : (xs : List Item) (t : Specified) (m : ℕ) (c : Declarator) (n : ℕ) (x : FnTree) (i : ℕ)
       → read ts a_declarator (declarator aliases) m ≡ Ok (c, n) → sign_at ts aliases n ≡ sign.Open
-      → read ts a_signature (signature aliases) n ≡ Ok (s, i) → head_shape x ≡ head_of t c s
+      → head_end_at ts aliases t c n ≡ Ok (head_shape x, i)
       → after (item_shapes xs) (read ts some_items (declared aliases bodies t) m) ≡ finished ts aliases bodies (item_shapes xs, Some (head_shape x)) i
-  function_begins xs t m c n s i x h k l q =
-      ap (after (item_shapes xs))
-      (function_at t m c n h k ∙ goes _ _ s i l ∙ ap (λ head. going_items ts (function_end ts aliases bodies head i) i) (sym q))
+  function_begins xs t m c n x i h k l = ap (after (item_shapes xs)) (function_at t m c n h k ∙ goes _ _ (head_shape x) i l)
 
   -- behind a tag
   declared_of_is : (base : Base) (m : ℕ)
@@ -170,7 +179,7 @@ module _ (ts : List Lexeme) (aliases : Aliases) where
       → after (item_shapes xs) (alias_behind m (sign_at ts aliases (m + 1))) ≡ after (item_shapes xs) (going_items ts (alias_end ts aliases t n) n)
   typedef_plain xs m t n a b h = ap (after (item_shapes xs)) (plain_row m (sign_at ts aliases (m + 1)) a b ∙ goes _ _ t n h)
 
-pub ruleset declared_items = (declared_nameless, declared_globals, function_unsigned, function_begins)
+pub ruleset declared_items = (declared_nameless, declared_globals, function_fails, function_begins)
 
 pub ruleset told_by_tag = (declared_of_same, alias_of_same, gives_same)
 

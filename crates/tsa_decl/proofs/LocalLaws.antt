@@ -18,11 +18,19 @@ use Rattle.tsa_expr.specs.declared.refusal.SyntaxRefusal.{SyntaxRefusal}
 use Rattle.tsa_expr.specs.Gives.{Fails}
 use Rattle.tsa_expr.proofs.Answering.{fails_then, fails_same, gives_same, not_comma}
 use Rattle.tsa_attr.proofs.Joining.{then-then, then-same}
-use Rattle.tsa_decl.specs.Outcomes.{after, length_at, value_at, variables_at}
-use Rattle.tsa_decl.proofs.DeclaredLaws.{token-option-law}
+use Rattle.tsa_decl.specs.Outcomes.{after, length_at, expression_at, value_at, variables_at}
 use Rattle.tsa_decl.proofs.ListLaws.{map-push, after-nothing, after-over, after-more}
 use Rattle.tsa_decl.proofs.TokenLaws.{not_equals}
 use Rattle.tsa_decl.proofs.Pieces.{length_then}
+
+-- an expression behind its `=`, or nothing
+value-law : {A B C : Type 0} (b : Bool) (m : ℕ) (r : Outcome A) (g : A → B) (f : Option B → ℕ → Outcome C)
+    → choose b (choose b (then r (λ x n. f (Some (g x)) n)) (Err (refuse syntax m))) (f None m)
+    ≡ then (choose b (then (then r (λ x n. Ok (g x, n))) (λ x n. Ok (Some x, n))) (Ok (None, m))) f
+unfolding choose then
+value-law true m (Ok p) g f = refl
+value-law true m (Err e) g f = refl
+value-law false m r g f = refl
 
 module _ (ts : List Lexeme) (aliases : Aliases) where
   -- the expression that may initialise a local
@@ -30,13 +38,13 @@ module _ (ts : List Lexeme) (aliases : Aliases) where
   unfolding value_at
   value_unset d m h = other _ _ _ (not_equals (sign_at ts aliases m) h)
 
-  pub value_fails : (d m : ℕ) (e : SyntaxRefusal) → sign_at ts aliases m ≡ sign.Equals
-      → Fails e (read ts an_expression (expression aliases d 0) (m + 1)) → Fails e (value_at ts aliases d m)
+  pub value_fails : (d m : ℕ) (e : SyntaxRefusal) → sign_at ts aliases m ≡ sign.Equals → Fails e (expression_at ts aliases d (m + 1))
+      → Fails e (value_at ts aliases d m)
   unfolding value_at
   value_fails d m e s h = fails_same e _ _ (chosen _ _ _ (ap (λ s. nat_eq (mark s) 24) s)) (fails_then e _ _ h)
 
-  pub value_goes : (d m : ℕ) (x : Expression) (n : ℕ) → sign_at ts aliases m ≡ sign.Equals
-      → read ts an_expression (expression aliases d 0) (m + 1) ≡ Ok (x, n) → value_at ts aliases d m ≡ Ok (Some (value x), n)
+  pub value_goes : (d m : ℕ) (x : Initialiser) (n : ℕ) → sign_at ts aliases m ≡ sign.Equals → expression_at ts aliases d (m + 1) ≡ Ok (x, n)
+      → value_at ts aliases d m ≡ Ok (Some x, n)
   unfolding value_at
   value_goes d m x n s h = chosen _ _ _ (ap (λ s. nat_eq (mark s) 24) s) ∙ goes _ _ x n h
 
@@ -56,13 +64,13 @@ module _ (ts : List Lexeme) (aliases : Aliases) where
 
   variable_at : (d : ℕ) (t : Specified) (m : ℕ)
       → read ts a_variable (variable aliases d t) m ≡ then (read ts a_declarator (declarator aliases) m) (behind_name_at d t)
-  unfolding value_at
+  unfolding value_at expression_at
   variable_at d t m =
       read_steps ts a_variable (variable aliases d t) m
       ∙ then-same (read ts a_declarator (declarator aliases) m) _ (behind_name_at d t) (λ c m.
       length_then ts aliases a_variable d m (value_row d t c)
       ∙ then-same (length_at ts aliases d m) _ (behind_length_at d t c) (λ l n.
-      token-option-law (sees ts (an_equals aliases) n) n (read ts an_expression (expression aliases d 0) (n + 1)) value
+      value-law (sees ts (an_equals aliases) n) n (read ts an_expression (expression aliases d 0) (n + 1)) value
       (λ v e. Ok (declaration t c l [] v (span_over ts c.start e), e))))
 
   pub variable_name : (d : ℕ) (t : Specified) (m : ℕ) (e : SyntaxRefusal) → Fails e (read ts a_declarator (declarator aliases) m)

@@ -1,5 +1,5 @@
 -- Parameters, one by one.
-use Rattle.std.proofs.Common.{ℕ, ◌+◌, ◌<◌, ◌≡◌, ◌≢◌, ◌∙◌, ap, sym, subst, refl, length, Bool, true, false, ◌&&◌, List, [], ◌∷◌, ◌++◌, Option, Some, None, Ok, Err, nat_eq}
+use Rattle.std.proofs.Common.{ℕ, ◌+◌, ◌<◌, ◌≡◌, ◌≢◌, ◌∙◌, ap, sym, subst, refl, length, Bool, true, false, ◌&&◌, List, [], ◌∷◌, ◌++◌, Some, None, Ok, Err, nat_eq}
 use Rattle.std.proofs.lemmas.List.{length-map}
 use Rattle.tsa_base.specs.declared.token.Span.{Span}
 use Rattle.tsa_base.specs.declared.token.Token.{Token}
@@ -13,7 +13,7 @@ use Rattle.tsa_tree.specs.declared.item.Param.{Param}
 use Rattle.tsa_tree.specs.declared.sign.Keyword.TheVariants as key
 use Rattle.tsa_tree.specs.declared.sign.Sign.{Sign}
 use Rattle.tsa_tree.specs.declared.sign.Sign.TheVariants as sign
-use Rattle.tsa_tree.specs.Declarations.{Specified, made_of, Parameter}
+use Rattle.tsa_tree.specs.Declarations.{Specified, Parameter}
 use Rattle.tsa_tree.specs.Expressions.{Identifier}
 use Rattle.tsa_tree.specs.ItemShapes.{param_shape, param_shapes}
 use Rattle.tsa_tree.specs.ItemSpelling.{parameter, parameter_start}
@@ -24,7 +24,7 @@ use Rattle.tsa_expr.specs.declared.refusal.SyntaxRefusal.{SyntaxRefusal}
 use Rattle.tsa_expr.specs.Gives.{Fails}
 use Rattle.tsa_expr.proofs.Answering.{fails_then, fails_same, gives_same, then_done, not_name, not_comma, not_close}
 use Rattle.tsa_attr.proofs.Joining.{then-then, then-same}
-use Rattle.tsa_decl.specs.Outcomes.{after, going, star_at, parameter_by, parameter_at}
+use Rattle.tsa_decl.specs.Outcomes.{after, going, parameter_with, star_at, parameter_by, parameter_at}
 use Rattle.tsa_decl.proofs.ListLaws.{map-push, after-nothing, after-over, after-more}
 use Rattle.tsa_decl.proofs.Pieces.{star_then}
 
@@ -55,10 +55,6 @@ lone_within tokens aliases m v =
     subst (λ n. m + 1 < n) (length-map tokens lexeme)
     (inside (lexemes tokens) (a_close aliases) (m + 1) (close-mark (sign_at (lexemes tokens) aliases (m + 1)) both.1))
 
--- a parameter of this type and these stars
-abbrev made : Specified → (pointer pointer_const : Bool) → Option Identifier → Span → Parameter
-made t p c name span = record { name = name; ctype = made_of t p c None; span = span }
-
 module _ (ts : List Lexeme) (aliases : Aliases) where
   -- a parameter
   pub parameter_fails : (m : ℕ) (e : SyntaxRefusal) → Fails e (read ts a_specifier (specifier aliases) m) → Fails e (parameter_at ts aliases m)
@@ -72,22 +68,22 @@ module _ (ts : List Lexeme) (aliases : Aliases) where
 
   pub parameter_named : (m : ℕ) (t : Specified) (n : ℕ) (star : Bool × Bool × ℕ) (name : Identifier) (span : Span) (x : Parameter)
       → read ts a_specifier (specifier aliases) m ≡ Ok (t, n) → star_at ts aliases n ≡ star → sign_at ts aliases star.2 ≡ sign.Name
-      → name ≡ identifier_at ts star.2 → span ≡ span_over ts n (star.2 + 1) → x ≡ made t star.0 star.1 (Some name) span
+      → name ≡ identifier_at ts star.2 → span ≡ span_over ts n (star.2 + 1) → x ≡ parameter_with t star.0 star.1 (Some name) span
       → parameter_at ts aliases m ≡ Ok (x, star.2 + 1)
   parameter_named m t n star name span x h s e p q r =
       starred_at m t n star h s ∙ chosen _ _ _ (ap (λ s. nat_eq (mark s) 3) e)
-      ∙ ap (λ name. Ok (made t star.0 star.1 (Some name) (span_over ts n (star.2 + 1)), star.2 + 1)) (sym p)
-      ∙ ap (λ span. Ok (made t star.0 star.1 (Some name) span, star.2 + 1)) (sym q)
+      ∙ ap (λ name. Ok (parameter_with t star.0 star.1 (Some name) (span_over ts n (star.2 + 1)), star.2 + 1)) (sym p)
+      ∙ ap (λ span. Ok (parameter_with t star.0 star.1 (Some name) span, star.2 + 1)) (sym q)
       ∙ ap (λ x. Ok (x, star.2 + 1)) (sym r)
 
   pub parameter_unnamed : (m : ℕ) (t : Specified) (n : ℕ) (star : Bool × Bool × ℕ) (from : ℕ) (span : Span) (x : Parameter)
       → read ts a_specifier (specifier aliases) m ≡ Ok (t, n) → star_at ts aliases n ≡ star → sign_at ts aliases star.2 ≢ sign.Name
-      → from ≡ parameter_start ts aliases star.0 m n → span ≡ span_over ts from star.2 → x ≡ made t star.0 star.1 None span
+      → from ≡ parameter_start ts aliases star.0 m n → span ≡ span_over ts from star.2 → x ≡ parameter_with t star.0 star.1 None span
       → parameter_at ts aliases m ≡ Ok (x, star.2)
   parameter_unnamed m t n star from span x h s e p q r =
       starred_at m t n star h s ∙ other _ _ _ (not_name (sign_at ts aliases star.2) e)
-      ∙ ap (λ from. Ok (made t star.0 star.1 None (span_over ts from star.2), star.2)) (sym p)
-      ∙ ap (λ span. Ok (made t star.0 star.1 None span, star.2)) (sym q)
+      ∙ ap (λ from. Ok (parameter_with t star.0 star.1 None (span_over ts from star.2), star.2)) (sym p)
+      ∙ ap (λ span. Ok (parameter_with t star.0 star.1 None span, star.2)) (sym q)
       ∙ ap (λ x. Ok (x, star.2)) (sym r)
 
   -- where a parameter without a name begins
@@ -162,6 +158,10 @@ module _ (ts : List Lexeme) (aliases : Aliases) where
       ∙ ap (λ ys. after ys (read ts some_parameters (parameter_list aliases) (n + 1))) (sym (map-push param_shape xs x))
 
   -- what stands between the parentheses
+  pub void_first : (m : ℕ) (s : Sign) (b : Bool) → s ≡ sign_at ts aliases m → b ≡ (is_void s && is_close (sign_at ts aliases (m + 1)))
+      → is_lone_void ts aliases m ≡ b
+  void_first m s b e h = ap (λ s. is_void s && is_close (sign_at ts aliases (m + 1))) (sym e) ∙ sym h
+
   pub no_parameters : (m : ℕ) → sign_at ts aliases m ≡ sign.Close → read ts some_parameters (parameters aliases) m ≡ Ok ([], m + 1)
   no_parameters m s =
       let here = ap (λ s. nat_eq (mark s) 7) s in
@@ -174,26 +174,28 @@ module _ (ts : List Lexeme) (aliases : Aliases) where
       read_steps ts some_parameters (parameters aliases) m ∙ other _ _ _ (not_close (sign_at ts aliases m) s) ∙ chosen _ _ _ v
       ∙ chosen _ _ _ (void-word (sign_at ts aliases m) both.0) ∙ chosen _ _ _ (close-mark (sign_at ts aliases (m + 1)) both.1)
 
-  listed_at : (m : ℕ) → sign_at ts aliases m ≢ sign.Close → is_lone_void ts aliases m ≡ false
+  pub listed_at : (m : ℕ) → sign_at ts aliases m ≢ sign.Close → is_lone_void ts aliases m ≡ false
       → read ts some_parameters (parameters aliases) m ≡ read ts some_parameters (parameter_list aliases) m
   listed_at m s v =
       read_steps ts some_parameters (parameters aliases) m ∙ other _ _ _ (not_close (sign_at ts aliases m) s) ∙ other _ _ _ v
       ∙ then_done (read ts some_parameters (parameter_list aliases) m)
 
-  pub listed_fails : (m : ℕ) (e : SyntaxRefusal) → sign_at ts aliases m ≢ sign.Close → is_lone_void ts aliases m ≡ false
-      → Fails e (after [] (read ts some_parameters (parameter_list aliases) m)) → Fails e (read ts some_parameters (parameters aliases) m)
-  listed_fails m e s v h = fails_same e _ _ (listed_at m s v ∙ sym (after-nothing _)) h
+  -- one or more, in a list that was new
+  pub new_fails : (m : ℕ) (e : SyntaxRefusal) → Fails e (after [] (read ts some_parameters (parameter_list aliases) m))
+      → Fails e (read ts some_parameters (parameter_list aliases) m)
+  new_fails m e h = fails_same e _ _ (sym (after-nothing _)) h
 
-  pub listed_goes : (m : ℕ) (zs : List Param) (xs ys : List Parameter) (n : ℕ) → sign_at ts aliases m ≢ sign.Close → is_lone_void ts aliases m ≡ false
-      → zs ≡ [] → after (param_shapes zs) (read ts some_parameters (parameter_list aliases) m) ≡ Ok (xs, n) → ys ≡ xs
-      → read ts some_parameters (parameters aliases) m ≡ Ok (ys, n)
-  listed_goes m zs xs ys n s v z h q =
-      listed_at m s v ∙ sym (after-nothing _)
-      ∙ ap (λ zs. after (param_shapes zs) (read ts some_parameters (parameter_list aliases) m)) (sym z) ∙ h
+  pub new_goes : (m : ℕ) (zs : List Param) (xs ys : List Parameter) (n : ℕ) → zs ≡ []
+      → after (param_shapes zs) (read ts some_parameters (parameter_list aliases) m) ≡ Ok (xs, n) → ys ≡ xs
+      → read ts some_parameters (parameter_list aliases) m ≡ Ok (ys, n)
+  new_goes m zs xs ys n z h q =
+      sym (after-nothing _) ∙ ap (λ zs. after (param_shapes zs) (read ts some_parameters (parameter_list aliases) m)) (sym z) ∙ h
       ∙ ap (λ xs. Ok (xs, n)) (sym q)
 
 pub ruleset alone = (parameter_fails, parameter_named, parameter_unnamed)
 
 pub ruleset lists = (list_fails, list_wrong, list_last, list_more, fails_same, gives_same)
 
-pub ruleset between = (no_parameters, lone_void, listed_fails, listed_goes)
+pub ruleset between = (no_parameters, lone_void, listed_at, gives_same)
+
+pub ruleset new_lists = (new_fails, new_goes)

@@ -46,6 +46,13 @@ module _ (ts : List Lexeme) (aliases : Aliases) where
       chosen _ _ _ e ∙ read_steps ts a_skip (consts aliases) m ∙ chosen _ _ _ e
       ∙ consts_then ts aliases a_skip (m + 1) (λ c n. done tt) ∙ then-unit (consts_at ts aliases (m + 1))
 
+  -- by the sign at a place
+  pub sign_none : (m : ℕ) (s : Sign) → s ≡ sign_at ts aliases m → is_keyword key.Const s ≡ false → consts_at ts aliases m ≡ Ok (tt, m)
+  sign_none m s e c = consts_none m (ap (is_keyword key.Const) (sym e) ∙ c)
+
+  pub sign_more : (m : ℕ) (s : Sign) → s ≡ sign_at ts aliases m → is_keyword key.Const s ≡ true → consts_at ts aliases m ≡ consts_at ts aliases (m + 1)
+  sign_more m s e c = consts_more m (ap (is_keyword key.Const) (sym e) ∙ c)
+
   -- `int` behind a sign
   pub int_there : (m : ℕ) → sees ts (a_keyword aliases key.Int) m ≡ true → m + 1 ≡ behind_int ts aliases m
   int_there m e = sym (chosen _ _ _ e)
@@ -54,77 +61,67 @@ module _ (ts : List Lexeme) (aliases : Aliases) where
   int_missing m e = sym (other _ _ _ e)
 
   -- a base by its first sign
-  base_is : (m : ℕ) (s : Sign) → sign_at ts aliases m ≡ s → base_at ts aliases m ≡ base_by ts aliases m s
-  unfolding base_at
-  base_is m s e = ap (base_by ts aliases m) e
+  word_is : (m : ℕ) (w v : Keyword) → w ≡ v → base_by ts aliases m (sign.Keyword w) ≡ base_by ts aliases m (sign.Keyword v)
+  word_is m w v e = ap (λ w. base_by ts aliases m (sign.Keyword w)) e
 
-  word_is : (m : ℕ) (w v : Keyword) → sign_at ts aliases m ≡ sign.Keyword w → w ≡ v → base_at ts aliases m ≡ base_by ts aliases m (sign.Keyword v)
-  word_is m w v s e = base_is m (sign.Keyword w) s ∙ ap (λ w. base_by ts aliases m (sign.Keyword w)) e
+  pub base_int : (m : ℕ) (w : Keyword) (n : ℕ) (x : Base) → w ≡ key.Int → x ≡ int → n ≡ m + 1
+      → base_by ts aliases m (sign.Keyword w) ≡ Ok (x, n)
+  base_int m w n x k e h = word_is m w key.Int k ∙ ap (λ x. Ok (x, m + 1)) (sym e) ∙ ap (λ n. Ok (x, n)) (sym h)
 
-  pub base_int : (m : ℕ) (w : Keyword) (n : ℕ) (x : Base) → sign_at ts aliases m ≡ sign.Keyword w → w ≡ key.Int → x ≡ int → n ≡ m + 1
-      → base_at ts aliases m ≡ Ok (x, n)
-  base_int m w n x s k e h = word_is m w key.Int s k ∙ ap (λ x. Ok (x, m + 1)) (sym e) ∙ ap (λ n. Ok (x, n)) (sym h)
+  pub base_void : (m : ℕ) (w : Keyword) (n : ℕ) (x : Base) → w ≡ key.Void → x ≡ void → n ≡ m + 1
+      → base_by ts aliases m (sign.Keyword w) ≡ Ok (x, n)
+  base_void m w n x k e h = word_is m w key.Void k ∙ ap (λ x. Ok (x, m + 1)) (sym e) ∙ ap (λ n. Ok (x, n)) (sym h)
 
-  pub base_void : (m : ℕ) (w : Keyword) (n : ℕ) (x : Base) → sign_at ts aliases m ≡ sign.Keyword w → w ≡ key.Void → x ≡ void → n ≡ m + 1
-      → base_at ts aliases m ≡ Ok (x, n)
-  base_void m w n x s k e h = word_is m w key.Void s k ∙ ap (λ x. Ok (x, m + 1)) (sym e) ∙ ap (λ n. Ok (x, n)) (sym h)
+  pub base_signed : (m : ℕ) (w : Keyword) (n : ℕ) (x : Base) → w ≡ key.Signed → x ≡ int
+      → n ≡ behind_int ts aliases (m + 1) → base_by ts aliases m (sign.Keyword w) ≡ Ok (x, n)
+  base_signed m w n x k e h =
+      word_is m w key.Signed k ∙ ap (λ x. Ok (x, behind_int ts aliases (m + 1))) (sym e) ∙ ap (λ n. Ok (x, n)) (sym h)
 
-  pub base_signed : (m : ℕ) (w : Keyword) (n : ℕ) (x : Base) → sign_at ts aliases m ≡ sign.Keyword w → w ≡ key.Signed → x ≡ int
-      → n ≡ behind_int ts aliases (m + 1) → base_at ts aliases m ≡ Ok (x, n)
-  base_signed m w n x s k e h =
-      word_is m w key.Signed s k ∙ ap (λ x. Ok (x, behind_int ts aliases (m + 1))) (sym e) ∙ ap (λ n. Ok (x, n)) (sym h)
+  pub base_unsigned : (m : ℕ) (w : Keyword) (n : ℕ) (x : Base) → w ≡ key.Unsigned → x ≡ unsigned
+      → n ≡ behind_int ts aliases (m + 1) → base_by ts aliases m (sign.Keyword w) ≡ Ok (x, n)
+  base_unsigned m w n x k e h =
+      word_is m w key.Unsigned k ∙ ap (λ x. Ok (x, behind_int ts aliases (m + 1))) (sym e) ∙ ap (λ n. Ok (x, n)) (sym h)
 
-  pub base_unsigned : (m : ℕ) (w : Keyword) (n : ℕ) (x : Base) → sign_at ts aliases m ≡ sign.Keyword w → w ≡ key.Unsigned → x ≡ unsigned
-      → n ≡ behind_int ts aliases (m + 1) → base_at ts aliases m ≡ Ok (x, n)
-  base_unsigned m w n x s k e h =
-      word_is m w key.Unsigned s k ∙ ap (λ x. Ok (x, behind_int ts aliases (m + 1))) (sym e) ∙ ap (λ n. Ok (x, n)) (sym h)
+  pub struct_fails : (m : ℕ) (w : Keyword) (e : SyntaxRefusal) → w ≡ key.Struct
+      → Fails e (tag_at ts aliases (m + 1)) → Fails e (base_by ts aliases m (sign.Keyword w))
+  struct_fails m w e k h = fails_same e _ _ (word_is m w key.Struct k) (fails_then e _ _ h)
 
-  pub struct_fails : (m : ℕ) (w : Keyword) (e : SyntaxRefusal) → sign_at ts aliases m ≡ sign.Keyword w → w ≡ key.Struct
-      → Fails e (tag_at ts aliases (m + 1)) → Fails e (base_at ts aliases m)
-  struct_fails m w e s k h = fails_same e _ _ (word_is m w key.Struct s k) (fails_then e _ _ h)
+  pub struct_goes : (m : ℕ) (w : Keyword) (x : Name) (n : ℕ) (b : BaseType) → w ≡ key.Struct
+      → tag_at ts aliases (m + 1) ≡ Ok (name_shape x, m + 1 + 1) → b ≡ kept.Structure x → n ≡ m + 1 + 1 → base_by ts aliases m (sign.Keyword w) ≡ Ok (base_shape b, n)
+  struct_goes m w x n b k h e p =
+      word_is m w key.Struct k ∙ goes _ _ (name_shape x) (m + 1 + 1) h ∙ ap (λ b. Ok (base_shape b, m + 1 + 1)) (sym e) ∙ ap (λ n. Ok (base_shape b, n)) (sym p)
 
-  pub struct_goes : (m : ℕ) (w : Keyword) (x : Name) (n : ℕ) (b : BaseType) → sign_at ts aliases m ≡ sign.Keyword w → w ≡ key.Struct
-      → tag_at ts aliases (m + 1) ≡ Ok (name_shape x, m + 1 + 1) → b ≡ kept.Structure x → n ≡ m + 1 + 1 → base_at ts aliases m ≡ Ok (base_shape b, n)
-  struct_goes m w x n b s k h e p =
-      word_is m w key.Struct s k ∙ goes _ _ (name_shape x) (m + 1 + 1) h ∙ ap (λ b. Ok (base_shape b, m + 1 + 1)) (sym e) ∙ ap (λ n. Ok (base_shape b, n)) (sym p)
+  pub enum_fails : (m : ℕ) (w : Keyword) (e : SyntaxRefusal) → w ≡ key.Enum
+      → Fails e (tag_at ts aliases (m + 1)) → Fails e (base_by ts aliases m (sign.Keyword w))
+  enum_fails m w e k h = fails_same e _ _ (word_is m w key.Enum k) (fails_then e _ _ h)
 
-  pub enum_fails : (m : ℕ) (w : Keyword) (e : SyntaxRefusal) → sign_at ts aliases m ≡ sign.Keyword w → w ≡ key.Enum
-      → Fails e (tag_at ts aliases (m + 1)) → Fails e (base_at ts aliases m)
-  enum_fails m w e s k h = fails_same e _ _ (word_is m w key.Enum s k) (fails_then e _ _ h)
+  pub enum_goes : (m : ℕ) (w : Keyword) (x : Name) (n : ℕ) (b : BaseType) → w ≡ key.Enum
+      → tag_at ts aliases (m + 1) ≡ Ok (name_shape x, m + 1 + 1) → b ≡ kept.Enumerated x → n ≡ m + 1 + 1 → base_by ts aliases m (sign.Keyword w) ≡ Ok (base_shape b, n)
+  enum_goes m w x n b k h e p =
+      word_is m w key.Enum k ∙ goes _ _ (name_shape x) (m + 1 + 1) h ∙ ap (λ b. Ok (base_shape b, m + 1 + 1)) (sym e) ∙ ap (λ n. Ok (base_shape b, n)) (sym p)
 
-  pub enum_goes : (m : ℕ) (w : Keyword) (x : Name) (n : ℕ) (b : BaseType) → sign_at ts aliases m ≡ sign.Keyword w → w ≡ key.Enum
-      → tag_at ts aliases (m + 1) ≡ Ok (name_shape x, m + 1 + 1) → b ≡ kept.Enumerated x → n ≡ m + 1 + 1 → base_at ts aliases m ≡ Ok (base_shape b, n)
-  enum_goes m w x n b s k h e p =
-      word_is m w key.Enum s k ∙ goes _ _ (name_shape x) (m + 1 + 1) h ∙ ap (λ b. Ok (base_shape b, m + 1 + 1)) (sym e) ∙ ap (λ n. Ok (base_shape b, n)) (sym p)
-
-  other_word : (m : ℕ) (w : Keyword) → w ≢ key.Int → w ≢ key.Signed → w ≢ key.Unsigned → w ≢ key.Void → w ≢ key.Struct → w ≢ key.Enum
+  pub word_wrong : (m : ℕ) (w : Keyword) → w ≢ key.Int → w ≢ key.Signed → w ≢ key.Unsigned → w ≢ key.Void → w ≢ key.Struct → w ≢ key.Enum
       → base_by ts aliases m (sign.Keyword w) ≡ Err (refuse syntax m)
-  other_word m key.Int a b c d e f = absurd (a refl)
-  other_word m key.Signed a b c d e f = absurd (b refl)
-  other_word m key.Unsigned a b c d e f = absurd (c refl)
-  other_word m key.Void a b c d e f = absurd (d refl)
-  other_word m key.Struct a b c d e f = absurd (e refl)
-  other_word m key.Enum a b c d e f = absurd (f refl)
-  other_word m _ a b c d e f = refl
+  word_wrong m key.Int a b c d e f = absurd (a refl)
+  word_wrong m key.Signed a b c d e f = absurd (b refl)
+  word_wrong m key.Unsigned a b c d e f = absurd (c refl)
+  word_wrong m key.Void a b c d e f = absurd (d refl)
+  word_wrong m key.Struct a b c d e f = absurd (e refl)
+  word_wrong m key.Enum a b c d e f = absurd (f refl)
+  word_wrong m _ a b c d e f = refl
 
-  pub word_wrong : (m : ℕ) (w : Keyword) → sign_at ts aliases m ≡ sign.Keyword w
-      → w ≢ key.Int → w ≢ key.Signed → w ≢ key.Unsigned → w ≢ key.Void → w ≢ key.Struct → w ≢ key.Enum
-      → base_at ts aliases m ≡ Err (refuse syntax m)
-  word_wrong m w s a b c d e f = base_is m (sign.Keyword w) s ∙ other_word m w a b c d e f
+  pub base_alias : (m : ℕ) (s : Sign) (x : Identifier) (n : ℕ) (b : Base) → s ≡ sign.TypeName → x ≡ identifier_at ts m → b ≡ alias x → n ≡ m + 1
+      → base_by ts aliases m s ≡ Ok (b, n)
+  base_alias m s x n b e h q p =
+      ap (base_by ts aliases m) e ∙ ap (λ x. Ok (alias x, m + 1)) (sym h) ∙ ap (λ b. Ok (b, m + 1)) (sym q) ∙ ap (λ n. Ok (b, n)) (sym p)
 
-  pub base_alias : (m : ℕ) (x : Identifier) (n : ℕ) (b : Base) → sign_at ts aliases m ≡ sign.TypeName → x ≡ identifier_at ts m → b ≡ alias x → n ≡ m + 1
-      → base_at ts aliases m ≡ Ok (b, n)
-  base_alias m x n b s e h p =
-      base_is m sign.TypeName s ∙ ap (λ x. Ok (alias x, m + 1)) (sym e) ∙ ap (λ b. Ok (b, m + 1)) (sym h) ∙ ap (λ n. Ok (b, n)) (sym p)
+  pub base_keyword : (m : ℕ) (s : Sign) (w : Keyword) → s ≡ sign.Keyword w → base_by ts aliases m s ≡ base_by ts aliases m (sign.Keyword w)
+  base_keyword m s w e = ap (base_by ts aliases m) e
 
-  other_sign : (m : ℕ) (s : Sign) → ((w : Keyword) → s ≢ sign.Keyword w) → s ≢ sign.TypeName → base_by ts aliases m s ≡ Err (refuse syntax m)
-  other_sign m (sign.Keyword w) a b = absurd (a w refl)
-  other_sign m sign.TypeName a b = absurd (b refl)
-  other_sign m _ a b = refl
-
-  pub base_wrong : (m : ℕ) → ((w : Keyword) → sign_at ts aliases m ≢ sign.Keyword w) → sign_at ts aliases m ≢ sign.TypeName
-      → base_at ts aliases m ≡ Err (refuse syntax m)
-  base_wrong m a b = base_is m (sign_at ts aliases m) refl ∙ other_sign m (sign_at ts aliases m) a b
+  pub base_wrong : (m : ℕ) (s : Sign) → ((w : Keyword) → s ≢ sign.Keyword w) → s ≢ sign.TypeName → base_by ts aliases m s ≡ Err (refuse syntax m)
+  base_wrong m (sign.Keyword w) a b = absurd (a w refl)
+  base_wrong m sign.TypeName a b = absurd (b refl)
+  base_wrong m _ a b = refl
 
   -- a type whose base was read
   pub specified_goes : (base : Base) (m : ℕ) (c : Bool) (n : ℕ) → c ≡ is_const_at m → consts_at ts aliases m ≡ Ok (tt, n)
@@ -224,33 +221,38 @@ module _ (ts : List Lexeme) (aliases : Aliases) where
   type_at : (m n : ℕ) → consts_at ts aliases m ≡ Ok (tt, n) → read ts a_specifier (specifier aliases) m ≡ behind n (is_const_at m)
   type_at m n h = type_behind (length ts) m n (is_const_at m) refl (omega arith) h
 
-  pub type_fails : (m n : ℕ) (e : SyntaxRefusal) → consts_at ts aliases m ≡ Ok (tt, n) → Fails e (base_at ts aliases n)
-      → Fails e (read ts a_specifier (specifier aliases) m)
-  type_fails m n e h f = fails_same e _ _ (type_at m n h) (fails_then e _ _ (fails_then e _ _ f))
+  -- where the sign behind the words is s
+  base_there : (n : ℕ) (s : Sign) → s ≡ sign_at ts aliases n → base_at ts aliases n ≡ base_by ts aliases n s
+  unfolding base_at
+  base_there n s q = ap (base_by ts aliases n) (sym q)
+
+  pub type_fails : (m n : ℕ) (s : Sign) (e : SyntaxRefusal) → consts_at ts aliases m ≡ Ok (tt, n) → s ≡ sign_at ts aliases n
+      → Fails e (base_by ts aliases n s) → Fails e (read ts a_specifier (specifier aliases) m)
+  type_fails m n s e h q f = fails_same e _ _ (type_at m n h) (fails_then e _ _ (fails_then e _ _ (fails_same e _ _ (base_there n s q) f)))
 
   type_goes : (m n : ℕ) (x : Base) (i : ℕ) (t : Specified) (e : ℕ) → consts_at ts aliases m ≡ Ok (tt, n) → base_at ts aliases n ≡ Ok (x, i)
       → specified_at ts aliases x i ≡ Ok (t, e) → read ts a_specifier (specifier aliases) m ≡ Ok (marked (is_const_at m) t, e)
   type_goes m n x i t e h b s = type_at m n h ∙ goes (from n) _ t e (goes _ _ x i b ∙ s)
 
-  pub type_const : (m n : ℕ) (x : Base) (i : ℕ) (y : Base) (c : Bool) (e : ℕ) → consts_at ts aliases m ≡ Ok (tt, n) → base_at ts aliases n ≡ Ok (x, i)
-      → specified_at ts aliases x i ≡ Ok (record { base = y; is_const = c }, e) → is_const_at m ≡ true
+  pub type_const : (m n : ℕ) (s : Sign) (x : Base) (i : ℕ) (y : Base) (c : Bool) (e : ℕ) → consts_at ts aliases m ≡ Ok (tt, n)
+      → s ≡ sign_at ts aliases n → base_by ts aliases n s ≡ Ok (x, i) → specified_at ts aliases x i ≡ Ok (record { base = y; is_const = c }, e) → is_const_at m ≡ true
       → read ts a_specifier (specifier aliases) m ≡ Ok (record { base = y; is_const = true }, e)
-  type_const m n x i y c e h b s k =
-      type_goes m n x i (record { base = y; is_const = c }) e h b s ∙ ap (λ k. Ok (marked k (record { base = y; is_const = c }), e)) k
+  type_const m n s x i y c e h q b t k =
+      type_goes m n x i (record { base = y; is_const = c }) e h (base_there n s q ∙ b) t ∙ ap (λ k. Ok (marked k (record { base = y; is_const = c }), e)) k
 
-  pub type_plain : (m n : ℕ) (x : Base) (i : ℕ) (y : Base) (c : Bool) (e : ℕ) → consts_at ts aliases m ≡ Ok (tt, n) → base_at ts aliases n ≡ Ok (x, i)
-      → specified_at ts aliases x i ≡ Ok (record { base = y; is_const = c }, e) → is_const_at m ≡ false
+  pub type_plain : (m n : ℕ) (s : Sign) (x : Base) (i : ℕ) (y : Base) (c : Bool) (e : ℕ) → consts_at ts aliases m ≡ Ok (tt, n)
+      → s ≡ sign_at ts aliases n → base_by ts aliases n s ≡ Ok (x, i) → specified_at ts aliases x i ≡ Ok (record { base = y; is_const = c }, e) → is_const_at m ≡ false
       → read ts a_specifier (specifier aliases) m ≡ Ok (record { base = y; is_const = c }, e)
-  type_plain m n x i y c e h b s k =
-      type_goes m n x i (record { base = y; is_const = c }) e h b s ∙ ap (λ k. Ok (marked k (record { base = y; is_const = c }), e)) k
+  type_plain m n s x i y c e h q b t k =
+      type_goes m n x i (record { base = y; is_const = c }) e h (base_there n s q ∙ b) t ∙ ap (λ k. Ok (marked k (record { base = y; is_const = c }), e)) k
 
-pub ruleset skips = (consts_none, consts_more)
+pub ruleset skips = (sign_none, sign_more)
 
 pub ruleset ints = (int_there, int_missing)
 
 pub ruleset words = (base_int, base_void, base_signed, base_unsigned, struct_fails, struct_goes, enum_fails, enum_goes, word_wrong)
 
-pub ruleset bases = (base_alias, base_wrong, gives_same)
+pub ruleset bases = (base_alias, base_keyword, base_wrong, gives_same)
 
 pub ruleset endings = (specified_goes)
 

@@ -19,7 +19,7 @@ use Rattle.tsa_tree.specs.Signs.{Aliases, sign_at, span_over}
 use Rattle.tsa_expr.specs.declared.refusal.SyntaxRefusal.{SyntaxRefusal}
 use Rattle.tsa_expr.specs.Gives.{Fails}
 use Rattle.tsa_expr.proofs.Answering.{fails_then, fails_same, gives_same, in_limit, over_limit, not_comma}
-use Rattle.tsa_decl.specs.Outcomes.{joined, values_after, braced_at}
+use Rattle.tsa_decl.specs.Outcomes.{joined, values_after, braced_at, expression_at}
 use Rattle.tsa_decl.proofs.TokenLaws.{not_open_brace}
 
 pub not_close_brace : (s : Sign) → s ≢ sign.CloseBrace → nat_eq (mark s) 18 ≡ false
@@ -76,17 +76,18 @@ module _ (ts : List Lexeme) (aliases : Aliases) where
   one d m = read ts an_initialiser (initialiser aliases d) m
 
   -- an expression
-  value_at : (d m : ℕ) → sign_at ts aliases m ≢ sign.OpenBrace
-      → one d m ≡ then (read ts an_expression (expression aliases d 0) m) (λ x n. Ok (value x, n))
-  value_at d m s = read_steps ts an_initialiser (initialiser aliases d) m ∙ other _ _ _ (not_open_brace (sign_at ts aliases m) s)
+  pub value_same : (d m : ℕ) → sign_at ts aliases m ≢ sign.OpenBrace → read ts an_initialiser (initialiser aliases d) m ≡ expression_at ts aliases d m
+  unfolding expression_at
+  value_same d m s = read_steps ts an_initialiser (initialiser aliases d) m ∙ other _ _ _ (not_open_brace (sign_at ts aliases m) s)
 
-  pub value_fails : (d m : ℕ) (e : SyntaxRefusal) → sign_at ts aliases m ≢ sign.OpenBrace → Fails e (read ts an_expression (expression aliases d 0) m)
-      → Fails e (read ts an_initialiser (initialiser aliases d) m)
-  value_fails d m e s h = fails_same e _ _ (value_at d m s) (fails_then e _ _ h)
+  pub value_fails : (d m : ℕ) (e : SyntaxRefusal) → Fails e (read ts an_expression (expression aliases d 0) m) → Fails e (expression_at ts aliases d m)
+  unfolding expression_at
+  value_fails d m e h = fails_then e _ _ h
 
-  pub value_goes : (d m : ℕ) (x : Expression) (n : ℕ) → sign_at ts aliases m ≢ sign.OpenBrace → read ts an_expression (expression aliases d 0) m ≡ Ok (x, n)
-      → read ts an_initialiser (initialiser aliases d) m ≡ Ok (value x, n)
-  value_goes d m x n s h = value_at d m s ∙ goes _ _ x n h
+  pub value_goes : (d m : ℕ) (x : Expression) (n : ℕ) → read ts an_expression (expression aliases d 0) m ≡ Ok (x, n)
+      → expression_at ts aliases d m ≡ Ok (value x, n)
+  unfolding expression_at
+  value_goes d m x n h = goes _ _ x n h
 
   -- initialisers in braces
   pub braces_deep : (d m : ℕ) → sign_at ts aliases m ≡ sign.OpenBrace → 100 ≤ d → read ts an_initialiser (initialiser aliases d) m ≡ Err (refuse deep m)
@@ -171,6 +172,8 @@ module _ (ts : List Lexeme) (aliases : Aliases) where
 
 pub ruleset lists_of = (shape-list)
 
-pub ruleset alone = (value_fails, value_goes, braces_deep, braces_fail, braces_go)
+pub ruleset expressions = (value_fails, value_goes)
+
+pub ruleset alone = (value_same, braces_deep, braces_fail, braces_go, gives_same)
 
 pub ruleset values = (values_close, values_fail, values_wrong, values_last, values_more, fails_same, gives_same)

@@ -1,19 +1,21 @@
 -- What reading by the rows gives for the pieces of a part.
 use Rattle.std.specs.Prelude.{ℕ, ◌+◌, List, [], ◌∷◌, ◌++◌, Bool, true, false, Some, None, Ok, Err}
 use Rattle.std.specs.declared.option.Option.{Option}
+use Rattle.tsa_base.specs.declared.token.Span.{Span}
 use Rattle.tsa_base.specs.Tokens.{Lexeme}
 use Rattle.tsa_tree.specs.declared.sign.Keyword.TheVariants as key
 use Rattle.tsa_tree.specs.declared.sign.Sign.{Sign}
 use Rattle.tsa_tree.specs.declared.sign.Sign.TheVariants as sign
 use Rattle.tsa_tree.specs.Answers.{below_limit}
 use Rattle.tsa_tree.specs.Attributes.{Attribute}
-use Rattle.tsa_tree.specs.Declarations.{Base, int, unsigned, void, structure, enumerated, alias, Specified, Declarator, Declaration, Initialiser, value, Initialisers, no_more, one_more, Parameter, EnumConstant, StructBody, Head}
+use Rattle.tsa_tree.specs.AttributeAnswers.{read_any}
+use Rattle.tsa_tree.specs.Declarations.{Base, int, unsigned, void, structure, enumerated, alias, Specified, Declarator, Declaration, Initialiser, value, Initialisers, no_more, one_more, Parameter, EnumConstant, StructBody, Head, head_of, made_of}
 use Rattle.tsa_tree.specs.UnitItems.{UnitItem}
 use Rattle.tsa_tree.specs.DeclarationSpelling.{Role, a_member, a_global}
 use Rattle.tsa_tree.specs.Expressions.{Identifier, Expression}
 use Rattle.tsa_tree.specs.ItemSpelling.{parameter, parameter_start}
 use Rattle.tsa_tree.specs.Reads.{read}
-use Rattle.tsa_tree.specs.Rows.{Sort, an_expression, a_skip, a_specifier, an_initialiser, some_initialisers, a_declared, a_variable, some_variables, a_struct_body, some_items, Node, Row, Kind, expression, consts, storage, specifier, initialiser, initialisers, declared_rest, variable, variables, struct_body, declared, a_keyword, a_name, an_open, a_comma, a_semicolon, an_open_bracket, a_close_bracket, an_open_brace, a_close_brace, an_equals, sees, behind_global, structure_end, structure_alias_end, enumeration_end, enumeration_alias_end, behind_storage, function_end}
+use Rattle.tsa_tree.specs.Rows.{Sort, an_expression, a_skip, a_specifier, an_initialiser, some_initialisers, a_declared, a_variable, some_variables, a_struct_body, a_signature, some_items, Node, Row, Kind, expression, consts, storage, specifier, initialiser, initialisers, declared_rest, variable, variables, struct_body, signature, declared, a_keyword, a_name, an_open, a_comma, a_semicolon, an_open_bracket, a_close_bracket, an_open_brace, a_close_brace, an_equals, sees, behind_global, structure_end, structure_alias_end, enumeration_end, enumeration_alias_end, behind_storage, function_end}
 use Rattle.tsa_tree.specs.Signs.{Aliases, sign_at, identifier_at, is_tag, is_storage, is_star}
 use Rattle.tsa_forms.specs.Form.{done, part}
 use Rattle.tsa_forms.specs.Reading.{Outcome, refuse, syntax, deep, then, choose, follow}
@@ -28,6 +30,10 @@ joined (one_more first rest) others = one_more first (joined rest others)
 
 abbrev pub values_after : Initialisers → Outcome Initialisers → Outcome Initialisers
 values_after front read = then read (λ xs at. Ok (joined front xs, at))
+
+-- a parameter of this type and these stars
+abbrev pub parameter_with : Specified → (pointer pointer_const : Bool) → Option Identifier → Span → Parameter
+parameter_with t p c name span = record { name = name; ctype = made_of t p c None; span = span }
 
 module _ (tokens : List Lexeme) where
   -- what a form gives from a place on
@@ -107,6 +113,10 @@ module _ (tokens : List Lexeme) (aliases : Aliases) where
   braced_at d m =
       choose (sees tokens (a_close_brace aliases) m) (Ok (no_more, m + 1)) (read tokens some_initialisers (initialisers aliases d) m)
 
+  -- an expression that initialises
+  unfoldable pub expression_at : (d m : ℕ) → Outcome Initialiser
+  expression_at d m = then (read tokens an_expression (expression aliases d 0) m) (λ x n. Ok (value x, n))
+
   -- what initialises a declarator
   unfoldable pub init_at : Role → (d m : ℕ) → Outcome (Option Initialiser)
   init_at a_member d m = Ok (None, m)
@@ -120,6 +130,11 @@ module _ (tokens : List Lexeme) (aliases : Aliases) where
       choose (sees tokens (a_comma aliases) m) (Ok (true, m + 1))
       (choose (sees tokens (a_semicolon aliases) m) (Ok (false, m + 1)) (Err (refuse syntax m)))
 
+  -- what follows the name of a declarator, up to before its comma or `;`
+  unfoldable pub suffix_at : Role → (d m : ℕ) → Outcome (Option Expression × List Attribute × Option Initialiser)
+  suffix_at r d m =
+      then (length_at d m) (λ l n. then (read_any tokens aliases d n) (λ xs e. then (init_at r d e) (λ i f. Ok ((l, xs, i), f))))
+
   -- globals from behind their first declarator on
   unfoldable pub globals_at : Specified → Declarator → (m : ℕ) → Outcome (List UnitItem)
   globals_at t c m = going_items tokens (part a_declared (declared_rest aliases a_global 0 t c) (λ x e. behind_global tokens aliases t x)) m
@@ -128,7 +143,7 @@ module _ (tokens : List Lexeme) (aliases : Aliases) where
   unfoldable pub value_at : (d m : ℕ) → Outcome (Option Initialiser)
   value_at d m =
       choose (sees tokens (an_equals aliases) m)
-      (then (read tokens an_expression (expression aliases d 0) (m + 1)) (λ x n. Ok (Some (value x), n))) (Ok (None, m))
+      (then (expression_at d (m + 1)) (λ x n. Ok (Some x, n))) (Ok (None, m))
 
   -- locals behind their type
   unfoldable pub variables_at : (single : Bool) (d : ℕ) → Specified → (m : ℕ) → Outcome (List Declaration)
@@ -151,6 +166,10 @@ module _ (tokens : List Lexeme) (aliases : Aliases) where
 
   unfoldable pub parameter_at : (m : ℕ) → Outcome Parameter
   parameter_at m = then (read tokens a_specifier (specifier aliases) m) (λ t n. parameter_by m n t (star_at n))
+
+  -- a function's head behind its declarator
+  unfoldable pub head_end_at : Specified → Declarator → (m : ℕ) → Outcome Head
+  head_end_at t c m = then (read tokens a_signature (signature aliases) m) (λ s n. Ok (head_of t c s, n))
 
   -- a struct's body, its attributes behind those before the tag
   unfoldable pub body_at : List Attribute → (m : ℕ) → Outcome StructBody

@@ -3,7 +3,7 @@ use Rattle.std.specs.Prelude.{ℕ, ◌+◌, List, Bool, option_map}
 use Rattle.std.specs.declared.option.Option.{Option}
 use Rattle.tsa_tree.specs.declared.expr.Name.{Name}
 use Rattle.tsa_tree.specs.declared.item.Item.{Item}
-use Rattle.tsa_tree.specs.Attributes.{attr_shapes}
+use Rattle.tsa_tree.specs.Attributes.{Attribute, attr_shapes}
 use Rattle.tsa_tree.specs.Declarations.{Base, Specified, Declarator, Declared, Declaration, Initialiser, Parameter, EnumConstant, Signature, StructBody, Head}
 use Rattle.tsa_tree.specs.DeclarationSpelling.{Role, a_member, a_global}
 use Rattle.tsa_tree.specs.Expressions.{Identifier, Expression}
@@ -12,23 +12,24 @@ use Rattle.tsa_tree.specs.Shapes.{name_shape, shape}
 use Rattle.tsa_tree.specs.UnitItems.{UnitItem}
 use Rattle.tsa_tree.specs.UnitShapes.{item_shapes}
 use Rattle.tsa_decl.specs.declared.bodies.Body.{Body}
-use Rattle.tsa_decl.specs.declared.bodies.Named.{Named}
+use Rattle.tsa_decl.specs.declared.bodies.AliasName.{AliasName}
 use Rattle.tsa_decl.specs.declared.bodies.Opening.{Opening}
 use Rattle.tsa_decl.specs.declared.constants.Constant.{Constant}
 use Rattle.tsa_decl.specs.declared.declarators.Star.{Star}
-use Rattle.tsa_decl.specs.declared.declarators.Declarator as read_declarator
+use Rattle.tsa_decl.specs.declared.declarator.Declarator as read_declarator
 use Rattle.tsa_decl.specs.declared.declarators.Length.{Length}
 use Rattle.tsa_decl.specs.declared.declared.Role as read_role
 use Rattle.tsa_decl.specs.declared.declared.Role.TheVariants.{Member, Global}
-use Rattle.tsa_decl.specs.declared.declared.Initialised.{Initialised}
+use Rattle.tsa_decl.specs.declared.declared.Initialisation.{Initialisation}
+use Rattle.tsa_decl.specs.declared.declared.Suffix.{Suffix}
 use Rattle.tsa_decl.specs.declared.declared.Declared as read_declared
 use Rattle.tsa_decl.specs.declared.heads.Parameter as read_parameter
 use Rattle.tsa_decl.specs.declared.heads.Signature as read_signature
-use Rattle.tsa_decl.specs.declared.initialisers.Valued.{Valued}
+use Rattle.tsa_decl.specs.declared.initialisers.InitialiserReading.{InitialiserReading}
 use Rattle.tsa_decl.specs.declared.items.Begun.{Begun}
 use Rattle.tsa_decl.specs.declared.locals.Local.{Local}
 use Rattle.tsa_decl.specs.declared.types.Specified as read_specified
-use Rattle.tsa_decl.specs.declared.types.Based.{Based}
+use Rattle.tsa_decl.specs.declared.types.BaseReading.{BaseReading}
 
 -- nothing was made up to this place
 abbrev pub passed : ℕ → Unit {0} × ℕ
@@ -38,7 +39,7 @@ passed next = (tt, next)
 abbrev pub seen_name : ℕ → Name → Identifier × ℕ
 seen_name at name = (name_shape name, at + 1)
 
-abbrev pub seen_base : Based → Base × ℕ
+abbrev pub seen_base : BaseReading → Base × ℕ
 seen_base r = (base_shape r.base, r.next)
 
 abbrev pub row_type : read_specified.Specified → Specified
@@ -60,11 +61,14 @@ seen_declarator r = (row_declarator r, r.next)
 abbrev pub seen_length : Length → Option Expression × ℕ
 seen_length r = (option_map (λ x. shape x.now) r.length, r.next)
 
-abbrev pub seen_value : Valued → Initialiser × ℕ
+abbrev pub seen_value : InitialiserReading → Initialiser × ℕ
 seen_value r = (init_shape r.init, r.next)
 
-abbrev pub seen_init : Initialised → Option Initialiser × ℕ
+abbrev pub seen_init : Initialisation → Option Initialiser × ℕ
 seen_init r = (option_map init_shape r.init, r.next)
+
+abbrev pub seen_suffix : Suffix → (Option Expression × List Attribute × Option Initialiser) × ℕ
+seen_suffix r = ((option_map (λ x. shape x.now) r.length, attr_shapes r.attrs.now, option_map init_shape r.init), r.next)
 
 -- members stand in their struct's braces, and globals where no construct is open
 abbrev pub row_role : read_role.Role → Role
@@ -97,7 +101,7 @@ abbrev pub seen_body : Body → StructBody × ℕ
 seen_body r = (record { members = decl_shapes r.members.now; attrs = attr_shapes r.attrs.now }, r.next)
 
 -- a name or none
-abbrev pub seen_named : Named → Option Identifier × ℕ
+abbrev pub seen_named : AliasName → Option Identifier × ℕ
 seen_named r = (option_map name_shape r.name, r.next)
 
 abbrev pub seen_opening : Opening → Option Identifier × ℕ

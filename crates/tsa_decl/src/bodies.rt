@@ -1,13 +1,11 @@
 //! Structs and enums are read from their braces on, and the plain aliases of types (C11 6.7.2.1, 6.7.2.2, 6.7.8).
-ghost use Rattle.std.specs.Prelude.{◌≡◌, ◌+◌, ◌≤◌, ◌<◌, length, option_map, IfOk};
-ghost use Rattle.tsa_base.specs.declared.limits.TheConstants.{INPUT_LIMIT};
+ghost use Rattle.std.specs.Prelude.{◌≡◌, ◌≤◌, ◌<◌, length, option_map, IfOk};
 ghost use Rattle.tsa_tree.specs.Attributes.{attr_shapes};
 ghost use Rattle.tsa_tree.specs.UnitShapes.{item_shapes, HaveTheirPoints};
 ghost use Rattle.tsa_tree.specs.Rows.{alias_end};
 ghost use Rattle.tsa_tree.specs.Shapes.{name_shape};
-ghost use Rattle.tsa_tree.specs.Signs.{lexemes};
+ghost use Rattle.tsa_expr.specs.Source.{input, named};
 ghost use Rattle.tsa_expr.specs.Gives.{Gives};
-ghost use Rattle.tsa_expr.specs.Known.{known};
 ghost use Rattle.tsa_decl.specs.Outcomes.{after, going_items, body_at, alias_name_at, structure_at, enumeration_at, opening_at as spec_opening};
 ghost use Rattle.tsa_decl.specs.Seen.{seen_body, seen_named, seen_opening, row_type};
 
@@ -15,13 +13,12 @@ use crate::constants::enum_body;
 use crate::declarators::declarator_at;
 use crate::declared::ctype;
 use crate::lists::members;
-use crate::nodes::{keep, listed};
+use crate::nodes::{keep_alias, keep_enumeration, keep_structure, listed};
 use crate::types::Specified;
 use crate::view::{name, open_brace, semicolon, tag};
 use bumpalo::Bump;
 use tsa_attr::read_more;
-use tsa_base::Token;
-use tsa_expr::{Aliases, SyntaxRefusal, sign_at, span_over};
+use tsa_expr::{Reader, SyntaxRefusal};
 use tsa_tree::attr::Attr;
 use tsa_tree::decl::Decl;
 use tsa_tree::expr::Name;
@@ -38,7 +35,7 @@ pub struct Body<'a> {
 
 /// A name where one is read, and the token after it.
 #[derive(Clone, Copy)]
-pub struct Named<'a> {
+pub struct AliasName<'a> {
     pub name: Option<Name<'a>>,
     pub next: u32,
 }
@@ -54,26 +51,22 @@ pub struct Opening<'a> {
 /// A tag, where no brace stands instead of it.
 #[tactic(auto, using(crate::proofs::BodyLaws::openings))]
 pub fn opening_at<'a>(
-    bump: &'a Bump,
-    tokens: &[Token<'_>],
+    reader: Reader<'a, '_>,
     start: u32,
     at: u32,
-    aliases: Option<&Aliases>,
 ) -> Result<Opening<'a>, SyntaxRefusal>
-    requires room { length tokens.now ≤ INPUT_LIMIT }
-    requires within { at ≤ length tokens.now }
-    ensures gives { Gives seen_opening result (spec_opening (lexemes tokens.now) (known aliases.entry) at) }
+    ensures gives { Gives seen_opening result (spec_opening (input reader.entry) (named reader.entry) at) }
     ensures start { IfOk result (λ r. r.start ≡ start) }
-    ensures ends { IfOk result (λ r. (at ≤ r.next) × (r.next ≤ length tokens.now)) }
+    ensures ends { IfOk result (λ r. (at ≤ r.next) × (r.next ≤ length reader.entry.tokens.now)) }
 {
-    if let Sign::OpenBrace = sign_at(tokens, at, aliases) {
+    if let Sign::OpenBrace = reader.sign(at) {
         return Ok(Opening {
             start,
             tag: None,
             next: at,
         });
     }
-    let tag = tag(bump, tokens, at, aliases)?;
+    let tag = tag(reader, at)?;
     Ok(Opening {
         start,
         tag: Some(tag),
@@ -84,22 +77,18 @@ pub fn opening_at<'a>(
 /// Members in their braces, and the attributes behind them, which follow those before the tag.
 #[tactic(auto, using(crate::proofs::BodyLaws::bodies))]
 fn struct_body<'a>(
-    bump: &'a Bump,
-    tokens: &[Token<'_>],
+    reader: Reader<'a, '_>,
     at: u32,
-    aliases: Option<&Aliases>,
     attrs: Vec<Attr<'a>, &'a Bump>,
 ) -> Result<Body<'a>, SyntaxRefusal>
-    requires room { length tokens.now ≤ INPUT_LIMIT }
-    requires within { at ≤ length tokens.now }
-    ensures gives { Gives seen_body result (body_at (lexemes tokens.now) (known aliases.entry) (attr_shapes attrs.entry.items) at) }
-    ensures ends { IfOk result (λ r. (at < r.next) × (r.next ≤ length tokens.now)) }
+    ensures gives { Gives seen_body result (body_at (input reader.entry) (named reader.entry) (attr_shapes attrs.entry.items) at) }
+    ensures ends { IfOk result (λ r. (at < r.next) × (r.next ≤ length reader.entry.tokens.now)) }
 {
-    let inside = open_brace(tokens, at, 0, aliases)?;
-    let mut list = Vec::new(bump);
-    let behind = members(bump, tokens, inside, aliases, &mut list)?;
+    let inside = open_brace(reader, at, 0)?;
+    let mut list = Vec::new(reader.bump);
+    let behind = members(reader, inside, &mut list)?;
     let mut attrs = attrs;
-    let next = read_more(bump, tokens, behind, 0, aliases, &mut attrs)?;
+    let next = read_more(reader, behind, 0, &mut attrs)?;
     let members = listed(list);
     let attrs = listed(attrs);
     Ok(Body {
@@ -112,25 +101,21 @@ fn struct_body<'a>(
 /// The name of an alias, where the item is a `typedef`.
 #[tactic(auto, using(crate::proofs::BodyLaws::names))]
 fn alias_name<'a>(
-    bump: &'a Bump,
-    tokens: &[Token<'_>],
+    reader: Reader<'a, '_>,
     at: u32,
-    aliases: Option<&Aliases>,
     aliased: bool,
-) -> Result<Named<'a>, SyntaxRefusal>
-    requires room { length tokens.now ≤ INPUT_LIMIT }
-    requires within { at ≤ length tokens.now }
-    ensures gives { Gives seen_named result (alias_name_at (lexemes tokens.now) (known aliases.entry) aliased at) }
-    ensures ends { IfOk result (λ r. (at ≤ r.next) × (r.next ≤ length tokens.now)) }
+) -> Result<AliasName<'a>, SyntaxRefusal>
+    ensures gives { Gives seen_named result (alias_name_at (input reader.entry) (named reader.entry) aliased at) }
+    ensures ends { IfOk result (λ r. at ≤ r.next) }
 {
     if !aliased {
-        return Ok(Named {
+        return Ok(AliasName {
             name: None,
             next: at,
         });
     }
-    let name = name(bump, tokens, at, aliases)?;
-    Ok(Named {
+    let name = name(reader, at)?;
+    Ok(AliasName {
         name: Some(name),
         next: at + 1,
     })
@@ -139,25 +124,20 @@ fn alias_name<'a>(
 /// A struct from its braces on, with its alias where it is a `typedef`, at the end of a list of items.
 #[tactic(auto, using(crate::proofs::BodyLaws::structures))]
 pub fn structure<'a>(
-    bump: &'a Bump,
-    tokens: &[Token<'_>],
-    aliases: Option<&Aliases>,
+    reader: Reader<'a, '_>,
     opening: Opening<'a>,
     attrs: Vec<Attr<'a>, &'a Bump>,
     aliased: bool,
     list: &mut Vec<Item<'a>>,
 ) -> Result<u32, SyntaxRefusal>
-    requires room { length tokens.now ≤ INPUT_LIMIT }
-    requires within { opening.next ≤ length tokens.now }
-    requires begun { opening.start < opening.next }
-    ensures gives { Gives (λ next. (item_shapes list.new.items, next)) result (after (item_shapes list.old.items) (structure_at (lexemes tokens.now) (known aliases.entry) aliased opening.entry.start (attr_shapes attrs.entry.items) (option_map name_shape opening.entry.tag) opening.entry.next)) }
+    ensures gives { Gives (λ next. (item_shapes list.new.items, next)) result (after (item_shapes list.old.items) (structure_at (input reader.entry) (named reader.entry) aliased opening.entry.start (attr_shapes attrs.entry.items) (option_map name_shape opening.entry.tag) opening.entry.next)) }
     ensures pointed { IfOk result (λ next. HaveTheirPoints list.old.items → HaveTheirPoints list.new.items) }
-    ensures ends { IfOk result (λ next. (opening.entry.next < next) × (next ≤ length tokens.now)) }
+    ensures ends { IfOk result (λ next. (opening.entry.next < next) × (next ≤ length reader.entry.tokens.now)) }
 {
-    let body = struct_body(bump, tokens, opening.next, aliases, attrs)?;
-    let alias = alias_name(bump, tokens, body.next, aliases, aliased)?;
-    let next = semicolon(tokens, alias.next, aliases)?;
-    let span = span_over(tokens, opening.start, next);
+    let body = struct_body(reader, opening.next, attrs)?;
+    let alias = alias_name(reader, body.next, aliased)?;
+    let next = semicolon(reader, alias.next)?;
+    let span = reader.over(opening.start, next);
     let item = StructDef {
         tag: opening.tag,
         alias: alias.name,
@@ -165,64 +145,55 @@ pub fn structure<'a>(
         members: body.members,
         span,
     };
-    keep(list, Item::Structure(item))?;
+    keep_structure(list, item)?;
     Ok(next)
 }
 
 /// An enum from its braces on, with its alias where it is a `typedef`, at the end of a list of items.
 #[tactic(auto, using(crate::proofs::BodyLaws::enumerations))]
 pub fn enumeration<'a>(
-    bump: &'a Bump,
-    tokens: &[Token<'_>],
-    aliases: Option<&Aliases>,
+    reader: Reader<'a, '_>,
     opening: Opening<'a>,
     aliased: bool,
     list: &mut Vec<Item<'a>>,
 ) -> Result<u32, SyntaxRefusal>
-    requires room { length tokens.now ≤ INPUT_LIMIT }
-    requires within { opening.next ≤ length tokens.now }
-    requires begun { opening.start < opening.next }
-    ensures gives { Gives (λ next. (item_shapes list.new.items, next)) result (after (item_shapes list.old.items) (enumeration_at (lexemes tokens.now) (known aliases.entry) aliased opening.entry.start (option_map name_shape opening.entry.tag) opening.entry.next)) }
+    ensures gives { Gives (λ next. (item_shapes list.new.items, next)) result (after (item_shapes list.old.items) (enumeration_at (input reader.entry) (named reader.entry) aliased opening.entry.start (option_map name_shape opening.entry.tag) opening.entry.next)) }
     ensures pointed { IfOk result (λ next. HaveTheirPoints list.old.items → HaveTheirPoints list.new.items) }
-    ensures ends { IfOk result (λ next. (opening.entry.next < next) × (next ≤ length tokens.now)) }
+    ensures ends { IfOk result (λ next. (opening.entry.next < next) × (next ≤ length reader.entry.tokens.now)) }
 {
-    let (values, behind) = enum_body(bump, tokens, opening.next, aliases)?;
-    let alias = alias_name(bump, tokens, behind, aliases, aliased)?;
-    let next = semicolon(tokens, alias.next, aliases)?;
-    let span = span_over(tokens, opening.start, next);
+    let (values, behind) = enum_body(reader, opening.next)?;
+    let alias = alias_name(reader, behind, aliased)?;
+    let next = semicolon(reader, alias.next)?;
+    let span = reader.over(opening.start, next);
     let item = EnumDef {
         tag: opening.tag,
         alias: alias.name,
         values,
         span,
     };
-    keep(list, Item::Enumeration(item))?;
+    keep_enumeration(list, item)?;
     Ok(next)
 }
 
 /// The declarator of an alias behind its type, and its `;`, at the end of a list of items.
 #[tactic(auto, using(crate::proofs::BodyLaws::plain))]
 pub fn plain_alias<'a>(
-    bump: &'a Bump,
-    tokens: &[Token<'_>],
-    aliases: Option<&Aliases>,
+    reader: Reader<'a, '_>,
     specified: Specified<'a>,
     list: &mut Vec<Item<'a>>,
 ) -> Result<u32, SyntaxRefusal>
-    requires room { length tokens.now ≤ INPUT_LIMIT }
-    requires within { specified.next ≤ length tokens.now }
-    ensures gives { Gives (λ next. (item_shapes list.new.items, next)) result (after (item_shapes list.old.items) (going_items (lexemes tokens.now) (alias_end (lexemes tokens.now) (known aliases.entry) (row_type specified.entry) specified.entry.next) specified.entry.next)) }
+    ensures gives { Gives (λ next. (item_shapes list.new.items, next)) result (after (item_shapes list.old.items) (going_items (input reader.entry) (alias_end (input reader.entry) (named reader.entry) (row_type specified.entry) specified.entry.next) specified.entry.next)) }
     ensures pointed { IfOk result (λ next. HaveTheirPoints list.old.items → HaveTheirPoints list.new.items) }
-    ensures ends { IfOk result (λ next. (specified.entry.next < next) × (next ≤ length tokens.now)) }
+    ensures ends { IfOk result (λ next. (specified.entry.next < next) × (next ≤ length reader.entry.tokens.now)) }
 {
-    let of = declarator_at(bump, tokens, specified.next, aliases)?;
-    let next = semicolon(tokens, of.next, aliases)?;
-    let span = span_over(tokens, specified.next, of.next);
+    let of = declarator_at(reader, specified.next)?;
+    let next = semicolon(reader, of.next)?;
+    let span = reader.over(specified.next, of.next);
     let item = AliasDef {
         name: of.name,
         ctype: ctype(specified, of, None),
         span,
     };
-    keep(list, Item::Alias(item))?;
+    keep_alias(list, item)?;
     Ok(next)
 }

@@ -1,37 +1,30 @@
 //! The pieces of declarators are read: a star, a name, and the length of an array (C11 6.7.6).
-ghost use Rattle.std.specs.Prelude.{◌≡◌, ◌+◌, ◌≤◌, ◌<◌, length as count, IfOk};
-ghost use Rattle.tsa_base.specs.declared.limits.TheConstants.{INPUT_LIMIT, NESTING_LIMIT};
+ghost use Rattle.std.specs.Prelude.{◌≡◌, ◌≢◌, ◌≤◌, ◌<◌, length as count, Some, IfOk, OnErr, Err};
 ghost use Rattle.tsa_tree.specs.Reads.{read};
 ghost use Rattle.tsa_tree.specs.Rows.{a_declarator, declarator as declarator_call};
-ghost use Rattle.tsa_tree.specs.Signs.{lexemes};
+ghost use Rattle.tsa_tree.specs.Shapes.{shape};
+ghost use Rattle.tsa_tree.specs.Signs.{sign_at as spec_sign};
+ghost use Rattle.tsa_expr.specs.Source.{input, named};
 ghost use Rattle.tsa_expr.specs.Gives.{Gives};
-ghost use Rattle.tsa_expr.specs.Known.{known};
 ghost use Rattle.tsa_decl.specs.Outcomes.{star_at as spec_star, length_at as spec_length};
 ghost use Rattle.tsa_decl.specs.Seen.{seen_star, seen_declarator, seen_length};
 
-use crate::view::{is_const_at, name};
+use crate::declarator::Declarator;
+use crate::nodes::kept_in;
+use crate::view::is_const;
 use bumpalo::Bump;
-use tsa_base::{NESTING_LIMIT, Token};
-use tsa_expr::{Aliases, SyntaxCode, SyntaxRefusal, read_expression, refuse, sign_at};
-use tsa_tree::expr::{BinaryOp, Expr, Name};
+use tsa_base::NESTING_LIMIT;
+use tsa_expr::{Reader, SyntaxCode, SyntaxRefusal, refuse};
+use tsa_tree::expr::{BinaryOp, Expr};
 use tsa_tree::sign::Sign;
 
-/// Whether a star stands at a place, with `const` or without, and the token after it.
+/// Whether a star stands at a place, with `const` or without, the token after it, and that token's sign.
 #[derive(Clone, Copy)]
 pub struct Star {
     pub pointer: bool,
     pub constant: bool,
     pub next: u32,
-}
-
-/// A pointer's star and a name, the token with which they begin, and the token after them.
-#[derive(Clone, Copy)]
-pub struct Declarator<'a> {
-    pub name: Name<'a>,
-    pub pointer: bool,
-    pub pointer_const: bool,
-    pub start: u32,
-    pub next: u32,
+    pub sign: Sign,
 }
 
 /// The length of an array where one is written, and the token after it.
@@ -43,43 +36,51 @@ pub struct Length<'a> {
 
 /// The star that may stand at a place.
 #[tactic(auto, using(crate::proofs::DeclaratorLaws::stars))]
-pub fn star_at(tokens: &[Token<'_>], at: u32, aliases: Option<&Aliases>) -> Star
-    requires room { count tokens.now ≤ INPUT_LIMIT }
-    requires within { at ≤ count tokens.now }
-    ensures is { spec_star (lexemes tokens.now) (known aliases.entry) at ≡ seen_star result }
-    ensures ends { (at ≤ result.next) × (result.next ≤ count tokens.now) }
+pub fn star_at(reader: Reader<'_, '_>, at: u32) -> Star
+    ensures is { spec_star (input reader.entry) (named reader.entry) at ≡ seen_star result }
+    ensures there { result.sign ≡ spec_sign (input reader.entry) (named reader.entry) result.next }
+    ensures seen { result.sign ≢ Sign.End → result.next < count reader.entry.tokens.now }
+    ensures ends { at ≤ result.next }
+    ensures within { at ≤ count reader.entry.tokens.now → result.next ≤ count reader.entry.tokens.now }
 {
-    let Sign::Operator(BinaryOp::Times) = sign_at(tokens, at, aliases) else {
+    let sign = reader.sign(at);
+    let Sign::Operator(BinaryOp::Times) = sign else {
         return Star {
             pointer: false,
             constant: false,
             next: at,
+            sign,
         };
     };
-    let constant = is_const_at(tokens, at + 1, aliases);
+    let behind = reader.sign(at + 1);
+    if !is_const(behind) {
+        return Star {
+            pointer: true,
+            constant: false,
+            next: at + 1,
+            sign: behind,
+        };
+    }
     Star {
         pointer: true,
-        constant,
-        next: if constant { at + 2 } else { at + 1 },
+        constant: true,
+        next: at + 2,
+        sign: reader.sign(at + 2),
     }
 }
 
 /// A pointer's star and a name.
 #[tactic(auto, using(crate::proofs::DeclaratorLaws::named))]
-pub fn declarator_at<'a>(
-    bump: &'a Bump,
-    tokens: &[Token<'_>],
-    at: u32,
-    aliases: Option<&Aliases>,
-) -> Result<Declarator<'a>, SyntaxRefusal>
-    requires room { count tokens.now ≤ INPUT_LIMIT }
-    requires within { at ≤ count tokens.now }
-    ensures gives { Gives seen_declarator result (read (lexemes tokens.now) a_declarator (declarator_call (known aliases.entry)) at) }
+pub fn declarator_at<'a>(reader: Reader<'a, '_>, at: u32) -> Result<Declarator<'a>, SyntaxRefusal>
+    ensures gives { Gives seen_declarator result (read (input reader.entry) a_declarator (declarator_call (named reader.entry)) at) }
     ensures start { IfOk result (λ r. r.start ≡ at) }
-    ensures ends { IfOk result (λ r. (at < r.next) × (r.next ≤ count tokens.now)) }
+    ensures ends { IfOk result (λ r. (at < r.next) × (r.next ≤ count reader.entry.tokens.now)) }
 {
-    let star = star_at(tokens, at, aliases);
-    let name = name(bump, tokens, star.next, aliases)?;
+    let star = star_at(reader, at);
+    let Sign::Name = star.sign else {
+        return Err(refuse(SyntaxCode::SY1, star.next));
+    };
+    let name = reader.name(star.next)?;
     Ok(Declarator {
         name,
         pointer: star.pointer,
@@ -92,18 +93,15 @@ pub fn declarator_at<'a>(
 /// The length that may stand at a place, where `depth` constructs are open.
 #[tactic(auto, using(crate::proofs::DeclaratorLaws::lengths))]
 pub fn length_at<'a>(
-    bump: &'a Bump,
-    tokens: &[Token<'_>],
+    reader: Reader<'a, '_>,
     at: u32,
     depth: u32,
-    aliases: Option<&Aliases>,
 ) -> Result<Length<'a>, SyntaxRefusal>
-    requires room { count tokens.now ≤ INPUT_LIMIT }
-    requires within { at ≤ count tokens.now }
-    ensures gives { Gives seen_length result (spec_length (lexemes tokens.now) (known aliases.entry) depth at) }
-    ensures ends { IfOk result (λ r. (at ≤ r.next) × (r.next ≤ count tokens.now)) }
+    ensures gives { Gives seen_length result (spec_length (input reader.entry) (named reader.entry) depth at) }
+    ensures ends { IfOk result (λ r. at ≤ r.next) }
+    ensures within { IfOk result (λ r. at ≤ count reader.entry.tokens.now → r.next ≤ count reader.entry.tokens.now) }
 {
-    let Sign::OpenBracket = sign_at(tokens, at, aliases) else {
+    let Sign::OpenBracket = reader.sign(at) else {
         return Ok(Length {
             length: None,
             next: at,
@@ -112,13 +110,22 @@ pub fn length_at<'a>(
     if depth >= NESTING_LIMIT {
         return Err(refuse(SyntaxCode::LM2, at));
     }
-    let inner = read_expression(bump, tokens, at + 1, depth + 1, aliases)?;
-    let Sign::CloseBracket = sign_at(tokens, inner.next, aliases) else {
+    let inner = reader.expression(at + 1, depth + 1, 0)?;
+    let Sign::CloseBracket = reader.sign(inner.next) else {
         return Err(refuse(SyntaxCode::SY1, inner.next));
     };
-    let length: &'a Expr<'a> = bump.try_alloc(inner.tree)?;
+    length_before(reader.bump, inner.tree, inner.next + 1)
+}
+
+/// The length of an array, kept in the arena, and the token after its bracket.
+fn length_before<'a>(bump: &'a Bump, tree: Expr<'a>, next: u32) -> Result<Length<'a>, SyntaxRefusal>
+    ensures is { IfOk result (λ r. seen_length r ≡ (Some (shape tree.entry), next)) }
+    ensures next_is { IfOk result (λ r. r.next ≡ next) }
+    ensures memory { OnErr result (result ≡ Err SyntaxRefusal.NoMemory) }
+{
+    let length = kept_in(bump, tree)?;
     Ok(Length {
         length: Some(length),
-        next: inner.next + 1,
+        next,
     })
 }

@@ -3,6 +3,7 @@
 
 mod bodies;
 mod constants;
+mod declarator;
 mod declarators;
 mod declared;
 mod heads;
@@ -17,13 +18,6 @@ mod view;
 
 pub use items::{Begun, begin_item};
 pub use locals::read_locals;
-pub use nodes::{in_arena, keep};
+pub use nodes::{in_arena, in_arena_before, keep, keep_function, kept_in};
 pub use read::{read_declaration, read_head, read_local};
 pub use view::{is_close_brace_at, name, open, open_brace, semicolon};
-
-#[cfg(test)]
-mod item_tests;
-#[cfg(test)]
-mod shown;
-#[cfg(test)]
-mod tests;

@@ -1,46 +1,40 @@
 //! Lists of members and globals are read, a declarator at a time (C11 6.7.2.1, 6.7).
-ghost use Rattle.std.specs.Prelude.{◌≡◌, ◌+◌, ◌≤◌, ◌<◌, length as count, IfOk};
-ghost use Rattle.tsa_base.specs.declared.limits.TheConstants.{INPUT_LIMIT};
+ghost use Rattle.std.specs.Prelude.{◌≤◌, ◌<◌, length as count, IfOk};
 ghost use Rattle.tsa_tree.specs.DeclarationSpelling.{a_member};
 ghost use Rattle.tsa_tree.specs.ItemShapes.{decl_shapes};
 ghost use Rattle.tsa_tree.specs.UnitShapes.{item_shapes, HaveTheirPoints};
 ghost use Rattle.tsa_tree.specs.Reads.{read};
 ghost use Rattle.tsa_tree.specs.Rows.{some_declarations, declarators as declarators_call, member_line as line_call, members as members_call};
-ghost use Rattle.tsa_tree.specs.Signs.{lexemes};
+ghost use Rattle.tsa_expr.specs.Source.{input, named};
 ghost use Rattle.tsa_expr.specs.Gives.{Gives};
-ghost use Rattle.tsa_expr.specs.Known.{known};
 ghost use Rattle.tsa_decl.specs.Outcomes.{after, globals_at};
 ghost use Rattle.tsa_decl.specs.Seen.{row_type, row_declarator};
 
-use crate::declarators::{Declarator, declarator_at};
+use crate::declarator::Declarator;
+use crate::declarators::declarator_at;
 use crate::declared::{Role, declared_rest};
-use crate::nodes::keep;
+use crate::nodes::{keep, keep_global};
 use crate::types::{Specified, specifier};
 use crate::view::is_close_brace_at;
 use bumpalo::Bump;
-use tsa_base::Token;
-use tsa_expr::{Aliases, SyntaxRefusal};
+use tsa_expr::{Reader, SyntaxRefusal};
 use tsa_tree::decl::Decl;
 use tsa_tree::item::Item;
 
 /// The declarators of members behind their type, at the end of a list, and their `;`.
 #[tactic(auto, using(crate::proofs::MemberLaws::one_by_one))]
 fn member_declarators<'a>(
-    bump: &'a Bump,
-    tokens: &[Token<'_>],
-    aliases: Option<&Aliases>,
+    reader: Reader<'a, '_>,
     specified: Specified<'a>,
     list: &mut Vec<Decl<'a>, &'a Bump>,
 ) -> Result<u32, SyntaxRefusal>
-    requires room { count tokens.now ≤ INPUT_LIMIT }
-    requires within { specified.next ≤ count tokens.now }
-    ensures gives { Gives (λ next. (decl_shapes list.new.items, next)) result (after (decl_shapes list.old.items) (read (lexemes tokens.now) some_declarations (declarators_call (known aliases.entry) a_member 1 (row_type specified.entry)) specified.entry.next)) }
-    ensures ends { IfOk result (λ next. (specified.entry.next < next) × (next ≤ count tokens.now)) }
+    ensures gives { Gives (λ next. (decl_shapes list.new.items, next)) result (after (decl_shapes list.old.items) (read (input reader.entry) some_declarations (declarators_call (named reader.entry) a_member 1 (row_type specified.entry)) specified.entry.next)) }
+    ensures ends { IfOk result (λ next. (specified.entry.next < next) × (next ≤ count reader.entry.tokens.now)) }
 {
     let mut next = specified.next;
     'declarators: loop {
-        let declarator = declarator_at(bump, tokens, next, aliases)?;
-        let declared = declared_rest(bump, tokens, aliases, Role::Member, specified, declarator)?;
+        let declarator = declarator_at(reader, next)?;
+        let declared = declared_rest(reader, Role::Member, specified, declarator)?;
         keep(list, declared.decl)?;
         next = declared.next;
         if !declared.goes_on {
@@ -52,68 +46,56 @@ fn member_declarators<'a>(
 /// A type, its declarators and their `;`, at the end of a list of members.
 #[tactic(auto, using(crate::proofs::MemberLaws::lines))]
 fn member_line<'a>(
-    bump: &'a Bump,
-    tokens: &[Token<'_>],
+    reader: Reader<'a, '_>,
     at: u32,
-    aliases: Option<&Aliases>,
     list: &mut Vec<Decl<'a>, &'a Bump>,
 ) -> Result<u32, SyntaxRefusal>
-    requires room { count tokens.now ≤ INPUT_LIMIT }
-    requires within { at ≤ count tokens.now }
-    ensures gives { Gives (λ next. (decl_shapes list.new.items, next)) result (after (decl_shapes list.old.items) (read (lexemes tokens.now) some_declarations (line_call (known aliases.entry) 1) at)) }
-    ensures ends { IfOk result (λ next. (at < next) × (next ≤ count tokens.now)) }
+    ensures gives { Gives (λ next. (decl_shapes list.new.items, next)) result (after (decl_shapes list.old.items) (read (input reader.entry) some_declarations (line_call (named reader.entry) 1) at)) }
+    ensures ends { IfOk result (λ next. (at < next) × (next ≤ count reader.entry.tokens.now)) }
 {
-    let specified = specifier(bump, tokens, at, aliases)?;
-    member_declarators(bump, tokens, aliases, specified, list)
+    let specified = specifier(reader, at)?;
+    member_declarators(reader, specified, list)
 }
 
 /// Any number of members, at the end of a list, and the brace that closes them (C11 6.7.2.1).
 #[tactic(auto, using(crate::proofs::MemberLaws::lists))]
 pub fn members<'a>(
-    bump: &'a Bump,
-    tokens: &[Token<'_>],
+    reader: Reader<'a, '_>,
     at: u32,
-    aliases: Option<&Aliases>,
     list: &mut Vec<Decl<'a>, &'a Bump>,
 ) -> Result<u32, SyntaxRefusal>
-    requires room { count tokens.now ≤ INPUT_LIMIT }
-    requires within { at ≤ count tokens.now }
-    ensures gives { Gives (λ next. (decl_shapes list.new.items, next)) result (after (decl_shapes list.old.items) (read (lexemes tokens.now) some_declarations (members_call (known aliases.entry) 1) at)) }
-    ensures ends { IfOk result (λ next. (at < next) × (next ≤ count tokens.now)) }
+    ensures gives { Gives (λ next. (decl_shapes list.new.items, next)) result (after (decl_shapes list.old.items) (read (input reader.entry) some_declarations (members_call (named reader.entry) 1) at)) }
+    ensures ends { IfOk result (λ next. (at < next) × (next ≤ count reader.entry.tokens.now)) }
 {
     let mut next = at;
     'members: loop {
-        if is_close_brace_at(tokens, next, aliases) {
+        if is_close_brace_at(reader, next) {
             return Ok(next + 1);
         }
-        next = member_line(bump, tokens, next, aliases, list)?;
+        next = member_line(reader, next, list)?;
     }
 }
 
 /// Globals, from behind their first declarator on, at the end of a list of items, and their `;`.
 #[tactic(auto, using(crate::proofs::GlobalLaws::lists))]
 pub fn globals<'a>(
-    bump: &'a Bump,
-    tokens: &[Token<'_>],
-    aliases: Option<&Aliases>,
+    reader: Reader<'a, '_>,
     specified: Specified<'a>,
     first: Declarator<'a>,
     list: &mut Vec<Item<'a>>,
 ) -> Result<u32, SyntaxRefusal>
-    requires room { count tokens.now ≤ INPUT_LIMIT }
-    requires within { first.next ≤ count tokens.now }
-    requires begun { first.start < first.next }
-    ensures gives { Gives (λ next. (item_shapes list.new.items, next)) result (after (item_shapes list.old.items) (globals_at (lexemes tokens.now) (known aliases.entry) (row_type specified.entry) (row_declarator first.entry) first.entry.next)) }
+    requires within { first.next ≤ count reader.tokens.now }
+    ensures gives { Gives (λ next. (item_shapes list.new.items, next)) result (after (item_shapes list.old.items) (globals_at (input reader.entry) (named reader.entry) (row_type specified.entry) (row_declarator first.entry) first.entry.next)) }
     ensures pointed { IfOk result (λ next. HaveTheirPoints list.old.items → HaveTheirPoints list.new.items) }
-    ensures ends { IfOk result (λ next. (first.entry.next < next) × (next ≤ count tokens.now)) }
+    ensures ends { IfOk result (λ next. (first.entry.next < next) × (next ≤ count reader.entry.tokens.now)) }
 {
     let mut of = first;
     'globals: loop {
-        let declared = declared_rest(bump, tokens, aliases, Role::Global, specified, of)?;
-        keep(list, Item::Global(declared.decl))?;
+        let declared = declared_rest(reader, Role::Global, specified, of)?;
+        keep_global(list, declared.decl)?;
         if !declared.goes_on {
             return Ok(declared.next);
         }
-        of = declarator_at(bump, tokens, declared.next, aliases)?;
+        of = declarator_at(reader, declared.next)?;
     }
 }

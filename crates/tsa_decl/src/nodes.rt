@@ -5,6 +5,8 @@ use bumpalo::Bump;
 use bumpalo::collections::into_bump_slice;
 use std::alloc::Allocator;
 use tsa_expr::SyntaxRefusal;
+use tsa_tree::decl::Decl;
+use tsa_tree::item::{AliasDef, EnumDef, FnTree, Item, StructDef};
 
 /// One more at the end of a list, which takes room for one first and then for twice as many: most lists are short.
 pub fn keep<T: Copy, A: Allocator>(list: &mut Vec<T, A>, item: T) -> Result<(), SyntaxRefusal>
@@ -19,6 +21,61 @@ pub fn keep<T: Copy, A: Allocator>(list: &mut Vec<T, A>, item: T) -> Result<(), 
     Ok(())
 }
 
+/// One item more at the end of a list, a global.
+pub fn keep_global<'a>(list: &mut Vec<Item<'a>>, decl: Decl<'a>) -> Result<(), SyntaxRefusal>
+    ensures gives { OnOk result (list.new.items ≡ list.old.items ++ Item.Global decl.entry ∷ []) }
+    ensures memory { OnErr result (result ≡ Err SyntaxRefusal.NoMemory) }
+{
+    keep(list, Item::Global(decl))
+}
+
+/// One item more at the end of a list, a struct.
+pub fn keep_structure<'a>(
+    list: &mut Vec<Item<'a>>,
+    item: StructDef<'a>,
+) -> Result<(), SyntaxRefusal>
+    ensures gives { OnOk result (list.new.items ≡ list.old.items ++ Item.Structure item.entry ∷ []) }
+    ensures memory { OnErr result (result ≡ Err SyntaxRefusal.NoMemory) }
+{
+    keep(list, Item::Structure(item))
+}
+
+/// One item more at the end of a list, an enum.
+pub fn keep_enumeration<'a>(
+    list: &mut Vec<Item<'a>>,
+    item: EnumDef<'a>,
+) -> Result<(), SyntaxRefusal>
+    ensures gives { OnOk result (list.new.items ≡ list.old.items ++ Item.Enumeration item.entry ∷ []) }
+    ensures memory { OnErr result (result ≡ Err SyntaxRefusal.NoMemory) }
+{
+    keep(list, Item::Enumeration(item))
+}
+
+/// One item more at the end of a list, an alias.
+pub fn keep_alias<'a>(list: &mut Vec<Item<'a>>, item: AliasDef<'a>) -> Result<(), SyntaxRefusal>
+    ensures gives { OnOk result (list.new.items ≡ list.old.items ++ Item.Alias item.entry ∷ []) }
+    ensures memory { OnErr result (result ≡ Err SyntaxRefusal.NoMemory) }
+{
+    keep(list, Item::Alias(item))
+}
+
+/// One item more at the end of a list, a function.
+pub fn keep_function<'a>(list: &mut Vec<Item<'a>>, head: &FnTree<'a>) -> Result<(), SyntaxRefusal>
+    ensures gives { OnOk result (list.new.items ≡ list.old.items ++ Item.Function head.now ∷ []) }
+    ensures memory { OnErr result (result ≡ Err SyntaxRefusal.NoMemory) }
+{
+    keep(list, Item::Function(*head))
+}
+
+/// A node, kept in the arena.
+pub fn kept_in<'a, T: Copy>(bump: &'a Bump, node: T) -> Result<&'a T, SyntaxRefusal>
+    ensures is { IfOk result (λ kept. kept.now ≡ node) }
+    ensures memory { OnErr result (result ≡ Err SyntaxRefusal.NoMemory) }
+{
+    let kept: &'a T = bump.try_alloc(node)?;
+    Ok(kept)
+}
+
 /// A list, kept in the arena.
 pub fn listed<'a, T: Copy>(items: Vec<T, &'a Bump>) -> &'a [T]
     ensures { result.now ≡ items.entry.items }
@@ -27,10 +84,26 @@ pub fn listed<'a, T: Copy>(items: Vec<T, &'a Bump>) -> &'a [T]
 }
 
 /// A list, kept in the arena with no more room than it needs.
-pub fn in_arena<'a, T: Copy>(bump: &'a Bump, items: &[T]) -> Result<&'a [T], SyntaxRefusal>
-    ensures is { IfOk result (λ kept. kept.now ≡ items.now) }
+pub fn in_arena<'a, T: Copy, A: Allocator>(
+    bump: &'a Bump,
+    items: &Vec<T, A>,
+) -> Result<&'a [T], SyntaxRefusal>
+    ensures is { IfOk result (λ kept. kept.now ≡ items.now.items) }
     ensures memory { OnErr result (result ≡ Err SyntaxRefusal.NoMemory) }
 {
     let kept: &'a [T] = bump.try_alloc_slice_copy(items)?;
     Ok(kept)
+}
+
+/// A list, kept in the arena, and the token behind it.
+pub fn in_arena_before<'a, T: Copy, A: Allocator>(
+    bump: &'a Bump,
+    items: &Vec<T, A>,
+    next: u32,
+) -> Result<(&'a [T], u32), SyntaxRefusal>
+    ensures is { IfOk result (λ found. (found.0.now ≡ items.now.items) × (found.1 ≡ next)) }
+    ensures memory { OnErr result (result ≡ Err SyntaxRefusal.NoMemory) }
+{
+    let kept = in_arena(bump, items)?;
+    Ok((kept, next))
 }

@@ -1,7 +1,7 @@
 //! Items without a body, heads of functions and locals, as the parts of a unit ask for them.
 ghost use Rattle.std.specs.Prelude.{◌≡◌, ◌≤◌, ◌<◌, ℕ, length, [], None, option_map, IfOk, IsErrOf, false};
 ghost use Rattle.std.specs.Option.{ForSome};
-ghost use Rattle.tsa_base.specs.declared.limits.TheConstants.{INPUT_LIMIT, NESTING_LIMIT};
+ghost use Rattle.tsa_base.specs.declared.limits.TheConstants.{INPUT_LIMIT};
 ghost use Rattle.tsa_tree.specs.AttributeRefusals as reason;
 ghost use Rattle.tsa_tree.specs.DeclarationAnswers.{an_item, a_head_alone, some_locals, IsLongest, IsBroken, IsRefused, IsTooDeep};
 ghost use Rattle.tsa_tree.specs.ItemShapes.{decl_shapes, head_shape};
@@ -10,18 +10,18 @@ ghost use Rattle.tsa_tree.specs.Signs.{lexemes};
 ghost use Rattle.tsa_tree.specs.Reads.{read};
 ghost use Rattle.tsa_tree.specs.Rows.{some_items, item as item_call};
 ghost use Rattle.tsa_expr.specs.Gives.{Gives};
-ghost use Rattle.tsa_expr.specs.Known.{known};
+ghost use Rattle.tsa_expr.specs.Source.{input, named};
 ghost use Rattle.tsa_attr.specs.Outcomes.{IsOfAttributes};
-ghost use Rattle.tsa_decl.specs.Outcomes.{finished};
+ghost use Rattle.tsa_decl.specs.Outcomes.{after, finished};
 
 use crate::heads::head;
 use crate::items::{Begun, begin_item};
 use crate::locals::read_locals;
-use crate::nodes::{in_arena, keep};
+use crate::nodes::{in_arena_before, keep_function};
 use crate::view::semicolon;
 use bumpalo::Bump;
 use tsa_base::Token;
-use tsa_expr::{Aliases, SyntaxCode, SyntaxRefusal};
+use tsa_expr::{Aliases, Reader, SyntaxCode, SyntaxRefusal};
 use tsa_tree::decl::Decl;
 use tsa_tree::item::{FnTree, Item};
 
@@ -45,48 +45,59 @@ pub fn read_declaration<'a>(
     ensures no_other { (refusal : _) → IsErrOf result refusal → IsOfAttributes refusal }
     ensures next { IfOk result (λ found. (at < found.1) × (found.1 ≤ length tokens.now)) }
 {
-    read_items(bump, tokens, at, aliases)
+    let reader = Reader {
+        bump,
+        tokens,
+        aliases: Some(aliases),
+    };
+    read_items(reader, at, aliases)
 }
 
 /// The items that the rows give.
 #[tactic(auto, using(crate::proofs::Exact::items))]
 fn read_items<'a>(
-    bump: &'a Bump,
-    tokens: &[Token<'_>],
+    reader: Reader<'a, '_>,
     at: u32,
     aliases: &Aliases,
 ) -> Result<(&'a [Item<'a>], u32), SyntaxRefusal>
-    requires room { length tokens.now ≤ INPUT_LIMIT }
-    requires within { at ≤ length tokens.now }
-    ensures gives { Gives (λ found. (item_shapes found.0.now, found.1)) result (read (lexemes tokens.now) some_items (item_call aliases.now false) at) }
-    ensures ends { IfOk result (λ found. (at < found.1) × (found.1 ≤ length tokens.now)) }
+    ensures gives { Gives (λ found. (item_shapes found.0.now, found.1)) result (read (input reader.entry) some_items (item_call (named reader.entry) false) at) }
+    ensures ends { IfOk result (λ found. (at < found.1) × (found.1 ≤ length reader.entry.tokens.now)) }
 {
     let mut list = Vec::new(aliases.allocator());
-    let begun = begin_item(bump, tokens, at, Some(aliases), &mut list)?;
-    let next = finish(tokens, Some(aliases), begun, &mut list)?;
-    let items = in_arena(bump, &list)?;
-    Ok((items, next))
+    let next = whole_item(reader, at, &mut list)?;
+    in_arena_before(reader.bump, &list, next)
+}
+
+/// The items that the rows give, at the end of a list.
+fn whole_item<'a>(
+    reader: Reader<'a, '_>,
+    at: u32,
+    list: &mut Vec<Item<'a>>,
+) -> Result<u32, SyntaxRefusal>
+    ensures gives { Gives (λ next. (item_shapes list.new.items, next)) result (after (item_shapes list.old.items) (read (input reader.entry) some_items (item_call (named reader.entry) false) at)) }
+    ensures ends { IfOk result (λ next. (at < next) × (next ≤ length reader.entry.tokens.now)) }
+{
+    let begun = begin_item(reader, at, list)?;
+    finish(reader, &begun, list)
 }
 
 /// The end of an item without a body: a function ends with its `;`, and is then at the end of the list.
 #[tactic(auto, using(crate::proofs::BegunLaws::finishes))]
 fn finish<'a>(
-    tokens: &[Token<'_>],
-    aliases: Option<&Aliases>,
-    begun: Begun<'a>,
+    reader: Reader<'_, '_>,
+    begun: &Begun<'a>,
     list: &mut Vec<Item<'a>>,
 ) -> Result<u32, SyntaxRefusal>
-    requires room { length tokens.now ≤ INPUT_LIMIT }
-    requires within { begun.next ≤ length tokens.now }
-    requires bodiless { ForSome begun.head (λ head. head.body ≡ None) }
-    ensures gives { Gives (λ next. (item_shapes list.new.items, next)) result (finished (lexemes tokens.now) (known aliases.entry) false (item_shapes list.old.items, option_map head_shape begun.entry.head) begun.entry.next) }
-    ensures ends { IfOk result (λ next. (begun.entry.next ≤ next) × (next ≤ length tokens.now)) }
+    requires bodiless { ForSome begun.now.head (λ head. head.body ≡ None) }
+    ensures gives { Gives (λ next. (item_shapes list.new.items, next)) result (finished (input reader.entry) (named reader.entry) false (item_shapes list.old.items, option_map head_shape begun.now.head) begun.now.next) }
+    ensures ends { IfOk result (λ next. begun.now.next ≤ next) }
+    ensures within { IfOk result (λ next. begun.now.next ≤ length reader.entry.tokens.now → next ≤ length reader.entry.tokens.now) }
 {
-    let Some(head) = begun.head else {
+    let Some(head) = &begun.head else {
         return Ok(begun.next);
     };
-    let next = semicolon(tokens, begun.next, aliases)?;
-    keep(list, Item::Function(head))?;
+    let next = semicolon(reader, begun.next)?;
+    keep_function(list, head)?;
     Ok(next)
 }
 
@@ -109,7 +120,12 @@ pub fn read_head<'a>(
     ensures no_other { (refusal : _) → IsErrOf result refusal → IsOfAttributes refusal }
     ensures next { IfOk result (λ found. (at < found.1) × (found.1 ≤ length tokens.now)) }
 {
-    head(bump, tokens, at, Some(aliases))
+    let reader = Reader {
+        bump,
+        tokens,
+        aliases: Some(aliases),
+    };
+    head(reader, at)
 }
 
 /// The locals that begin at a token with their type, up to before their `;`, and that token, where `depth` constructs are
@@ -125,7 +141,6 @@ pub fn read_local<'a>(
 ) -> Result<(&'a [Decl<'a>], u32), SyntaxRefusal>
     requires room { length tokens.now ≤ INPUT_LIMIT }
     requires within { at ≤ length tokens.now }
-    requires shallow { depth ≤ NESTING_LIMIT }
     ensures found { IfOk result (λ found. IsLongest (lexemes tokens.now) aliases.now (some_locals single depth) at (decl_shapes found.0.now) found.1) }
     ensures broken { (token : ℕ) → IsErrOf result (SyntaxRefusal.At SyntaxCode.SY1 token) → IsBroken (lexemes tokens.now) aliases.now (some_locals single depth) at token }
     ensures left_out { (token : ℕ) → IsErrOf result (SyntaxRefusal.At SyntaxCode.AT1 token) → IsRefused (lexemes tokens.now) aliases.now (some_locals single depth) at reason.left_out token }
@@ -134,5 +149,10 @@ pub fn read_local<'a>(
     ensures no_other { (refusal : _) → IsErrOf result refusal → IsOfAttributes refusal }
     ensures next { IfOk result (λ found. (at < found.1) × (found.1 ≤ length tokens.now)) }
 {
-    read_locals(bump, tokens, at, depth, Some(aliases), single)
+    let reader = Reader {
+        bump,
+        tokens,
+        aliases: Some(aliases),
+    };
+    read_locals(reader, at, depth, single)
 }

@@ -1,20 +1,17 @@
 //! Types are read, up to before their declarator (C11 6.7.2, 6.7.3).
-ghost use Rattle.std.specs.Prelude.{◌≡◌, ◌+◌, ◌≤◌, ◌<◌, length, Ok, IfOk};
-ghost use Rattle.tsa_base.specs.declared.limits.TheConstants.{INPUT_LIMIT};
+ghost use Rattle.std.specs.Prelude.{◌≡◌, ◌≢◌, ◌≤◌, ◌<◌, length, Ok, IfOk, IsOkAnd};
 ghost use Rattle.tsa_tree.specs.ItemShapes.{base_shape};
 ghost use Rattle.tsa_tree.specs.Reads.{read};
 ghost use Rattle.tsa_tree.specs.Rows.{a_specifier, specifier as specifier_call, a_keyword, sees};
-ghost use Rattle.tsa_tree.specs.Signs.{lexemes, sign_at as spec_sign};
+ghost use Rattle.tsa_tree.specs.Signs.{sign_at as spec_sign};
 ghost use Rattle.tsa_tree.specs.declared.sign.Keyword.TheVariants as key;
+ghost use Rattle.tsa_expr.specs.Source.{input, named};
 ghost use Rattle.tsa_expr.specs.Gives.{Gives};
-ghost use Rattle.tsa_expr.specs.Known.{known};
-ghost use Rattle.tsa_decl.specs.Outcomes.{consts_at, behind_int as spec_behind_int, base_at, specified_at as spec_specified};
+ghost use Rattle.tsa_decl.specs.Outcomes.{consts_at, behind_int as spec_behind_int, base_by, specified_at as spec_specified};
 ghost use Rattle.tsa_decl.specs.Seen.{seen_base, seen_specified};
 
-use crate::view::{is_const_at, is_int_at, tag};
-use bumpalo::Bump;
-use tsa_base::Token;
-use tsa_expr::{Aliases, SyntaxCode, SyntaxRefusal, name_at, refuse, sign_at};
+use crate::view::{is_const, is_int_at, tag};
+use tsa_expr::{Reader, SyntaxCode, SyntaxRefusal, refuse};
 use tsa_tree::decl::BaseType;
 use tsa_tree::sign::{Keyword, Sign};
 
@@ -26,30 +23,31 @@ pub struct Specified<'a> {
     pub next: u32,
 }
 
+/// Whether `const` stands at a place, the token after it and those that follow it, and that token's sign.
+#[derive(Clone, Copy)]
+pub struct ConstWords {
+    pub is_const: bool,
+    pub next: u32,
+    pub sign: Sign,
+}
+
 /// A base, and the token after it.
 #[derive(Clone, Copy)]
-pub struct Based<'a> {
+pub struct BaseReading<'a> {
     pub base: BaseType<'a>,
     pub next: u32,
 }
 
 /// A type: a base with `const` before and behind it.
 #[tactic(auto, using(crate::proofs::TypeLaws::specifiers))]
-pub fn specifier<'a>(
-    bump: &'a Bump,
-    tokens: &[Token<'_>],
-    at: u32,
-    aliases: Option<&Aliases>,
-) -> Result<Specified<'a>, SyntaxRefusal>
-    requires room { length tokens.now ≤ INPUT_LIMIT }
-    requires within { at ≤ length tokens.now }
-    ensures gives { Gives seen_specified result (read (lexemes tokens.now) a_specifier (specifier_call (known aliases.entry)) at) }
-    ensures ends { IfOk result (λ r. (at < r.next) × (r.next ≤ length tokens.now)) }
+pub fn specifier<'a>(reader: Reader<'a, '_>, at: u32) -> Result<Specified<'a>, SyntaxRefusal>
+    ensures gives { Gives seen_specified result (read (input reader.entry) a_specifier (specifier_call (named reader.entry)) at) }
+    ensures ends { IfOk result (λ r. (at < r.next) × (r.next ≤ length reader.entry.tokens.now)) }
 {
-    let start = behind_consts(tokens, at, aliases);
-    let based = base(bump, tokens, start, aliases)?;
-    let behind = specified_at(tokens, based.base, based.next, aliases);
-    if is_const_at(tokens, at, aliases) {
+    let consts = consts(reader, at);
+    let base = base(reader, consts.next, consts.sign)?;
+    let behind = specified_at(reader, base.base, base.next);
+    if consts.is_const {
         return Ok(Specified {
             base: behind.base,
             is_const: true,
@@ -59,76 +57,67 @@ pub fn specifier<'a>(
     Ok(behind)
 }
 
-/// Behind any number of `const`.
+/// Any number of `const`.
 #[tactic(auto, using(crate::proofs::TypeLaws::skips))]
-pub fn behind_consts(tokens: &[Token<'_>], at: u32, aliases: Option<&Aliases>) -> u32
-    requires room { length tokens.now ≤ INPUT_LIMIT }
-    requires within { at ≤ length tokens.now }
-    ensures is { consts_at (lexemes tokens.now) (known aliases.entry) at ≡ Ok (tt, result) }
-    ensures ends { (at ≤ result) × (result ≤ length tokens.now) }
+fn consts(reader: Reader<'_, '_>, at: u32) -> ConstWords
+    ensures first { result.is_const ≡ sees (input reader.entry) (a_keyword (named reader.entry) key.Const) at }
+    ensures is { consts_at (input reader.entry) (named reader.entry) at ≡ Ok (tt, result.next) }
+    ensures there { result.sign ≡ spec_sign (input reader.entry) (named reader.entry) result.next }
+    ensures seen { result.sign ≢ Sign.End → result.next < length reader.entry.tokens.now }
+    ensures ends { at ≤ result.next }
+    ensures within { at ≤ length reader.entry.tokens.now → result.next ≤ length reader.entry.tokens.now }
 {
+    let first = reader.sign(at);
     let mut next = at;
-    'consts: while is_const_at(tokens, next, aliases) {
+    let mut sign = first;
+    'consts: while is_const(sign) {
         next += 1;
+        sign = reader.sign(next);
     }
-    next
+    ConstWords {
+        is_const: is_const(first),
+        next,
+        sign,
+    }
 }
 
 /// A type whose base was read up to before a place, where `const` may follow.
 #[tactic(auto, using(crate::proofs::TypeLaws::endings))]
-pub fn specified_at<'a>(
-    tokens: &[Token<'_>],
-    base: BaseType<'a>,
-    at: u32,
-    aliases: Option<&Aliases>,
-) -> Specified<'a>
-    requires room { length tokens.now ≤ INPUT_LIMIT }
-    requires within { at ≤ length tokens.now }
-    ensures is { spec_specified (lexemes tokens.now) (known aliases.entry) (base_shape base.entry) at ≡ Ok (seen_specified result) }
-    ensures ends { (at ≤ result.next) × (result.next ≤ length tokens.now) }
+pub fn specified_at<'a>(reader: Reader<'_, '_>, base: BaseType<'a>, at: u32) -> Specified<'a>
+    ensures is { spec_specified (input reader.entry) (named reader.entry) (base_shape base.entry) at ≡ Ok (seen_specified result) }
+    ensures ends { at ≤ result.next }
+    ensures within { at ≤ length reader.entry.tokens.now → result.next ≤ length reader.entry.tokens.now }
 {
-    let is_const = is_const_at(tokens, at, aliases);
-    let next = behind_consts(tokens, at, aliases);
+    let consts = consts(reader, at);
     Specified {
         base,
-        is_const,
-        next,
+        is_const: consts.is_const,
+        next: consts.next,
     }
 }
 
 /// Behind an `int` that may stand at a place.
 #[tactic(auto, using(crate::proofs::TypeLaws::ints))]
-fn behind_int(tokens: &[Token<'_>], at: u32, aliases: Option<&Aliases>) -> u32
-    requires room { length tokens.now ≤ INPUT_LIMIT }
-    requires within { at ≤ length tokens.now }
-    ensures is { result ≡ spec_behind_int (lexemes tokens.now) (known aliases.entry) at }
-    ensures ends { (at ≤ result) × (result ≤ length tokens.now) }
+fn behind_int(reader: Reader<'_, '_>, at: u32) -> u32
+    ensures is { result ≡ spec_behind_int (input reader.entry) (named reader.entry) at }
+    ensures ends { at ≤ result }
+    ensures within { at ≤ length reader.entry.tokens.now → result ≤ length reader.entry.tokens.now }
 {
-    if is_int_at(tokens, at, aliases) {
-        at + 1
-    } else {
-        at
-    }
+    if is_int_at(reader, at) { at + 1 } else { at }
 }
 
-/// A base (C11 6.7.2).
+/// A base, by its first sign (C11 6.7.2).
 #[tactic(auto, using(crate::proofs::TypeLaws::bases))]
-fn base<'a>(
-    bump: &'a Bump,
-    tokens: &[Token<'_>],
-    at: u32,
-    aliases: Option<&Aliases>,
-) -> Result<Based<'a>, SyntaxRefusal>
-    requires room { length tokens.now ≤ INPUT_LIMIT }
-    requires within { at ≤ length tokens.now }
-    ensures gives { Gives seen_base result (base_at (lexemes tokens.now) (known aliases.entry) at) }
-    ensures ends { IfOk result (λ r. (at < r.next) × (r.next ≤ length tokens.now)) }
+fn base<'a>(reader: Reader<'a, '_>, at: u32, sign: Sign) -> Result<BaseReading<'a>, SyntaxRefusal>
+    requires within { sign ≢ Sign.End → at < length reader.tokens.now }
+    ensures gives { Gives seen_base result (base_by (input reader.entry) (named reader.entry) at sign) }
+    ensures ends { IfOk result (λ r. (at < r.next) × (r.next ≤ length reader.entry.tokens.now)) }
 {
-    match sign_at(tokens, at, aliases) {
-        Sign::Keyword(word) => worded(bump, tokens, at, aliases, word),
+    match sign {
+        Sign::Keyword(word) => keyword_base(reader, at, word),
         Sign::TypeName => {
-            let name = name_at(bump, tokens, at)?;
-            Ok(of(BaseType::Alias(name), at + 1))
+            let name = reader.name(at)?;
+            base_before(BaseType::Alias(name), at + 1)
         }
         _ => Err(refuse(SyntaxCode::SY1, at)),
     }
@@ -136,40 +125,36 @@ fn base<'a>(
 
 /// A base that begins with a keyword.
 #[tactic(auto, using(crate::proofs::TypeLaws::words))]
-fn worded<'a>(
-    bump: &'a Bump,
-    tokens: &[Token<'_>],
+fn keyword_base<'a>(
+    reader: Reader<'a, '_>,
     at: u32,
-    aliases: Option<&Aliases>,
     word: Keyword,
-) -> Result<Based<'a>, SyntaxRefusal>
-    requires room { length tokens.now ≤ INPUT_LIMIT }
-    requires within { at < length tokens.now }
-    requires there { spec_sign (lexemes tokens.now) (known aliases) at ≡ Sign.Keyword word }
-    ensures gives { Gives seen_base result (base_at (lexemes tokens.now) (known aliases.entry) at) }
-    ensures ends { IfOk result (λ r. (at < r.next) × (r.next ≤ length tokens.now)) }
+) -> Result<BaseReading<'a>, SyntaxRefusal>
+    requires within { at < length reader.tokens.now }
+    ensures gives { Gives seen_base result (base_by (input reader.entry) (named reader.entry) at (Sign.Keyword word)) }
+    ensures ends { IfOk result (λ r. (at < r.next) × (r.next ≤ length reader.entry.tokens.now)) }
 {
     let next = at + 1;
     match word {
-        Keyword::Int => Ok(of(BaseType::Int, next)),
-        Keyword::Signed => Ok(of(BaseType::Int, behind_int(tokens, next, aliases))),
-        Keyword::Unsigned => Ok(of(BaseType::Unsigned, behind_int(tokens, next, aliases))),
-        Keyword::Void => Ok(of(BaseType::Void, next)),
+        Keyword::Int => base_before(BaseType::Int, next),
+        Keyword::Signed => base_before(BaseType::Int, behind_int(reader, next)),
+        Keyword::Unsigned => base_before(BaseType::Unsigned, behind_int(reader, next)),
+        Keyword::Void => base_before(BaseType::Void, next),
         Keyword::Struct => {
-            let tag = tag(bump, tokens, next, aliases)?;
-            Ok(of(BaseType::Structure(tag), next + 1))
+            let tag = tag(reader, next)?;
+            base_before(BaseType::Structure(tag), next + 1)
         }
         Keyword::Enum => {
-            let tag = tag(bump, tokens, next, aliases)?;
-            Ok(of(BaseType::Enumerated(tag), next + 1))
+            let tag = tag(reader, next)?;
+            base_before(BaseType::Enumerated(tag), next + 1)
         }
         _ => Err(refuse(SyntaxCode::SY1, at)),
     }
 }
 
-fn of<'a>(base: BaseType<'a>, next: u32) -> Based<'a>
-    ensures base_is { result.base ≡ base.entry }
-    ensures next_is { result.next ≡ next }
+/// A base that ends before a token.
+fn base_before<'a>(base: BaseType<'a>, next: u32) -> Result<BaseReading<'a>, SyntaxRefusal>
+    ensures is { IsOkAnd result (λ r. (r.base ≡ base.entry) × (r.next ≡ next)) }
 {
-    Based { base, next }
+    Ok(BaseReading { base, next })
 }

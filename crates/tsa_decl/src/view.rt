@@ -1,61 +1,59 @@
 //! What declarations see at a place of the tokens.
-ghost use Rattle.std.specs.Prelude.{◌≡◌, ◌+◌, ◌≤◌, ◌<◌, true, length, IfOk};
-ghost use Rattle.tsa_base.specs.declared.limits.TheConstants.{INPUT_LIMIT, NESTING_LIMIT};
-ghost use Rattle.tsa_tree.specs.Rows.{a_keyword, a_semicolon, a_close_brace, an_open, sees};
-ghost use Rattle.tsa_tree.specs.Shapes.{name_shape};
-ghost use Rattle.tsa_tree.specs.Signs.{lexemes, is_lone_void as spec_lone_void};
+ghost use Rattle.std.specs.Prelude.{◌≡◌, ◌≢◌, ◌+◌, ◌≤◌, ◌<◌, ◌&&◌, true, length, IfOk};
+ghost use Rattle.tsa_base.specs.declared.limits.TheConstants.{NESTING_LIMIT};
+ghost use Rattle.tsa_tree.specs.Rows.{a_keyword, is_keyword, a_semicolon, a_close_brace, sees};
+ghost use Rattle.tsa_tree.specs.Signs.{sign_at as spec_sign, is_void, is_close};
 ghost use Rattle.tsa_tree.specs.declared.sign.Keyword.TheVariants as key;
+ghost use Rattle.tsa_expr.specs.Source.{input, named};
 ghost use Rattle.tsa_expr.specs.Gives.{Gives};
-ghost use Rattle.tsa_expr.specs.Known.{known};
 ghost use Rattle.tsa_decl.specs.Outcomes.{name_at as spec_name, tag_at as spec_tag, one_token, opening, opening_brace};
 ghost use Rattle.tsa_decl.specs.Seen.{seen_name, passed};
 
-use bumpalo::Bump;
-use tsa_base::{NESTING_LIMIT, Token};
-use tsa_expr::{Aliases, SyntaxCode, SyntaxRefusal, name_at, refuse, sign_at};
+use tsa_base::NESTING_LIMIT;
+use tsa_expr::{Reader, SyntaxCode, SyntaxRefusal, refuse};
 use tsa_tree::expr::Name;
 use tsa_tree::sign::{Keyword, Sign};
 
-/// Whether a word is a keyword's at a place.
-pub fn is_const_at(tokens: &[Token<'_>], at: u32, aliases: Option<&Aliases>) -> bool
-    ensures is { result ≡ sees (lexemes tokens.now) (a_keyword (known aliases.entry) key.Const) at }
-    ensures inside { result ≡ true → at < length tokens.now }
+/// Whether a sign is that of `const`.
+pub fn is_const(sign: Sign) -> bool
+    ensures is { result ≡ is_keyword key.Const sign }
+    ensures inside { result ≡ true → sign ≢ Sign.End }
 {
-    match sign_at(tokens, at, aliases) {
+    match sign {
         Sign::Keyword(Keyword::Const) => true,
         _ => false,
     }
 }
 
 /// Whether `int` stands at a place.
-pub fn is_int_at(tokens: &[Token<'_>], at: u32, aliases: Option<&Aliases>) -> bool
-    ensures is { result ≡ sees (lexemes tokens.now) (a_keyword (known aliases.entry) key.Int) at }
-    ensures inside { result ≡ true → at < length tokens.now }
+pub fn is_int_at(reader: Reader<'_, '_>, at: u32) -> bool
+    ensures is { result ≡ sees (input reader.entry) (a_keyword (named reader.entry) key.Int) at }
+    ensures inside { result ≡ true → at < length reader.entry.tokens.now }
 {
-    match sign_at(tokens, at, aliases) {
+    match reader.sign(at) {
         Sign::Keyword(Keyword::Int) => true,
         _ => false,
     }
 }
 
 /// Whether a closing brace stands at a place.
-pub fn is_close_brace_at(tokens: &[Token<'_>], at: u32, aliases: Option<&Aliases>) -> bool
-    ensures is { result ≡ sees (lexemes tokens.now) (a_close_brace (known aliases.entry)) at }
-    ensures inside { result ≡ true → at < length tokens.now }
+pub fn is_close_brace_at(reader: Reader<'_, '_>, at: u32) -> bool
+    ensures is { result ≡ sees (input reader.entry) (a_close_brace (named reader.entry)) at }
+    ensures inside { result ≡ true → at < length reader.entry.tokens.now }
 {
-    match sign_at(tokens, at, aliases) {
+    match reader.sign(at) {
         Sign::CloseBrace => true,
         _ => false,
     }
 }
 
-/// Whether `void` stands alone before a closing parenthesis.
-pub fn is_lone_void(tokens: &[Token<'_>], at: u32, aliases: Option<&Aliases>) -> bool
-    requires within { at ≤ INPUT_LIMIT }
-    ensures { result ≡ spec_lone_void (lexemes tokens.now) (known aliases.entry) at }
+/// Whether a sign that stands at a place is that of `void` alone before a closing parenthesis.
+pub fn is_lone_void(reader: Reader<'_, '_>, at: u32, sign: Sign) -> bool
+    requires within { sign ≢ Sign.End → at < length reader.tokens.now }
+    ensures { result ≡ (is_void sign && is_close (spec_sign (input reader.entry) (named reader.entry) (at + 1))) }
 {
-    match sign_at(tokens, at, aliases) {
-        Sign::Keyword(Keyword::Void) => match sign_at(tokens, at + 1, aliases) {
+    match sign {
+        Sign::Keyword(Keyword::Void) => match reader.sign(at + 1) {
             Sign::Close => true,
             _ => false,
         },
@@ -65,36 +63,26 @@ pub fn is_lone_void(tokens: &[Token<'_>], at: u32, aliases: Option<&Aliases>) ->
 
 /// The name at a place, kept in the arena.
 #[tactic(auto, using(crate::proofs::TokenLaws::names))]
-pub fn name<'a>(
-    bump: &'a Bump,
-    tokens: &[Token<'_>],
-    at: u32,
-    aliases: Option<&Aliases>,
-) -> Result<Name<'a>, SyntaxRefusal>
-    ensures gives { Gives (seen_name at) result (spec_name (lexemes tokens.now) (known aliases.entry) at) }
-    ensures inside { IfOk result (λ name. at < length tokens.now) }
+pub fn name<'a>(reader: Reader<'a, '_>, at: u32) -> Result<Name<'a>, SyntaxRefusal>
+    ensures gives { Gives (seen_name at) result (spec_name (input reader.entry) (named reader.entry) at) }
+    ensures inside { IfOk result (λ name. at < length reader.entry.tokens.now) }
 {
-    let Sign::Name = sign_at(tokens, at, aliases) else {
+    let Sign::Name = reader.sign(at) else {
         return Err(refuse(SyntaxCode::SY1, at));
     };
-    let name = name_at(bump, tokens, at)?;
+    let name = reader.name(at)?;
     Ok(name)
 }
 
 /// The tag at a place, kept in the arena (C11 6.2.3): a name or the name of a type.
 #[tactic(auto, using(crate::proofs::TokenLaws::tags))]
-pub fn tag<'a>(
-    bump: &'a Bump,
-    tokens: &[Token<'_>],
-    at: u32,
-    aliases: Option<&Aliases>,
-) -> Result<Name<'a>, SyntaxRefusal>
-    ensures gives { Gives (seen_name at) result (spec_tag (lexemes tokens.now) (known aliases.entry) at) }
-    ensures inside { IfOk result (λ name. at < length tokens.now) }
+pub fn tag<'a>(reader: Reader<'a, '_>, at: u32) -> Result<Name<'a>, SyntaxRefusal>
+    ensures gives { Gives (seen_name at) result (spec_tag (input reader.entry) (named reader.entry) at) }
+    ensures inside { IfOk result (λ name. at < length reader.entry.tokens.now) }
 {
-    match sign_at(tokens, at, aliases) {
+    match reader.sign(at) {
         Sign::Name | Sign::TypeName => {
-            let name = name_at(bump, tokens, at)?;
+            let name = reader.name(at)?;
             Ok(name)
         }
         _ => Err(refuse(SyntaxCode::SY1, at)),
@@ -103,16 +91,11 @@ pub fn tag<'a>(
 
 /// Behind the `;` that has to stand at a place.
 #[tactic(auto, using(crate::proofs::TokenLaws::semicolons))]
-pub fn semicolon(
-    tokens: &[Token<'_>],
-    at: u32,
-    aliases: Option<&Aliases>,
-) -> Result<u32, SyntaxRefusal>
-    requires room { length tokens.now ≤ INPUT_LIMIT }
-    ensures gives { Gives passed result (one_token (lexemes tokens.now) (a_semicolon (known aliases.entry)) at) }
-    ensures ends { IfOk result (λ next. (next ≡ at + 1) × (next ≤ length tokens.now)) }
+pub fn semicolon(reader: Reader<'_, '_>, at: u32) -> Result<u32, SyntaxRefusal>
+    ensures gives { Gives passed result (one_token (input reader.entry) (a_semicolon (named reader.entry)) at) }
+    ensures ends { IfOk result (λ next. (next ≡ at + 1) × (next ≤ length reader.entry.tokens.now)) }
 {
-    match sign_at(tokens, at, aliases) {
+    match reader.sign(at) {
         Sign::Semicolon => Ok(at + 1),
         _ => Err(refuse(SyntaxCode::SY1, at)),
     }
@@ -120,18 +103,12 @@ pub fn semicolon(
 
 /// Behind the parenthesis that has to stand at a place and opens a construct, where `depth` are open.
 #[tactic(auto, using(crate::proofs::TokenLaws::openings))]
-pub fn open(
-    tokens: &[Token<'_>],
-    at: u32,
-    depth: u32,
-    aliases: Option<&Aliases>,
-) -> Result<u32, SyntaxRefusal>
-    requires room { length tokens.now ≤ INPUT_LIMIT }
-    ensures gives { Gives passed result (opening (lexemes tokens.now) (known aliases.entry) depth at) }
-    ensures ends { IfOk result (λ next. (next ≡ at + 1) × (next ≤ length tokens.now)) }
+pub fn open(reader: Reader<'_, '_>, at: u32, depth: u32) -> Result<u32, SyntaxRefusal>
+    ensures gives { Gives passed result (opening (input reader.entry) (named reader.entry) depth at) }
+    ensures ends { IfOk result (λ next. (next ≡ at + 1) × (next ≤ length reader.entry.tokens.now)) }
     ensures shallow { IfOk result (λ next. depth < NESTING_LIMIT) }
 {
-    let Sign::Open = sign_at(tokens, at, aliases) else {
+    let Sign::Open = reader.sign(at) else {
         return Err(refuse(SyntaxCode::SY1, at));
     };
     if depth >= NESTING_LIMIT {
@@ -142,18 +119,12 @@ pub fn open(
 
 /// Behind the brace that has to stand at a place and opens a construct, where `depth` are open.
 #[tactic(auto, using(crate::proofs::TokenLaws::opening_braces))]
-pub fn open_brace(
-    tokens: &[Token<'_>],
-    at: u32,
-    depth: u32,
-    aliases: Option<&Aliases>,
-) -> Result<u32, SyntaxRefusal>
-    requires room { length tokens.now ≤ INPUT_LIMIT }
-    ensures gives { Gives passed result (opening_brace (lexemes tokens.now) (known aliases.entry) depth at) }
-    ensures ends { IfOk result (λ next. (next ≡ at + 1) × (next ≤ length tokens.now)) }
+pub fn open_brace(reader: Reader<'_, '_>, at: u32, depth: u32) -> Result<u32, SyntaxRefusal>
+    ensures gives { Gives passed result (opening_brace (input reader.entry) (named reader.entry) depth at) }
+    ensures ends { IfOk result (λ next. (next ≡ at + 1) × (next ≤ length reader.entry.tokens.now)) }
     ensures shallow { IfOk result (λ next. depth < NESTING_LIMIT) }
 {
-    let Sign::OpenBrace = sign_at(tokens, at, aliases) else {
+    let Sign::OpenBrace = reader.sign(at) else {
         return Err(refuse(SyntaxCode::SY1, at));
     };
     if depth >= NESTING_LIMIT {

@@ -15,6 +15,7 @@ use Rattle.tsa_tree.specs.Signs.{Aliases, sign_at, span_over, identifier_at, acc
 use Rattle.tsa_expr.specs.declared.refusal.SyntaxRefusal.{SyntaxRefusal}
 use Rattle.tsa_expr.specs.Gives.{Fails}
 use Rattle.tsa_expr.proofs.Answering.{fails_then, fails_same, gives_same, then_done, in_limit, over_limit, not_name, not_close_bracket, not_postfix}
+use Rattle.tsa_expr.proofs.Places.{sign_within, access_within}
 
 module _ (ts : List Lexeme) (aliases : Aliases) where
   abbrev going : Row an_expression → ℕ → Outcome Expression
@@ -115,6 +116,6 @@ module _ (ts : List Lexeme) (aliases : Aliases) where
 
 pub ruleset accesses = (access_none, fails_same, gives_same)
 
-pub ruleset members = (member_high, member_nameless, member_leads)
+pub ruleset members = (member_high, member_nameless, member_leads, access_within)
 
-pub ruleset elements = (index_high, index_deep, index_fails, index_unclosed, index_leads)
+pub ruleset elements = (index_high, index_deep, index_fails, index_unclosed, index_leads, sign_within)

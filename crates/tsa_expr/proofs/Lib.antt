@@ -3,6 +3,7 @@ pub mod WordRows
 pub mod AttributeRows
 pub mod Rows
 pub mod Answering
+pub mod Places
 pub mod Climbing
 pub mod Operands
 pub mod Accesses

@@ -16,6 +16,7 @@ use Rattle.tsa_expr.specs.declared.refusal.SyntaxRefusal.{SyntaxRefusal}
 use Rattle.tsa_expr.specs.Gives.{Fails}
 use Rattle.tsa_expr.specs.Seen.{joined, after}
 use Rattle.tsa_expr.proofs.Answering.{fails_then, fails_same, gives_same, not_close, not_comma}
+use Rattle.tsa_expr.proofs.Places.{read_ends}
 
 joined-one : (front : Arguments) (x : Expression) (rest : Arguments) → joined (joined front (more x none)) rest ≡ joined front (more x rest)
 joined-one none x rest = refl
@@ -38,6 +39,18 @@ after-more : (front : Arguments) (x : Expression) (r : Outcome Arguments) → af
 unfolding then
 after-more front x (Ok p) = ap (λ xs. Ok (xs, p.1)) (sym (joined-one front x p.0))
 after-more front x (Err e) = refl
+
+after_none : (r : Outcome Arguments) → after none r ≡ r
+unfolding then
+after_none (Ok p) = refl
+after_none (Err e) = refl
+
+-- behind an empty list nothing is put in front
+pub list_whole : (zs : List Expr) (r : Outcome Arguments) (xs : Arguments) (n : ℕ) → zs ≡ [] → after (shapes zs) r ≡ Ok (xs, n) → r ≡ Ok (xs, n)
+list_whole zs r xs n z h = sym (after_none r) ∙ ap (λ zs. after (shapes zs) r) (sym z) ∙ h
+
+pub list_refused : (zs : List Expr) (r : Outcome Arguments) (e : SyntaxRefusal) → zs ≡ [] → Fails e (after (shapes zs) r) → Fails e r
+list_refused zs r e z h = fails_same e _ _ (sym (after_none r) ∙ ap (λ zs. after (shapes zs) r) (sym z)) h
 
 module _ (ts : List Lexeme) (aliases : Aliases) where
   abbrev going : Row some_arguments → ℕ → Outcome Arguments
@@ -71,3 +84,5 @@ module _ (ts : List Lexeme) (aliases : Aliases) where
       ∙ after-more front x _
 
 pub ruleset lists = (list_fails, list_wrong, list_last, list_more, shapes-push, heights-push, fails_same)
+
+pub ruleset arguments = (list_whole, list_refused, read_ends)

@@ -15,13 +15,8 @@ use Rattle.tsa_tree.specs.Rows.{an_expression, some_arguments, expression, opera
 use Rattle.tsa_tree.specs.Signs.{Aliases, sign_at, span_at, span_over, identifier_at, value_at, unsigned_at, prefix, prefix_of}
 use Rattle.tsa_expr.specs.declared.refusal.SyntaxRefusal.{SyntaxRefusal}
 use Rattle.tsa_expr.specs.Gives.{Fails}
-use Rattle.tsa_expr.specs.Seen.{after}
 use Rattle.tsa_expr.proofs.Answering.{fails_then, fails_same, gives_same, in_limit, over_limit, not_open, not_close}
-
-pub after_none : (r : Outcome Arguments) → after none r ≡ r
-unfolding then
-after_none (Ok p) = refl
-after_none (Err e) = refl
+use Rattle.tsa_expr.proofs.Places.{sign_within, read_ends}
 
 module _ (ts : List Lexeme) (aliases : Aliases) where
   abbrev going : Row an_expression → ℕ → Outcome Expression
@@ -140,17 +135,17 @@ module _ (ts : List Lexeme) (aliases : Aliases) where
   call_some d m e o h c = call_at d m e o h ∙ other _ _ _ (not_close (sign_at ts aliases (m + 1 + 1)) c)
 
   pub call_fails : (d m : ℕ) (e : SyntaxRefusal) → sign_at ts aliases m ≡ sign.Name → sign_at ts aliases (m + 1) ≡ sign.Open → d < 100 → sign_at ts aliases (m + 1 + 1) ≢ sign.Close
-      → Fails e (after none (read ts some_arguments (series aliases (d + 1)) (m + 1 + 1))) → Fails e (read ts an_expression (operand aliases d) m)
-  call_fails d m e s o h c f = fails_same e _ _ (call_some d m s o h c) (fails_then e _ _ (fails_same e _ _ (sym (after_none _)) f))
+      → Fails e (read ts some_arguments (series aliases (d + 1)) (m + 1 + 1)) → Fails e (read ts an_expression (operand aliases d) m)
+  call_fails d m e s o h c f = fails_same e _ _ (call_some d m s o h c) (fails_then e _ _ f)
 
   pub call_leads : (d m : ℕ) (xs : Arguments) (n : ℕ) → sign_at ts aliases m ≡ sign.Name → sign_at ts aliases (m + 1) ≡ sign.Open → d < 100 → sign_at ts aliases (m + 1 + 1) ≢ sign.Close
-      → after none (read ts some_arguments (series aliases (d + 1)) (m + 1 + 1)) ≡ Ok (xs, n)
+      → read ts some_arguments (series aliases (d + 1)) (m + 1 + 1) ≡ Ok (xs, n)
       → read ts an_expression (operand aliases d) m ≡ read_behind ts aliases d m (call (identifier_at ts m) xs (span_over ts m n)) n
   unfolding read_behind
-  call_leads d m xs n s o h c e = call_some d m s o h c ∙ goes _ _ xs n (sym (after_none _) ∙ e)
+  call_leads d m xs n s o h c e = call_some d m s o h c ∙ goes _ _ xs n e
 
-pub ruleset operands = (prefix_deep, prefix_fails, prefix_reads, gives_same)
+pub ruleset operands = (prefix_deep, prefix_fails, prefix_reads, gives_same, read_ends)
 
-pub ruleset primaries = (number_leads, null_leads, wrong_fails, paren_deep, paren_fails, paren_unclosed, paren_leads)
+pub ruleset primaries = (number_leads, null_leads, wrong_fails, paren_deep, paren_fails, paren_unclosed, paren_leads, sign_within)
 
-pub ruleset names = (name_leads, call_deep, call_none, call_fails, call_leads)
+pub ruleset names = (name_leads, call_deep, call_none, call_fails, call_leads, sign_within)

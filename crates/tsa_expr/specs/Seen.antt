@@ -1,17 +1,18 @@
 -- What the readers' results are without the arena.
 use Rattle.std.specs.Prelude.{ℕ, Ok}
 use Rattle.tsa_forms.specs.Reading.{Outcome, then}
-use Rattle.tsa_tree.specs.declared.expr.Expr.{Expr}
 use Rattle.tsa_tree.specs.Expressions.{Expression, Arguments, none, more}
-use Rattle.tsa_tree.specs.Shapes.{shape}
+use Rattle.tsa_tree.specs.Shapes.{shape, shapes}
+use Rattle.tsa_expr.specs.declared.reading.ArgumentList.{ArgumentList}
 use Rattle.tsa_expr.specs.declared.reading.Reading.{Reading}
 
 -- what was read, and the place after it
 abbrev pub seen : Reading → Expression × ℕ
 seen reading = (shape reading.tree, reading.next)
 
-abbrev pub seen_pair : Expr × ℕ → Expression × ℕ
-seen_pair pair = (shape pair.0, pair.1)
+-- the same of arguments
+abbrev pub seen_list : ArgumentList → Arguments × ℕ
+seen_list list = (shapes list.items.now, list.next)
 
 abbrev pub joined : Arguments → Arguments → Arguments
 joined none others = others

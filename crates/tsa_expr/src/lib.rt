@@ -10,19 +10,14 @@ mod reader;
 mod reading;
 mod refusal;
 mod sign;
+mod source;
 mod table;
-mod view;
 mod words;
 
 pub use aliases::Aliases;
 pub use meaning::meaning_of;
-pub use read::{read_expr, read_expression, read_operand, read_rest, read_series, read_unary};
-pub use reading::Reading;
+pub use read::{read_expr, read_unary};
+pub use reading::{ArgumentList, Reading};
 pub use refusal::{SyntaxCode, SyntaxRefusal, refuse};
 pub use sign::sign_of;
-pub use view::{is_word_at, meaning_at, name_at, number_at, sign_at, span_at, span_over};
-
-#[cfg(test)]
-mod alias_tests;
-#[cfg(test)]
-mod tests;
+pub use source::Reader;

@@ -2,7 +2,7 @@
 ghost use Rattle.std.specs.Prelude.{◌≡◌};
 ghost use Rattle.tsa_tree.specs.Signs.{listed as spec_listed, attribute_names, bare_name as spec_bare, meaning_of as spec_meaning};
 
-use crate::table::listed;
+use crate::table::look_up;
 use tsa_tree::attr::AttrKind;
 use tsa_tree::sign::Meaning;
 
@@ -113,23 +113,23 @@ fn named_meaning(text: &[u8]) -> Option<Meaning>
     ensures { result ≡ spec_listed attribute_names text.now }
 {
     match text.len() {
-        8 => listed(text, &OF_EIGHT),
-        10 => listed(text, &OF_TEN),
-        11 => listed(text, &OF_ELEVEN),
-        13 => listed(text, &OF_THIRTEEN),
-        14 => listed(text, &OF_FOURTEEN),
-        15 => listed(text, &OF_FIFTEEN),
-        17 => listed(text, &OF_SEVENTEEN),
-        18 => listed(text, &OF_EIGHTEEN),
-        19 => listed(text, &OF_NINETEEN),
-        20 => listed(text, &OF_TWENTY),
-        21 => listed(text, &OF_TWENTY_ONE),
-        22 => listed(text, &OF_TWENTY_TWO),
-        23 => listed(text, &OF_TWENTY_THREE),
-        24 => listed(text, &OF_TWENTY_FOUR),
-        25 => listed(text, &OF_TWENTY_FIVE),
-        26 => listed(text, &OF_TWENTY_SIX),
-        29 => listed(text, &OF_TWENTY_NINE),
+        8 => look_up(text, &OF_EIGHT),
+        10 => look_up(text, &OF_TEN),
+        11 => look_up(text, &OF_ELEVEN),
+        13 => look_up(text, &OF_THIRTEEN),
+        14 => look_up(text, &OF_FOURTEEN),
+        15 => look_up(text, &OF_FIFTEEN),
+        17 => look_up(text, &OF_SEVENTEEN),
+        18 => look_up(text, &OF_EIGHTEEN),
+        19 => look_up(text, &OF_NINETEEN),
+        20 => look_up(text, &OF_TWENTY),
+        21 => look_up(text, &OF_TWENTY_ONE),
+        22 => look_up(text, &OF_TWENTY_TWO),
+        23 => look_up(text, &OF_TWENTY_THREE),
+        24 => look_up(text, &OF_TWENTY_FOUR),
+        25 => look_up(text, &OF_TWENTY_FIVE),
+        26 => look_up(text, &OF_TWENTY_SIX),
+        29 => look_up(text, &OF_TWENTY_NINE),
         _ => None,
     }
 }

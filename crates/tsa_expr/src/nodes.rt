@@ -1,184 +1,122 @@
-//! The nodes of expressions are made, with their heights and the tokens after them.
-ghost use Rattle.std.specs.Prelude.{◌≡◌, ◌+◌, ◌<◌, ◌^◌, ◌++◌, ◌∷◌, [], IfOk, OnOk, OnErr, Err};
-ghost use Rattle.tsa_tree.specs.Expressions.{number as a_number, null as a_null, named as a_name, call, unary, binary, field, index, height as height_of, heights};
-ghost use Rattle.tsa_tree.specs.Shapes.{name_shape, shape, shapes};
+//! The nodes of expressions are made, with their heights and places.
+ghost use Rattle.std.specs.Prelude.{◌≡◌, ◌+◌, ◌<◌, ◌++◌, ◌∷◌, [], length, IfOk, OnOk, OnErr, Err};
+ghost use Rattle.tsa_tree.specs.Expressions.{call as a_call, unary as a_unary, binary as a_binary, height as height_of};
+ghost use Rattle.tsa_tree.specs.Shapes.{name_shape, kind_shape, shape, shapes};
+ghost use Rattle.tsa_tree.specs.Signs.{span_at as spec_span, span_over as spec_over};
 
-use crate::reading::{Extent, Reading};
+use crate::reading::{ArgumentList, Reading};
 use crate::refusal::SyntaxRefusal;
+use crate::source::Reader;
 use bumpalo::Bump;
 use bumpalo::collections::into_bump_slice;
-use tsa_base::Span;
 use tsa_tree::expr::{BinaryOp, Expr, ExprKind, Name, UnaryOp};
 
-/// A number, before the token `next`.
-pub fn number<'a>(value: u32, unsigned: bool, span: Span, next: u32) -> Reading<'a>
-    ensures is { shape result.tree ≡ a_number value unsigned span }
-    ensures next_is { result.next ≡ next }
-    ensures high { result.height ≡ 1 }
-{
-    let kind = ExprKind::Number { value, unsigned };
-    Reading {
-        tree: Expr { kind, span },
-        height: 1,
-        next,
+impl<'a, 't> Reader<'a, 't> {
+    ghost use Rattle.tsa_expr.specs.Source.{input};
+
+    /// The expression of one token.
+    pub fn leaf(self, at: u32, kind: ExprKind<'a>) -> Reading<'a>
+        requires within { at < length self.tokens.now }
+        requires low { height_of (kind_shape kind (spec_span (input self) at)) ≡ 1 }
+        ensures is { shape result.tree ≡ kind_shape kind.entry (spec_span (input self.entry) at) }
+        ensures begins { result.start ≡ at }
+        ensures ends { result.next ≡ at + 1 }
+    {
+        let span = self.span(at);
+        Reading {
+            tree: Expr { kind, span },
+            height: 1,
+            start: at,
+            next: at + 1,
+        }
     }
-}
 
-/// The null pointer, before the token `next`.
-pub fn null<'a>(span: Span, next: u32) -> Reading<'a>
-    ensures is { shape result.tree ≡ a_null span }
-    ensures next_is { result.next ≡ next }
-    ensures high { result.height ≡ 1 }
-{
-    let kind = ExprKind::Null;
-    Reading {
-        tree: Expr { kind, span },
-        height: 1,
-        next,
+    /// The call whose name stands at a token.
+    pub fn call(self, at: u32, callee: Name<'a>, args: ArgumentList<'a>) -> Reading<'a>
+        requires before { at < args.start }
+        ensures is { shape result.tree ≡ a_call (name_shape callee.entry) (shapes args.entry.items.now) (spec_over (input self.entry) at args.entry.next) }
+        ensures begins { result.start ≡ at }
+        ensures ends { result.next ≡ args.entry.next }
+    {
+        let span = self.over(at, args.next);
+        let kind = ExprKind::Call {
+            callee,
+            args: args.items,
+        };
+        Reading {
+            tree: Expr { kind, span },
+            height: args.height + 1,
+            start: at,
+            next: args.next,
+        }
     }
-}
 
-/// A name as an expression, before the token `next`.
-pub fn named<'a>(name: Name<'a>, span: Span, next: u32) -> Reading<'a>
-    ensures is { shape result.tree ≡ a_name (name_shape name.entry) span }
-    ensures next_is { result.next ≡ next }
-    ensures high { result.height ≡ 1 }
-{
-    let kind = ExprKind::Named(name);
-    Reading {
-        tree: Expr { kind, span },
-        height: 1,
-        next,
+    /// A prefix operator before its operand.
+    pub fn unary(
+        self,
+        at: u32,
+        op: UnaryOp,
+        inner: Reading<'a>,
+    ) -> Result<Reading<'a>, SyntaxRefusal>
+        requires before { at < inner.start }
+        ensures memory { OnErr result (result ≡ Err SyntaxRefusal.NoMemory) }
+        ensures is { IfOk result (λ r. shape r.tree ≡ a_unary op (shape inner.entry.tree) (spec_over (input self.entry) at inner.entry.next)) }
+        ensures begins { IfOk result (λ r. r.start ≡ at) }
+        ensures ends { IfOk result (λ r. r.next ≡ inner.entry.next) }
+    {
+        let span = self.over(at, inner.next);
+        let height = inner.height + 1;
+        let next = inner.next;
+        let inner = self.keep(inner.tree)?;
+        let kind = ExprKind::Unary { op, inner };
+        Ok(Reading {
+            tree: Expr { kind, span },
+            height,
+            start: at,
+            next,
+        })
     }
-}
 
-/// A call with the arguments that the extent measures.
-pub fn called<'a>(callee: Name<'a>, args: &'a [Expr<'a>], extent: Extent, span: Span) -> Reading<'a>
-    requires low_in { extent.height < 2 ^ 31 }
-    requires high_is { extent.height ≡ heights (shapes args.now) }
-    ensures is { shape result.tree ≡ call (name_shape callee.entry) (shapes args.entry.now) span }
-    ensures next_is { result.next ≡ extent.next }
-    ensures height_is { result.height ≡ extent.height + 1 }
-    ensures high { result.height ≡ height_of (shape result.tree) }
-{
-    let kind = ExprKind::Call { callee, args };
-    Reading {
-        tree: Expr { kind, span },
-        height: extent.height + 1,
-        next: extent.next,
+    /// A binary operator between its operands.
+    pub fn binary(
+        self,
+        op: BinaryOp,
+        left: Reading<'a>,
+        right: Reading<'a>,
+    ) -> Result<Reading<'a>, SyntaxRefusal>
+        requires between { left.next < right.start }
+        ensures memory { OnErr result (result ≡ Err SyntaxRefusal.NoMemory) }
+        ensures is { IfOk result (λ r. shape r.tree ≡ a_binary op (shape left.entry.tree) (shape right.entry.tree) (spec_over (input self.entry) left.entry.start right.entry.next)) }
+        ensures begins { IfOk result (λ r. r.start ≡ left.entry.start) }
+        ensures ends { IfOk result (λ r. r.next ≡ right.entry.next) }
+    {
+        let span = self.over(left.start, right.next);
+        let height = left.height.max(right.height) + 1;
+        let start = left.start;
+        let next = right.next;
+        let left = self.keep(left.tree)?;
+        let right = self.keep(right.tree)?;
+        let kind = ExprKind::Binary { op, left, right };
+        Ok(Reading {
+            tree: Expr { kind, span },
+            height,
+            start,
+            next,
+        })
     }
-}
 
-/// A prefix operator before its operand.
-pub fn prefixed<'a>(
-    bump: &'a Bump,
-    op: UnaryOp,
-    inner: Reading<'a>,
-    span: Span,
-) -> Result<Reading<'a>, SyntaxRefusal>
-    requires low_in { inner.height < 2 ^ 31 }
-    requires high_is { inner.height ≡ height_of (shape inner.tree) }
-    ensures memory { OnErr result (result ≡ Err SyntaxRefusal.NoMemory) }
-    ensures is { IfOk result (λ r. shape r.tree ≡ unary op (shape inner.entry.tree) span) }
-    ensures next { IfOk result (λ r. r.next ≡ inner.entry.next) }
-    ensures high { IfOk result (λ r. r.height ≡ height_of (shape r.tree)) }
-{
-    let height = 1 + inner.height;
-    let next = inner.next;
-    let inner: &'a Expr<'a> = bump.try_alloc(inner.tree)?;
-    let kind = ExprKind::Unary { op, inner };
-    Ok(Reading {
-        tree: Expr { kind, span },
-        height,
-        next,
-    })
-}
-
-/// A binary operator between its operands.
-pub fn join<'a>(
-    bump: &'a Bump,
-    op: BinaryOp,
-    left: Reading<'a>,
-    right: Reading<'a>,
-    span: Span,
-) -> Result<Reading<'a>, SyntaxRefusal>
-    requires left_low { left.height < 2 ^ 31 }
-    requires right_low { right.height < 2 ^ 31 }
-    requires left_is { left.height ≡ height_of (shape left.tree) }
-    requires right_is { right.height ≡ height_of (shape right.tree) }
-    ensures memory { OnErr result (result ≡ Err SyntaxRefusal.NoMemory) }
-    ensures is { IfOk result (λ r. shape r.tree ≡ binary op (shape left.entry.tree) (shape right.entry.tree) span) }
-    ensures next { IfOk result (λ r. r.next ≡ right.entry.next) }
-    ensures high { IfOk result (λ r. r.height ≡ height_of (shape r.tree)) }
-{
-    let height = 1 + left.height.max(right.height);
-    let next = right.next;
-    let left: &'a Expr<'a> = bump.try_alloc(left.tree)?;
-    let right: &'a Expr<'a> = bump.try_alloc(right.tree)?;
-    let kind = ExprKind::Binary { op, left, right };
-    Ok(Reading {
-        tree: Expr { kind, span },
-        height,
-        next,
-    })
-}
-
-/// A member by its name, before the token `next`.
-pub fn membered<'a>(
-    bump: &'a Bump,
-    base: Reading<'a>,
-    name: Name<'a>,
-    arrow: bool,
-    span: Span,
-    next: u32,
-) -> Result<Reading<'a>, SyntaxRefusal>
-    requires base_low { base.height < 2 ^ 31 }
-    requires base_is { base.height ≡ height_of (shape base.tree) }
-    ensures memory { OnErr result (result ≡ Err SyntaxRefusal.NoMemory) }
-    ensures is { IfOk result (λ r. shape r.tree ≡ field (shape base.entry.tree) (name_shape name.entry) arrow span) }
-    ensures next_is { IfOk result (λ r. r.next ≡ next) }
-    ensures high { IfOk result (λ r. r.height ≡ height_of (shape r.tree)) }
-{
-    let height = 1 + base.height;
-    let base: &'a Expr<'a> = bump.try_alloc(base.tree)?;
-    let kind = ExprKind::Field { base, name, arrow };
-    Ok(Reading {
-        tree: Expr { kind, span },
-        height,
-        next,
-    })
-}
-
-/// An element by its index, before the token `next`.
-pub fn indexed<'a>(
-    bump: &'a Bump,
-    base: Reading<'a>,
-    at: Reading<'a>,
-    span: Span,
-    next: u32,
-) -> Result<Reading<'a>, SyntaxRefusal>
-    requires base_low { base.height < 2 ^ 31 }
-    requires at_low { at.height < 2 ^ 31 }
-    requires base_is { base.height ≡ height_of (shape base.tree) }
-    requires at_is { at.height ≡ height_of (shape at.tree) }
-    ensures memory { OnErr result (result ≡ Err SyntaxRefusal.NoMemory) }
-    ensures is { IfOk result (λ r. shape r.tree ≡ index (shape base.entry.tree) (shape at.entry.tree) span) }
-    ensures next_is { IfOk result (λ r. r.next ≡ next) }
-    ensures high { IfOk result (λ r. r.height ≡ height_of (shape r.tree)) }
-{
-    let height = 1 + base.height.max(at.height);
-    let base: &'a Expr<'a> = bump.try_alloc(base.tree)?;
-    let index: &'a Expr<'a> = bump.try_alloc(at.tree)?;
-    let kind = ExprKind::Index { base, index };
-    Ok(Reading {
-        tree: Expr { kind, span },
-        height,
-        next,
-    })
+    /// An expression, kept in the arena.
+    pub fn keep(self, tree: Expr<'a>) -> Result<&'a Expr<'a>, SyntaxRefusal>
+        ensures is { IfOk result (λ kept. kept.now ≡ tree.entry) }
+        ensures memory { OnErr result (result ≡ Err SyntaxRefusal.NoMemory) }
+    {
+        let kept: &'a Expr<'a> = self.bump.try_alloc(tree)?;
+        Ok(kept)
+    }
 }
 
 /// One more at the end of a list, which takes room for one first and then for twice as many: most lists are short.
-pub fn keep<'a>(list: &mut Vec<Expr<'a>, &'a Bump>, item: Expr<'a>) -> Result<(), SyntaxRefusal>
+pub fn append<'a>(list: &mut Vec<Expr<'a>, &'a Bump>, item: Expr<'a>) -> Result<(), SyntaxRefusal>
     ensures gives { OnOk result (list.new.items ≡ list.old.items ++ item.entry ∷ []) }
     ensures memory { OnErr result (result ≡ Err SyntaxRefusal.NoMemory) }
 {
@@ -190,7 +128,7 @@ pub fn keep<'a>(list: &mut Vec<Expr<'a>, &'a Bump>, item: Expr<'a>) -> Result<()
 }
 
 /// A list, kept in the arena.
-pub fn listed<'a>(items: Vec<Expr<'a>, &'a Bump>) -> &'a [Expr<'a>]
+pub fn into_arena<'a>(items: Vec<Expr<'a>, &'a Bump>) -> &'a [Expr<'a>]
     ensures { shapes result.now ≡ shapes items.entry.items }
 {
     into_bump_slice(items)

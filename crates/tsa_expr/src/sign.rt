@@ -2,14 +2,14 @@
 ghost use Rattle.std.specs.Prelude.{◌≡◌, [], ◌∷◌};
 ghost use Rattle.std.specs.List.{list_any};
 ghost use Rattle.std.specs.Str.{bytes_eq};
-ghost use Rattle.tsa_tree.specs.Signs.{sign_of as spec_sign, word_sign as spec_word, punctuator_sign};
+ghost use Rattle.tsa_tree.specs.Signs.{sign_of as spec_sign, word_sign as spec_word, punctuator_sign, prefix as spec_prefix};
 ghost use Rattle.tsa_expr.specs.Known.{known};
 
 use crate::aliases::Aliases;
 use crate::words::reserved_sign;
 use tsa_base::{Token, TokenKind};
 use tsa_lex::is_reserved;
-use tsa_tree::expr::BinaryOp;
+use tsa_tree::expr::{BinaryOp, UnaryOp};
 use tsa_tree::sign::Sign;
 
 /// The sign of a token.
@@ -122,5 +122,19 @@ fn pair_sign(first: u8, second: u8) -> Sign
         (b'+', b'+') => Sign::Step(BinaryOp::Plus),
         (b'-', b'-') => Sign::Step(BinaryOp::Minus),
         _ => Sign::Other,
+    }
+}
+
+/// The prefix operator that a sign can be.
+pub fn prefix(sign: Sign) -> Option<UnaryOp>
+    ensures { result ≡ spec_prefix sign }
+{
+    match sign {
+        Sign::Not => Some(UnaryOp::Not),
+        Sign::Flip => Some(UnaryOp::Flip),
+        Sign::Operator(BinaryOp::Minus) => Some(UnaryOp::Minus),
+        Sign::Operator(BinaryOp::BitAnd) => Some(UnaryOp::Address),
+        Sign::Operator(BinaryOp::Times) => Some(UnaryOp::Follow),
+        _ => None,
     }
 }

@@ -3,12 +3,12 @@ ghost use Rattle.std.specs.Prelude.{◌≡◌};
 ghost use Rattle.std.specs.List.{find};
 ghost use Rattle.std.specs.Option.{option_copied};
 ghost use Rattle.std.specs.Str.{bytes_eq};
-ghost use Rattle.tsa_tree.specs.Signs.{listed as spec_listed};
+ghost use Rattle.tsa_tree.specs.Signs.{listed};
 
 /// What stands beside a text, where it is listed.
 #[tactic(auto, using(crate::proofs::ListedRows::found))]
-pub fn listed<const N: usize, A: Copy>(text: &[u8], rows: &[([u8; N], A)]) -> Option<A>
-    ensures { result ≡ spec_listed rows.now text.now }
+pub fn look_up<const N: usize, A: Copy>(text: &[u8], rows: &[([u8; N], A)]) -> Option<A>
+    ensures { result ≡ listed rows.now text.now }
 {
     match row_of(text, rows) {
         Some(row) => Some(row.1),

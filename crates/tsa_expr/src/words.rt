@@ -2,7 +2,7 @@
 ghost use Rattle.std.specs.Prelude.{◌≡◌};
 ghost use Rattle.tsa_tree.specs.Signs.{listed as spec_listed, word_signs};
 
-use crate::table::listed;
+use crate::table::look_up;
 use tsa_tree::attr::AttrKind;
 use tsa_tree::sign::{Keyword, Sign};
 
@@ -100,22 +100,22 @@ pub fn reserved_sign(text: &[u8]) -> Option<Sign>
     ensures { result ≡ spec_listed word_signs text.now }
 {
     match text.len() {
-        2 => listed(text, &OF_TWO),
-        3 => listed(text, &OF_THREE),
-        4 => listed(text, &OF_FOUR),
-        5 => listed(text, &OF_FIVE),
-        6 => listed(text, &OF_SIX),
-        7 => listed(text, &OF_SEVEN),
-        8 => listed(text, &OF_EIGHT),
-        10 => listed(text, &OF_TEN),
-        11 => listed(text, &OF_ELEVEN),
-        13 => listed(text, &OF_THIRTEEN),
-        14 => listed(text, &OF_FOURTEEN),
-        15 => listed(text, &OF_FIFTEEN),
-        17 => listed(text, &OF_SEVENTEEN),
-        18 => listed(text, &OF_EIGHTEEN),
-        24 => listed(text, &OF_TWENTY_FOUR),
-        25 => listed(text, &OF_TWENTY_FIVE),
+        2 => look_up(text, &OF_TWO),
+        3 => look_up(text, &OF_THREE),
+        4 => look_up(text, &OF_FOUR),
+        5 => look_up(text, &OF_FIVE),
+        6 => look_up(text, &OF_SIX),
+        7 => look_up(text, &OF_SEVEN),
+        8 => look_up(text, &OF_EIGHT),
+        10 => look_up(text, &OF_TEN),
+        11 => look_up(text, &OF_ELEVEN),
+        13 => look_up(text, &OF_THIRTEEN),
+        14 => look_up(text, &OF_FOURTEEN),
+        15 => look_up(text, &OF_FIFTEEN),
+        17 => look_up(text, &OF_SEVENTEEN),
+        18 => look_up(text, &OF_EIGHTEEN),
+        24 => look_up(text, &OF_TWENTY_FOUR),
+        25 => look_up(text, &OF_TWENTY_FIVE),
         _ => None,
     }
 }

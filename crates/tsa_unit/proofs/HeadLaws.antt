@@ -24,9 +24,11 @@ use Rattle.tsa_tree.specs.StatementShapes.{point_shape}
 use Rattle.tsa_expr.specs.declared.refusal.SyntaxRefusal.{SyntaxRefusal}
 use Rattle.tsa_expr.specs.Gives.{Fails}
 use Rattle.tsa_expr.proofs.Answering.{fails_then, fails_same}
+use Rattle.tsa_expr.proofs.Places.{sign_within}
 use Rattle.tsa_attr.proofs.Joining.{append-append}
 use Rattle.tsa_decl.specs.Outcomes.{one_token, opening}
 use Rattle.tsa_unit.specs.declared.heads.Head.TheVariants as head
+use Rattle.tsa_unit.specs.declared.heads.Headed.{Headed}
 use Rattle.tsa_unit.specs.Heads.{ended_at, IsOpened}
 use Rattle.tsa_unit.specs.Outcomes.{test_at, value_or_none_at, step_at, body_at}
 use Rattle.tsa_unit.specs.Pointed.{IsStepAt, IsBegun, IsStepped}
@@ -122,11 +124,11 @@ module _ (ts : List Lexeme) (aliases : Aliases) where
       for_is ts aliases d m s ∙ goes _ _ tt n o ∙ goes _ _ (init_seen i) k a ∙ goes _ _ (option_map shape x) j b ∙ goes _ _ (step_seen c) l f
 
 -- the points of a `for` up to its body
-pub for_pointed : (word : Span) (old begun marked new : List Point) (i : Option (Bor Stmt)) (x : Option Expr) (number : ℕ) (c : Option (Bor Stmt))
+for_pointed : (word : Span) (old begun marked new : List Point) (i : Option (Bor Stmt)) (x : Option Expr) (number : ℕ) (c : Option (Bor Stmt))
     → IsBegun old begun i → number ≡ length begun
-    → map point_shape marked ≡ map point_shape begun ++ point_of_for word (option_map shape x) ∷ [] → length marked ≡ length begun + 1
+    → map point_shape marked ≡ map point_shape begun ++ point_of_for word (option_map shape x) ∷ []
     → IsStepped marked new c → IsOpened word old new (head.For i x number c)
-for_pointed word old begun marked new i x number c a q b g f = (
+for_pointed word old begun marked new i x number c a q b f = (
   f.0 ∙ ap (λ ps. ps ++ points_of_step (step_seen c)) b
       ∙ append-append (map point_shape begun) (point_of_for word (option_map shape x) ∷ []) (points_of_step (step_seen c))
       ∙ ap (λ ps. ps ++ point_of_for word (option_map shape x) ∷ points_of_step (step_seen c)) a.0
@@ -134,19 +136,29 @@ for_pointed word old begun marked new i x number c a q b g f = (
   a.1,
   q ∙ sym (length-map begun point_shape) ∙ ap length a.0 ∙ length-append (map point_shape old) (points_of_init (init_seen i))
       ∙ ap (λ n. n + length (points_of_init (init_seen i))) (length-map old point_shape),
-  subst (IsStepAt c) (g ∙ ap (λ n. n + 1) (sym q)) f.1,
+  subst (IsStepAt c) (grown ∙ ap (λ n. n + 1) (sym q)) f.1,
 )
+  where
+    grown : length marked ≡ length begun + 1
+    grown =
+        sym (length-map marked point_shape) ∙ ap length b ∙ length-append (map point_shape begun) (point_of_for word (option_map shape x) ∷ [])
+        ∙ ap (λ n. n + 1) (length-map begun point_shape)
+
+pub for_opened : (word : Span) (old begun marked new : List Point) (i : Option (Bor Stmt)) (x : Option Expr) (number : ℕ) (c : Option (Bor Stmt)) (l : ℕ)
+    (r : Headed) → r ≡ record { head = head.For i x number c; next = l } → IsBegun old begun i → number ≡ length begun
+    → map point_shape marked ≡ map point_shape begun ++ point_of_for word (option_map shape x) ∷ []
+    → IsStepped marked new c → IsOpened word old new r.head
+for_opened word old begun marked new i x number c l r e a q b f =
+    subst (λ r. IsOpened word old new r.head) (sym e) (for_pointed word old begun marked new i x number c a q b f)
 
 pub ruleset tests = (test_marked)
 
-pub ruleset whiles = (while_fails, while_opens)
+pub ruleset whiles = (while_fails, while_opens, sign_within)
 
-pub ruleset values = (switch_fails, switch_opens, value_marked)
+pub ruleset values = (switch_fails, switch_opens, value_marked, sign_within)
 
-pub ruleset fors = (for_unopened, for_initless, for_testless, for_stepless, for_opens, for_pointed)
+pub ruleset fors = (for_unopened, for_initless, for_testless, for_stepless, for_opens, sign_within)
 
-pub ruleset cases = (case_fails, case_endless, case_opens)
+pub ruleset cases = (case_fails, case_endless, case_opens, sign_within)
 
-pub ruleset defaults = (default_fails, default_opens)
-
-pub ruleset labels = (label_opens)
+pub ruleset defaults = (default_fails, default_opens, sign_within)

@@ -62,26 +62,18 @@ module _ (ts : List Lexeme) (aliases : Aliases) where
   unfolding simple_statement_at
   simple_endless d m r e h f = fails_same e _ _ (goes _ _ (simple_shape r) r.next h) (fails_then e _ _ f)
 
-  simple_goes : (d m : ℕ) (r : read_simple.Simple) (n : ℕ) (kind : StmtKind) (span : Span) (s : Read)
-      → simple_at ts aliases d m ≡ Ok (simple_shape r, r.next) → one_token ts (a_semicolon aliases) r.next ≡ Ok (tt, n)
-      → ((span : Span) → stmt_shape kind span ≡ simple (kind_shape r.kind span)) → span ≡ span_over ts m n → IsOf kind span n s
-      → simple_statement_at ts aliases d m ≡ Ok (seen_statement s)
+  pub simple_answers : (d m : ℕ) (r : read_simple.Simple) (n : ℕ) (span : Span) (x : Result Read SyntaxRefusal)
+      → simple_at ts aliases d m ≡ Ok (simple_shape r, r.next) → one_token ts (a_semicolon aliases) r.next ≡ Ok (tt, n) → span ≡ span_over ts m n
+      → IfOk x (λ s. (stmt_shape s.stmt.kind s.stmt.span ≡ simple (kind_shape r.kind span)) × (s.next ≡ n)) → OnErr x (x ≡ Err NoMemory)
+      → Gives seen_statement x (simple_statement_at ts aliases d m)
   unfolding simple_statement_at
-  simple_goes d m r n kind span s h k q p i =
+  simple_answers d m r n span (Ok s) h k p i w =
       goes _ _ (simple_shape r) r.next h ∙ goes _ _ tt n k
       ∙ ap (λ x. Ok (simple x, n)) (respanned r.kind r.span (span_over ts m n))
       ∙ ap (λ span. Ok (simple (kind_shape r.kind span), n)) (sym p)
-      ∙ ap (λ x. Ok (x, n)) (sym (q span))
-      ∙ seen_of kind span n s i
-
-  pub simple_answers : (d m : ℕ) (r : read_simple.Simple) (n : ℕ) (kind : StmtKind) (span : Span) (x : Result Read SyntaxRefusal)
-      → simple_at ts aliases d m ≡ Ok (simple_shape r, r.next) → one_token ts (a_semicolon aliases) r.next ≡ Ok (tt, n)
-      → ((span : Span) → stmt_shape kind span ≡ simple (kind_shape r.kind span)) → span ≡ span_over ts m n
-      → IfOk x (λ s. IsOf kind span n s) → OnErr x (x ≡ Err NoMemory)
-      → Gives seen_statement x (simple_statement_at ts aliases d m)
-  simple_answers d m r n kind span (Ok s) h k q p i w = simple_goes d m r n kind span s h k q p i
-  simple_answers d m r n kind span (Err NoMemory) h k q p i w = tt
-  simple_answers d m r n kind span (Err e) h k q p i w = cc
+      ∙ ap (λ x. answered x n) (sym i.0) ∙ ap (λ n. answered (stmt_shape s.stmt.kind s.stmt.span) n) (sym i.1)
+  simple_answers d m r n span (Err NoMemory) h k p i w = tt
+  simple_answers d m r n span (Err e) h k p i w = cc
 
   pub closed_fails : (make : Span → Statement) (start m : ℕ) (e : SyntaxRefusal) → Fails e (one_token ts (a_semicolon aliases) m)
       → Fails e (closed_at ts aliases make start m)
@@ -127,7 +119,7 @@ module _ (ts : List Lexeme) (aliases : Aliases) where
       → Gives seen_statement r (closed_at ts aliases (return (Some (shape x))) m n) → Gives seen_statement r (return_at ts aliases d m)
   return_answers d m x n r h k g = gives_same seen_statement r _ _ (valued d m h ∙ goes _ _ (shape x) n k) g
 
-pub ruleset simple_statements = (simple_fails, simple_endless, simple_answers, single_there)
+pub ruleset simple_statements = (simple_fails, simple_endless, simple_answers)
 
 pub ruleset closed = (closed_fails, closed_answers, single_there)
 

@@ -48,24 +48,28 @@ functions_at (x ∷ xs) (suc i) d within =
     let more : suc (i + 1) ≡ suc i + 1 = omega arith in
     functions_at xs i d (omega arith) ∙ ap (λ n. function_name (function_in (get_or xs i d)) ++ function_names (item_shapes (drop n (x ∷ xs)))) more
 
-pub goes_past : (items : List Item) (i : ℕ) (d : Item) (all : Option Identifier) (left : ℕ) → i < length items
-    → all ≡ slice_get (functions_from i items) left → function_in (get_or items i d) ≡ None → all ≡ slice_get (functions_from (i + 1) items) left
-goes_past items i d all left within rest none =
-    rest ∙ ap (λ ns. slice_get ns left) (functions_at items i d within ∙ ap (λ f. function_name f ++ functions_from (i + 1) items) none)
+-- the function that was found of an item
+abbrev IsFound : Option (Bor FnTree) → Item → Type 0
+IsFound found x = option_map (λ (f : Bor FnTree). f.now) found ≡ function_in x
 
-pub one_less : (items : List Item) (i : ℕ) (d : Item) (f : FnTree) (all : Option Identifier) (left : ℕ) → i < length items
-    → all ≡ slice_get (functions_from i items) left → function_in (get_or items i d) ≡ Some f → 0 < left
+pub goes_past : (items : List Item) (i : ℕ) (d : Item) (all : Option Identifier) (left : ℕ) → i < length items
+    → all ≡ slice_get (functions_from i items) left → IsFound None (get_or items i d) → all ≡ slice_get (functions_from (i + 1) items) left
+goes_past items i d all left within rest none =
+    rest ∙ ap (λ ns. slice_get ns left) (functions_at items i d within ∙ ap (λ f. function_name f ++ functions_from (i + 1) items) (sym none))
+
+pub one_less : (items : List Item) (i : ℕ) (d : Item) (f : Bor FnTree) (all : Option Identifier) (left : ℕ) → i < length items
+    → all ≡ slice_get (functions_from i items) left → IsFound (Some f) (get_or items i d) → 0 < left
     → all ≡ slice_get (functions_from (i + 1) items) (left - 1)
 one_less items i d f all zero within rest is some = absurd (omega arith)
 one_less items i d f all (suc left) within rest is some =
     let less : suc left - 1 ≡ left = omega arith in
-    rest ∙ ap (λ ns. slice_get ns (suc left)) (functions_at items i d within ∙ ap (λ x. function_name x ++ functions_from (i + 1) items) is)
+    rest ∙ ap (λ ns. slice_get ns (suc left)) (functions_at items i d within ∙ ap (λ x. function_name x ++ functions_from (i + 1) items) (sym is))
     ∙ ap (slice_get (functions_from (i + 1) items)) (sym less)
 
-pub one_too_many : (items : List Item) (i : ℕ) (d : Item) (f : FnTree) (all : Option Identifier) → i < length items
-    → all ≡ slice_get (functions_from i items) 0 → function_in (get_or items i d) ≡ Some f → all ≡ Some (name_shape f.name)
+pub one_too_many : (items : List Item) (i : ℕ) (d : Item) (f : Bor FnTree) (all : Option Identifier) → i < length items
+    → all ≡ slice_get (functions_from i items) 0 → IsFound (Some f) (get_or items i d) → all ≡ Some (name_shape f.now.name)
 one_too_many items i d f all within rest is =
-    rest ∙ ap (λ ns. slice_get ns 0) (functions_at items i d within ∙ ap (λ x. function_name x ++ functions_from (i + 1) items) is)
+    rest ∙ ap (λ ns. slice_get ns 0) (functions_at items i d within ∙ ap (λ x. function_name x ++ functions_from (i + 1) items) (sym is))
 
 pub ruleset functions = (goes_past, one_less, one_too_many)
 
@@ -113,19 +117,19 @@ points_at (x ∷ xs) (suc i) d within h =
     ∙ ap (λ n. points_first (function_in (get_or xs i d)) (past_points (item_shapes (drop n (x ∷ xs))))) more
 
 pub no_points : (items : List Item) (i : ℕ) (d : Item) (all : Option Identifier) → i < length items → HaveTheirPoints items
-    → all ≡ points_from i items → function_in (get_or items i d) ≡ None → all ≡ points_from (i + 1) items
-no_points items i d all within h rest none = rest ∙ points_at items i d within h ∙ ap (λ f. points_first f (points_from (i + 1) items)) none
+    → all ≡ points_from i items → IsFound None (get_or items i d) → all ≡ points_from (i + 1) items
+no_points items i d all within h rest none = rest ∙ points_at items i d within h ∙ ap (λ f. points_first f (points_from (i + 1) items)) (sym none)
 
-pub few_points : (items : List Item) (i : ℕ) (d : Item) (f : FnTree) (all : Option Identifier) → i < length items → HaveTheirPoints items
-    → all ≡ points_from i items → function_in (get_or items i d) ≡ Some f → length f.points.now ≤ 4096 → all ≡ points_from (i + 1) items
+pub few_points : (items : List Item) (i : ℕ) (d : Item) (f : Bor FnTree) (all : Option Identifier) → i < length items → HaveTheirPoints items
+    → all ≡ points_from i items → IsFound (Some f) (get_or items i d) → length f.now.points.now ≤ 4096 → all ≡ points_from (i + 1) items
 few_points items i d f all within h rest is le =
-    rest ∙ points_at items i d within h ∙ ap (λ f. points_first f (points_from (i + 1) items)) is
-    ∙ ap (λ b. if b then Some (name_shape f.name) else points_from (i + 1) items) (le-ltb 4096 (length f.points.now) le)
+    rest ∙ points_at items i d within h ∙ ap (λ f. points_first f (points_from (i + 1) items)) (sym is)
+    ∙ ap (λ b. if b then Some (name_shape f.now.name) else points_from (i + 1) items) (le-ltb 4096 (length f.now.points.now) le)
 
-pub many_points : (items : List Item) (i : ℕ) (d : Item) (f : FnTree) (all : Option Identifier) → i < length items → HaveTheirPoints items
-    → all ≡ points_from i items → function_in (get_or items i d) ≡ Some f → 4096 < length f.points.now → all ≡ Some (name_shape f.name)
+pub many_points : (items : List Item) (i : ℕ) (d : Item) (f : Bor FnTree) (all : Option Identifier) → i < length items → HaveTheirPoints items
+    → all ≡ points_from i items → IsFound (Some f) (get_or items i d) → 4096 < length f.now.points.now → all ≡ Some (name_shape f.now.name)
 many_points items i d f all within h rest is lt =
-    rest ∙ points_at items i d within h ∙ ap (λ f. points_first f (points_from (i + 1) items)) is
-    ∙ ap (λ b. if b then Some (name_shape f.name) else points_from (i + 1) items) (lt-ltb 4096 (length f.points.now) lt)
+    rest ∙ points_at items i d within h ∙ ap (λ f. points_first f (points_from (i + 1) items)) (sym is)
+    ∙ ap (λ b. if b then Some (name_shape f.now.name) else points_from (i + 1) items) (lt-ltb 4096 (length f.now.points.now) lt)
 
 pub ruleset points = (no_points, few_points, many_points)

@@ -92,12 +92,12 @@ pub one_more : (old new : List Point) (p : Point) → new ≡ old ++ p ∷ [] �
 one_more old new p h = ap (map point_shape) h ∙ map-push point_shape old p
 
 -- the point of a `for`
-pub loop_untested : (old new : List Point) (word span : Span) → new ≡ old ++ record { action = Test None; span = span } ∷ []
-    → span ≡ record { from = word.from; to = word.from + 3 }
+pub loop_untested : (old new : List Point) (word : Span) (from : ℕ) → from ≡ word.from
+    → new ≡ old ++ record { action = Test None; span = record { from = from; to = from + 3 } } ∷ []
     → map point_shape new ≡ map point_shape old ++ point_of_for word None ∷ []
-loop_untested old new word span h e =
-    one_more old new (record { action = Test None; span = span }) h
-    ∙ ap (λ span. map point_shape old ++ record { deed = tests None; span = span } ∷ []) e
+loop_untested old new word from e h =
+    one_more old new (record { action = Test None; span = record { from = from; to = from + 3 } }) h
+    ∙ ap (λ from. map point_shape old ++ record { deed = tests None; span = record { from = from; to = from + 3 } } ∷ []) e
 
 pub loop_tested : (old new : List Point) (word : Span) (x : Bor Expr) (y : Expr)
     → new ≡ old ++ record { action = Test (Some x); span = x.now.span } ∷ [] → x.now ≡ y

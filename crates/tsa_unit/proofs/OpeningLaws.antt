@@ -1,78 +1,76 @@
 -- How statements begin.
-use Rattle.std.proofs.Common.{ℕ, ◌+◌, ◌≡◌, ◌≢◌, ◌∙◌, true, nat_eq, ap, refl, List, Result, Ok}
+use Rattle.std.proofs.Common.{ℕ, ◌+◌, ◌≡◌, ◌≢◌, ◌∙◌, true, nat_eq, ap, refl, List, Result, Ok, Err}
+use Rattle.std.specs.Prelude.{IfOk}
+use Rattle.tsa_base.specs.declared.token.Span.{Span}
 use Rattle.tsa_base.specs.Tokens.{Lexeme}
 use Rattle.tsa_forms.proofs.Cases.{goes}
+use Rattle.tsa_tree.specs.declared.expr.Name.{Name}
 use Rattle.tsa_tree.specs.declared.sign.Keyword.{Keyword}
 use Rattle.tsa_tree.specs.declared.sign.Keyword.TheVariants as key
+use Rattle.tsa_tree.specs.declared.sign.Sign.{Sign}
 use Rattle.tsa_tree.specs.declared.sign.Sign.TheVariants as sign
+use Rattle.tsa_tree.specs.declared.stmt.Point.{Point}
 use Rattle.tsa_tree.specs.declared.stmt.StmtKind.TheVariants.{Break, Continue}
 use Rattle.tsa_tree.specs.Expressions.{Expression}
 use Rattle.tsa_tree.specs.Reads.{read}
-use Rattle.tsa_tree.specs.Rows.{a_statement, statement, a_colon, sees, mark}
-use Rattle.tsa_tree.specs.Signs.{Aliases, sign_at}
+use Rattle.tsa_tree.specs.Rows.{a_statement, statement, mark}
+use Rattle.tsa_tree.specs.Shapes.{name_shape}
+use Rattle.tsa_tree.specs.Signs.{Aliases, sign_at, identifier_at}
 use Rattle.tsa_tree.specs.Statements as plain
 use Rattle.tsa_tree.specs.StatementShapes.{stmt_shape}
 use Rattle.tsa_expr.specs.declared.refusal.SyntaxRefusal.{SyntaxRefusal}
 use Rattle.tsa_expr.specs.Gives.{Fails, Gives}
 use Rattle.tsa_expr.proofs.Answering.{fails_then, fails_same, gives_same}
 use Rattle.tsa_unit.specs.declared.points.Read.{Read}
-use Rattle.tsa_unit.specs.Heads.{arms_at}
-use Rattle.tsa_unit.specs.Openings.{HoldsNoBody, block_at, do_at}
+use Rattle.tsa_unit.specs.declared.heads.Head.{Head}
+use Rattle.tsa_unit.specs.declared.heads.Head.TheVariants as head
+use Rattle.tsa_unit.specs.declared.heads.Headed.{Headed}
+use Rattle.tsa_unit.specs.Heads.{IsOpened, IsUnpointed, arms_at, ended_at}
+use Rattle.tsa_unit.specs.Openings.{HoldsNoBody, ends_with_body}
 use Rattle.tsa_unit.specs.Outcomes.{simple_statement_at, closed_at, goto_at, return_at, test_at}
 use Rattle.tsa_unit.specs.Seen.{seen_statement}
 use Rattle.tsa_unit.proofs.ConditionLaws.{not_colon}
+use Rattle.tsa_unit.proofs.HeadLaws.{label_opens}
+use Rattle.tsa_expr.proofs.Places.{sign_within}
 use Rattle.tsa_unit.proofs.LeafRows.{empty_is, break_is, continue_is, goto_is, return_is, unlabelled_is, other_is, wordless_is}
-use Rattle.tsa_unit.proofs.ListRows.{block_is}
-use Rattle.tsa_unit.proofs.RowLaws.{if_is, do_is}
+use Rattle.tsa_unit.proofs.RowLaws.{if_is}
 
 module _ (ts : List Lexeme) (aliases : Aliases) where
-  pub block_opens : (d m : ℕ) → sign_at ts aliases m ≡ sign.OpenBrace → read ts a_statement (statement aliases d) m ≡ block_at ts aliases d m
-  block_opens d m e = block_is ts aliases d m e
+  pub empty_gives : (d m : ℕ) (x : Result Read SyntaxRefusal) → sign_at ts aliases m ≡ sign.Semicolon
+      → Gives seen_statement x (closed_at ts aliases plain.empty m m) → Gives seen_statement x (read ts a_statement (statement aliases d) m)
+  empty_gives d m x e g = gives_same seen_statement x _ _ (empty_is ts aliases d m e) g
 
-  pub do_opens : (d m : ℕ) → sign_at ts aliases m ≡ sign.Keyword key.Do → read ts a_statement (statement aliases d) m ≡ do_at ts aliases d m
-  do_opens d m e = do_is ts aliases d m e
+  pub other_gives : (d m : ℕ) (s : Sign) (x : Result Read SyntaxRefusal) → sign_at ts aliases m ≡ s → s ≢ sign.OpenBrace → s ≢ sign.Semicolon
+      → s ≢ sign.Name → ((k : Keyword) → s ≢ sign.Keyword k) → Gives seen_statement x (simple_statement_at ts aliases d m)
+      → Gives seen_statement x (read ts a_statement (statement aliases d) m)
+  other_gives d m s x e a b c w g = gives_same seen_statement x _ _ (other_is ts aliases d m s e a b c w) g
 
-  pub if_opens : (d m : ℕ) (x : Expression) (n : ℕ) → sign_at ts aliases m ≡ sign.Keyword key.If → test_at ts aliases d (m + 1) ≡ Ok (x, n)
-      → read ts a_statement (statement aliases d) m ≡ arms_at ts aliases d m x n
-  if_opens d m x n e h = if_is ts aliases d m e ∙ goes _ _ x n h
+  -- names
+  pub unlabelled_gives : (d m : ℕ) (x : Result Read SyntaxRefusal) → sign_at ts aliases m ≡ sign.Name → sign_at ts aliases (m + 1) ≢ sign.Colon
+      → Gives seen_statement x (simple_statement_at ts aliases d m) → Gives seen_statement x (read ts a_statement (statement aliases d) m)
+  unlabelled_gives d m x e c g = gives_same seen_statement x _ _ (unlabelled_is ts aliases d m e (not_colon (sign_at ts aliases (m + 1)) c)) g
 
+  pub label_gives : (d m : ℕ) (name : Name) (x : Result Read SyntaxRefusal) → sign_at ts aliases m ≡ sign.Name → sign_at ts aliases (m + 1) ≡ sign.Colon
+      → name_shape name ≡ identifier_at ts m → Gives seen_statement x (ended_at ts aliases d m (head.Label name) (m + 1 + 1))
+      → Gives seen_statement x (read ts a_statement (statement aliases d) m)
+  label_gives d m name x e c n g =
+      gives_same seen_statement x _ _ (label_opens ts aliases d m name e (ap (λ s. nat_eq (mark s) 20) c) n) g
+
+  -- statements with a keyword that a body ends
+  pub headed_gives : (d m : ℕ) (h : Head) (n : ℕ) (x : Result Read SyntaxRefusal)
+      → read ts a_statement (statement aliases d) m ≡ ended_at ts aliases d m h n → Gives seen_statement x (ended_at ts aliases d m h n)
+      → Gives seen_statement x (read ts a_statement (statement aliases d) m)
+  headed_gives d m h n x e g = gives_same seen_statement x _ _ e g
+
+  -- an `if`
   pub if_fails : (d m : ℕ) (e : SyntaxRefusal) → sign_at ts aliases m ≡ sign.Keyword key.If → Fails e (test_at ts aliases d (m + 1))
       → Fails e (read ts a_statement (statement aliases d) m)
   if_fails d m e s f = fails_same e _ _ (if_is ts aliases d m s) (fails_then e _ _ f)
 
-  -- whole statements
-  pub empty_goes : (d m : ℕ) (r : Read) → sign_at ts aliases m ≡ sign.Semicolon → closed_at ts aliases plain.empty m m ≡ Ok (seen_statement r)
-      → read ts a_statement (statement aliases d) m ≡ Ok (seen_statement r)
-  empty_goes d m r e h = empty_is ts aliases d m e ∙ h
-
-  pub empty_fails : (d m : ℕ) (e : SyntaxRefusal) → sign_at ts aliases m ≡ sign.Semicolon → Fails e (closed_at ts aliases plain.empty m m)
-      → Fails e (read ts a_statement (statement aliases d) m)
-  empty_fails d m e s f = fails_same e _ _ (empty_is ts aliases d m s) f
-
-  other_at : (d m : ℕ) → sign_at ts aliases m ≢ sign.OpenBrace → sign_at ts aliases m ≢ sign.Semicolon → sign_at ts aliases m ≢ sign.Name
-      → ((k : Keyword) → sign_at ts aliases m ≢ sign.Keyword k) → read ts a_statement (statement aliases d) m ≡ simple_statement_at ts aliases d m
-  other_at d m a b c w = other_is ts aliases d m (sign_at ts aliases m) refl a b c w
-
-  pub other_goes : (d m : ℕ) (r : Read) → sign_at ts aliases m ≢ sign.OpenBrace → sign_at ts aliases m ≢ sign.Semicolon → sign_at ts aliases m ≢ sign.Name
-      → ((k : Keyword) → sign_at ts aliases m ≢ sign.Keyword k) → simple_statement_at ts aliases d m ≡ Ok (seen_statement r)
-      → read ts a_statement (statement aliases d) m ≡ Ok (seen_statement r)
-  other_goes d m r a b c w h = other_at d m a b c w ∙ h
-
-  pub other_fails : (d m : ℕ) (e : SyntaxRefusal) → sign_at ts aliases m ≢ sign.OpenBrace → sign_at ts aliases m ≢ sign.Semicolon
-      → sign_at ts aliases m ≢ sign.Name → ((k : Keyword) → sign_at ts aliases m ≢ sign.Keyword k) → Fails e (simple_statement_at ts aliases d m)
-      → Fails e (read ts a_statement (statement aliases d) m)
-  other_fails d m e a b c w f = fails_same e _ _ (other_at d m a b c w) f
-
-  pub named_goes : (d m : ℕ) (r : Read) → sign_at ts aliases m ≡ sign.Name → sign_at ts aliases (m + 1) ≢ sign.Colon
-      → simple_statement_at ts aliases d m ≡ Ok (seen_statement r) → read ts a_statement (statement aliases d) m ≡ Ok (seen_statement r)
-  named_goes d m r e c h = unlabelled_is ts aliases d m e (not_colon (sign_at ts aliases (m + 1)) c) ∙ h
-
-  pub named_fails : (d m : ℕ) (e : SyntaxRefusal) → sign_at ts aliases m ≡ sign.Name → sign_at ts aliases (m + 1) ≢ sign.Colon
-      → Fails e (simple_statement_at ts aliases d m) → Fails e (read ts a_statement (statement aliases d) m)
-  named_fails d m e s c f = fails_same e _ _ (unlabelled_is ts aliases d m s (not_colon (sign_at ts aliases (m + 1)) c)) f
-
-  pub labelled : (m : ℕ) → sign_at ts aliases m ≡ sign.Colon → sees ts (a_colon aliases) m ≡ true
-  labelled m e = ap (λ s. nat_eq (mark s) 20) e
+  pub if_gives : (d m : ℕ) (t : Expression) (n : ℕ) (x : Result Read SyntaxRefusal) → sign_at ts aliases m ≡ sign.Keyword key.If
+      → test_at ts aliases d (m + 1) ≡ Ok (t, n) → Gives seen_statement x (arms_at ts aliases d m t n)
+      → Gives seen_statement x (read ts a_statement (statement aliases d) m)
+  if_gives d m t n x s h g = gives_same seen_statement x _ _ (if_is ts aliases d m s ∙ goes _ _ t n h) g
 
   -- jumps
   pub break_gives : (d m : ℕ) (x : Result Read SyntaxRefusal) → sign_at ts aliases m ≡ sign.Keyword key.Break
@@ -107,10 +105,35 @@ module _ (ts : List Lexeme) (aliases : Aliases) where
   wordless_gives d m key.Return x e h a b c f g = absurd (f refl)
   wordless_gives d m k x e h a b c f g = gives_same seen_statement x _ _ (wordless_is ts aliases d m k e refl) g
 
-pub ruleset signs = (block_opens, empty_goes, empty_fails, other_goes, other_fails)
+-- what is left of the keywords whose statements end with a body
+pub default_left : (s : Sign) (k : Keyword) → s ≡ sign.Keyword k → ends_with_body k ≡ true → k ≢ key.While → k ≢ key.Switch → k ≢ key.For
+    → k ≢ key.Case → s ≡ sign.Keyword key.Default
+default_left s key.Default e h a b c d = e
+default_left s key.While e h a b c d = absurd (a refl)
+default_left s key.Switch e h a b c d = absurd (b refl)
+default_left s key.For e h a b c d = absurd (c refl)
+default_left s key.Case e h a b c d = absurd (d refl)
+default_left s k e h a b c d = cc
 
-pub ruleset names = (named_goes, named_fails, labelled)
+-- a head without points opens where the points are those that were there
+unpointed : (h : Head) (word : Span) (points : List Point) → IsUnpointed h → IsOpened word points points h
+unpointed (head.Case value) word points h = refl
+unpointed head.Otherwise word points h = refl
+unpointed _ word points h = absurd h
 
-pub ruleset words = (do_opens, if_opens, if_fails)
+pub unpointed_opened : (x : Result Headed SyntaxRefusal) (word : Span) (points : List Point) → IfOk x (λ r. IsUnpointed r.head)
+    → IfOk x (λ r. IsOpened word points points r.head)
+unpointed_opened (Ok r) word points h = unpointed r.head word points h
+unpointed_opened (Err e) word points h = tt
 
-pub ruleset jumps = (break_gives, continue_gives, goto_gives, return_gives, wordless_gives)
+pub ruleset heads = (default_left, unpointed_opened, sign_within)
+
+pub ruleset signs = (empty_gives, other_gives)
+
+pub ruleset names = (unlabelled_gives, label_gives, sign_within)
+
+pub ruleset headed = (headed_gives)
+
+pub ruleset ifs = (if_fails, if_gives, sign_within)
+
+pub ruleset jumps = (break_gives, continue_gives, goto_gives, return_gives, wordless_gives, sign_within)

@@ -30,7 +30,7 @@ use Rattle.tsa_decl.specs.Outcomes.{one_token}
 use Rattle.tsa_decl.proofs.TokenLaws.{not_semicolon}
 use Rattle.tsa_unit.specs.Outcomes.{simple_at, simply_at, step_at}
 use Rattle.tsa_unit.specs.Pointed.{IsPointed, MayBePart, MayBeStep, IsBegun, IsStepped}
-use Rattle.tsa_unit.specs.Seen.{kind_shape, simple_shape}
+use Rattle.tsa_unit.specs.Seen.{simple_shape}
 use Rattle.tsa_unit.specs.declared.simple.Simple as read_simple
 use Rattle.tsa_attr.proofs.Joining.{append-nil}
 use Rattle.tsa_unit.proofs.ListRows.{init_absent, init_simple, init_local, lone}
@@ -119,13 +119,10 @@ module _ (ts : List Lexeme) (aliases : Aliases) where
   unfolding simply_at
   simply_fails d m e f = fails_then e _ _ f
 
-  pub simply_goes : (d m : ℕ) (r : read_simple.Simple) (s : Stmt) (kind : StmtKind) (span : Span) → simple_at ts aliases d m ≡ Ok (simple_shape r, r.next)
-      → ((span : Span) → stmt_shape kind span ≡ plain.simple (kind_shape r.kind span)) → (s.kind ≡ kind) × (s.span ≡ r.span)
-      → simply_at ts aliases d m ≡ Ok (stmt_shape s.kind s.span, r.next)
+  pub simply_goes : (d m : ℕ) (r : read_simple.Simple) (s : Stmt) → simple_at ts aliases d m ≡ Ok (simple_shape r, r.next)
+      → stmt_shape s.kind s.span ≡ plain.simple (simple_shape r) → simply_at ts aliases d m ≡ Ok (stmt_shape s.kind s.span, r.next)
   unfolding simply_at
-  simply_goes d m r s kind span h q p =
-      goes _ _ (simple_shape r) r.next h
-      ∙ ap (λ x. Ok (x, r.next)) (sym (ap (λ k. stmt_shape k s.span) p.0 ∙ ap (λ span. stmt_shape kind span) p.1 ∙ q r.span))
+  simply_goes d m r s h q = goes _ _ (simple_shape r) r.next h ∙ ap (λ x. Ok (x, r.next)) (sym q)
 
   -- the first part of a `for`
   pub init_fails : (d m : ℕ) (e : SyntaxRefusal) → sign_at ts aliases m ≢ sign.Semicolon → begins_type (sign_at ts aliases m) ≡ false

@@ -1,6 +1,5 @@
 -- Simple statements: what their first token and the one behind the first operand decide.
 use Rattle.std.proofs.Common.{ℕ, ◌+◌, ◌≡◌, ◌∙◌, ap, sym, refl, Bool, true, false, List, Option, Some, None, Ok, Err, nat_eq, nat_le}
-use Rattle.tsa_base.specs.declared.token.Span.{Span}
 use Rattle.tsa_base.specs.Tokens.{Lexeme}
 use Rattle.tsa_forms.proofs.Cases.{chosen, goes}
 use Rattle.tsa_forms.specs.Form.{done, token, part}
@@ -20,6 +19,7 @@ use Rattle.tsa_tree.specs.Statements.{Simple, SimplePart, evaluation, assignment
 use Rattle.tsa_expr.specs.declared.refusal.SyntaxRefusal.{SyntaxRefusal}
 use Rattle.tsa_expr.specs.Gives.{Fails}
 use Rattle.tsa_expr.proofs.Answering.{fails_then, fails_same}
+use Rattle.tsa_expr.proofs.Places.{sign_within}
 use Rattle.tsa_attr.proofs.Joining.{then-then, then-same, then-ok}
 use Rattle.tsa_unit.specs.declared.simple.Simple as read_simple
 use Rattle.tsa_unit.specs.Outcomes.{step_in, simple_at}
@@ -189,12 +189,13 @@ module _ (ts : List Lexeme) (aliases : Aliases) where
       → Fails e (simple_at ts aliases d start)
   rest_fails d start l m e h k b c f = fails_same e _ _ (rest d start l m h k b c) (fails_then e _ _ f)
 
-  pub rest_goes : (d start : ℕ) (l : Expression) (m : ℕ) (x : Expression) (n : ℕ) (s : Span) → step_in (sign_at ts aliases start) ≡ None
+  pub rest_goes : (d start : ℕ) (l : Expression) (m : ℕ) (x : Expression) (n : ℕ) (r : read_simple.Simple) → step_in (sign_at ts aliases start) ≡ None
       → read ts an_expression (operand aliases d) start ≡ Ok (l, m) → step_in (sign_at ts aliases m) ≡ None
-      → assigns (sign_at ts aliases m) ≡ None → read ts an_expression (expression aliases d 0) start ≡ Ok (x, n) → s ≡ span_over ts start n
-      → simple_at ts aliases d start ≡ Ok (evaluation x s, n)
-  rest_goes d start l m x n s h k b c v p = rest d start l m h k b c ∙ goes _ _ x n v ∙ ap (λ s. Ok (evaluation x s, n)) (sym p)
+      → assigns (sign_at ts aliases m) ≡ None → read ts an_expression (expression aliases d 0) start ≡ Ok (x, n)
+      → simple_shape r ≡ evaluation x (span_over ts start n) → r.next ≡ n → simple_at ts aliases d start ≡ Ok (simple_shape r, r.next)
+  rest_goes d start l m x n r h k b c v q p =
+      rest d start l m h k b c ∙ goes _ _ x n v ∙ ap (λ s. Ok (s, n)) (sym q) ∙ ap (λ n. Ok (simple_shape r, n)) (sym p)
 
-pub ruleset simples = (stepped_fails, stepped_goes, unstepped_fails)
+pub ruleset simples = (stepped_fails, stepped_goes, unstepped_fails, sign_within)
 
 pub ruleset behind_operands = (step_behind, assigned_fails, assigned_goes, rest_fails, rest_goes)

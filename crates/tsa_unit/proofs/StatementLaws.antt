@@ -1,10 +1,11 @@
 -- Statements that hold others.
-use Rattle.std.proofs.Common.{ℕ, ◌+◌, ◌<◌, ◌≤◌, ◌≡◌, ◌∙◌, Some, None, true, false, ap, sym, subst, List, [], ◌∷◌, ◌++◌, map, Result, Ok, Err}
+use Rattle.std.proofs.Common.{ℕ, ◌+◌, ◌<◌, ◌≤◌, ◌≡◌, ◌∙◌, Some, None, true, false, ap, sym, subst, List, [], map, Result, Ok, Err, IfOk}
 use Rattle.std.specs.Borrow.{Bor}
 use Rattle.tsa_base.specs.Tokens.{Lexeme}
 use Rattle.tsa_forms.proofs.Cases.{goes, chosen, other}
 use Rattle.tsa_forms.specs.Reading.{refuse, syntax, deep}
 use Rattle.tsa_tree.specs.declared.sign.Keyword.TheVariants as key
+use Rattle.tsa_tree.specs.declared.sign.Sign.TheVariants as sign
 use Rattle.tsa_tree.specs.declared.stmt.Point.{Point}
 use Rattle.tsa_tree.specs.declared.stmt.Stmt.{Stmt}
 use Rattle.tsa_tree.specs.Expressions.{Expression}
@@ -21,11 +22,13 @@ use Rattle.tsa_decl.specs.Outcomes.{opening_brace}
 use Rattle.tsa_unit.specs.declared.heads.Head.{Head}
 use Rattle.tsa_unit.specs.declared.points.Read.{Read}
 use Rattle.tsa_unit.specs.Heads.{ended, ended_at, arms_at, do_end_at, if_with}
-use Rattle.tsa_unit.specs.Openings.{block_at, do_at}
 use Rattle.tsa_unit.specs.Outcomes.{body_at, statements_after}
+use Rattle.tsa_unit.specs.Kept.{IsKept}
 use Rattle.tsa_unit.specs.Pointed.{IsPointed, ArePointed}
 use Rattle.tsa_unit.specs.Seen.{seen_statement}
-use Rattle.tsa_unit.proofs.ListRows.{after-nothing, stmts_close, another_fails, another_goes}
+use Rattle.tsa_unit.proofs.RowLaws.{do_is}
+use Rattle.tsa_unit.proofs.ListRows.{block_is, after-nothing, stmts_close, another_fails, another_goes}
+use Rattle.tsa_expr.proofs.Places.{sign_within}
 use Rattle.tsa_unit.proofs.MarkLaws.{pushed, shapes_push}
 
 module _ (ts : List Lexeme) (aliases : Aliases) where
@@ -79,25 +82,28 @@ module _ (ts : List Lexeme) (aliases : Aliases) where
       goes _ _ (stmt_shape arm.kind arm.span) k g ∙ chosen _ _ _ h ∙ goes _ _ (stmt_shape s.now.kind s.now.span) l b ∙ ap Ok (sym q)
 
   -- a `do`
-  pub do_fails : (d start : ℕ) (e : SyntaxRefusal) → Fails e (body_at ts aliases d (start + 1)) → Fails e (do_at ts aliases d start)
-  do_fails d start e f = fails_then e _ _ f
+  pub do_fails : (d start : ℕ) (e : SyntaxRefusal) → sign_at ts aliases start ≡ sign.Keyword key.Do → Fails e (body_at ts aliases d (start + 1))
+      → Fails e (read ts a_statement (statement aliases d) start)
+  do_fails d start e s f = fails_same e _ _ (do_is ts aliases d start s) (fails_then e _ _ f)
 
-  pub do_gives : (d start : ℕ) (b : Statement) (k : ℕ) (x : Result Read SyntaxRefusal) → body_at ts aliases d (start + 1) ≡ Ok (b, k)
-      → Gives seen_statement x (do_end_at ts aliases d start b k) → Gives seen_statement x (do_at ts aliases d start)
-  do_gives d start b k x g h = gives_same seen_statement x _ _ (goes _ _ b k g) h
+  pub do_gives : (d start : ℕ) (b : Statement) (k : ℕ) (x : Result Read SyntaxRefusal) → sign_at ts aliases start ≡ sign.Keyword key.Do
+      → body_at ts aliases d (start + 1) ≡ Ok (b, k) → Gives seen_statement x (do_end_at ts aliases d start b k)
+      → Gives seen_statement x (read ts a_statement (statement aliases d) start)
+  do_gives d start b k x s g h = gives_same seen_statement x _ _ (do_is ts aliases d start s ∙ goes _ _ b k g) h
 
   -- a block
-  pub block_unopened : (d start : ℕ) (e : SyntaxRefusal) → Fails e (opening_brace ts aliases d start) → Fails e (block_at ts aliases d start)
-  block_unopened d start e f = fails_then e _ _ f
+  pub block_unopened : (d start : ℕ) (e : SyntaxRefusal) → sign_at ts aliases start ≡ sign.OpenBrace → Fails e (opening_brace ts aliases d start)
+      → Fails e (read ts a_statement (statement aliases d) start)
+  block_unopened d start e s f = fails_same e _ _ (block_is ts aliases d start s) (fails_then e _ _ f)
 
-  pub block_fails : (d start n : ℕ) (e : SyntaxRefusal) → opening_brace ts aliases d start ≡ Ok (tt, n)
-      → Fails e (read ts some_statements (statements aliases (d + 1)) n) → Fails e (block_at ts aliases d start)
-  block_fails d start n e o f = fails_same e _ _ (goes _ _ tt n o) (fails_then e _ _ f)
+  pub block_fails : (d start n : ℕ) (e : SyntaxRefusal) → sign_at ts aliases start ≡ sign.OpenBrace → opening_brace ts aliases d start ≡ Ok (tt, n)
+      → Fails e (read ts some_statements (statements aliases (d + 1)) n) → Fails e (read ts a_statement (statement aliases d) start)
+  block_fails d start n e s o f = fails_same e _ _ (block_is ts aliases d start s ∙ goes _ _ tt n o) (fails_then e _ _ f)
 
-  pub block_goes : (d start n : ℕ) (xs : Statements) (k : ℕ) (r : Read) → opening_brace ts aliases d start ≡ Ok (tt, n)
-      → read ts some_statements (statements aliases (d + 1)) n ≡ Ok (xs, k) → seen_statement r ≡ (block xs (span_over ts start k), k)
-      → block_at ts aliases d start ≡ Ok (seen_statement r)
-  block_goes d start n xs k r o g q = goes _ _ tt n o ∙ goes _ _ xs k g ∙ ap Ok (sym q)
+  pub block_goes : (d start n : ℕ) (xs : Statements) (k : ℕ) (r : Read) → sign_at ts aliases start ≡ sign.OpenBrace
+      → opening_brace ts aliases d start ≡ Ok (tt, n) → read ts some_statements (statements aliases (d + 1)) n ≡ Ok (xs, k)
+      → seen_statement r ≡ (block xs (span_over ts start k), k) → read ts a_statement (statement aliases d) start ≡ Ok (seen_statement r)
+  block_goes d start n xs k r s o g q = block_is ts aliases d start s ∙ goes _ _ tt n o ∙ goes _ _ xs k g ∙ ap Ok (sym q)
 
   -- the statements of a block
   pub list_begins : (list : List Stmt) (d at : ℕ) → list ≡ []
@@ -110,31 +116,39 @@ module _ (ts : List Lexeme) (aliases : Aliases) where
       → sees ts (a_close_brace aliases) next ≡ true → read ts some_statements (statements aliases d) at ≡ Ok (stmt_shapes list, next + 1)
   list_ends list d at next i c = i ∙ stmts_close ts aliases (stmt_shapes list) d next c
 
-  pub list_fails : (list : List Stmt) (d next : ℕ) (e : SyntaxRefusal) → sees ts (a_close_brace aliases) next ≡ false → begins_type (sign_at ts aliases next) ≡ false
-      → Fails e (read ts a_statement (statement aliases d) next)
+  pub list_fails : (list new : List Stmt) (d next : ℕ) (x : Result Read SyntaxRefusal) (e : SyntaxRefusal) → sees ts (a_close_brace aliases) next ≡ false
+      → begins_type (sign_at ts aliases next) ≡ false → Gives seen_statement x (read ts a_statement (statement aliases d) next) → IsKept list new x (Err e)
       → Fails e (statements_after (stmt_shapes list) (read ts some_statements (statements aliases d) next))
-  list_fails list d next e c b f = another_fails ts aliases (stmt_shapes list) d next e c b f
+  list_fails list new d next (Ok r) e c b g k =
+      subst (λ e. Fails e (statements_after (stmt_shapes list) (read ts some_statements (statements aliases d) next))) (sym k) tt
+  list_fails list new d next (Err f) e c b g k =
+      subst (λ e. Fails e (statements_after (stmt_shapes list) (read ts some_statements (statements aliases d) next))) (sym k)
+      (another_fails ts aliases (stmt_shapes list) d next f c b g)
 
-  pub list_goes : (list new : List Stmt) (d next : ℕ) (r : Read) → sees ts (a_close_brace aliases) next ≡ false → begins_type (sign_at ts aliases next) ≡ false
-      → read ts a_statement (statement aliases d) next ≡ Ok (seen_statement r) → new ≡ list ++ r.stmt ∷ []
+  pub list_goes : (list new : List Stmt) (d next : ℕ) (x : Result Read SyntaxRefusal) (n : ℕ) → sees ts (a_close_brace aliases) next ≡ false
+      → begins_type (sign_at ts aliases next) ≡ false → Gives seen_statement x (read ts a_statement (statement aliases d) next) → IsKept list new x (Ok n)
       → statements_after (stmt_shapes list) (read ts some_statements (statements aliases d) next)
-      ≡ statements_after (stmt_shapes new) (read ts some_statements (statements aliases d) r.next)
-  list_goes list new d next r c b g q =
+      ≡ statements_after (stmt_shapes new) (read ts some_statements (statements aliases d) n)
+  list_goes list new d next (Ok r) n c b g k =
       another_goes ts aliases (stmt_shapes list) d next (stmt_shape r.stmt.kind r.stmt.span) r.next (stmt_shapes new) c b g
-      (ap stmt_shapes q ∙ shapes_push list r.stmt)
+      (ap stmt_shapes k.0 ∙ shapes_push list r.stmt)
+      ∙ ap (λ n. statements_after (stmt_shapes new) (read ts some_statements (statements aliases d) n)) (sym k.1)
+  list_goes list new d next (Err f) n c b g k = absurd k
 
 -- a new list has no statements and no points
 pub none_pointed : (old : List Point) (list : List Stmt) → list ≡ [] → ArePointed old old list
 none_pointed old list e = subst (ArePointed old old) (sym e) (sym (append-nil (map point_shape old)), tt)
 
-pub one_pointed : (start old new : List Point) (list longer : List Stmt) (s : Stmt) → ArePointed start old list → IsPointed old new s
-    → longer ≡ list ++ s ∷ [] → ArePointed start new longer
-one_pointed start old new list longer s h k e = subst (ArePointed start new) (sym e) (pushed start old new list s h k)
+pub one_pointed : (start old new : List Point) (list longer : List Stmt) (x : Result Read SyntaxRefusal) (n : ℕ) → ArePointed start old list
+    → IfOk x (λ r. IsPointed old new r.stmt) → IsKept list longer x (Ok n) → ArePointed start new longer
+one_pointed start old new list longer (Ok r) n h p k = subst (ArePointed start new) (sym k.0) (pushed start old new list r.stmt h p)
+one_pointed start old new list longer (Err e) n h p k = absurd k
 
-pub here : (first middle last : List Point) (s : Stmt) → middle ≡ first → IsPointed middle last s → IsPointed first last s
-here first middle last s e h = subst (λ m. IsPointed m last s) e h
-
-pub ruleset alone = (gives_same, here)
+-- the token behind a statement that was kept
+pub kept_behind : (list longer : List Stmt) (x : Result Read SyntaxRefusal) (at n limit : ℕ) → IfOk x (λ r. (at < r.next) × (r.next ≤ limit))
+    → IsKept list longer x (Ok n) → (at < n) × (n ≤ limit)
+kept_behind list longer (Ok r) at n limit h k = subst (λ n. (at < n) × (n ≤ limit)) (sym k.1) h
+kept_behind list longer (Err e) at n limit h k = absurd k
 
 pub ruleset bodies = (body_wrong, body_deep, body_fails, body_goes)
 
@@ -142,8 +156,8 @@ pub ruleset endings = (ended_fails, ended_goes)
 
 pub ruleset arms = (arms_fail, arm_alone, other_fails, both_arms)
 
-pub ruleset dos = (do_fails, do_gives)
+pub ruleset dos = (do_fails, do_gives, sign_within)
 
 pub ruleset blocks = (block_unopened, block_fails, block_goes)
 
-pub ruleset lists = (list_ends, list_fails, list_goes, none_pointed, one_pointed)
+pub ruleset lists = (list_ends, list_fails, kept_behind)

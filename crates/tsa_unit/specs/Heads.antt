@@ -69,7 +69,6 @@ IsOpened word old new (Label name) = new ≡ old
 abbrev pub IsUnpointed : Head → Type 0
 IsUnpointed (Case value) = Unit {0}
 IsUnpointed Otherwise = Unit {0}
-IsUnpointed (Label name) = Unit {0}
 IsUnpointed head = ⊥
 
 -- a test's point was passed

@@ -1,6 +1,7 @@
 pub mod Outcomes
 pub mod Seen
 pub mod Pointed
+pub mod Kept
 pub mod Parsing
 pub mod Heads
 pub mod Openings

@@ -1,14 +1,13 @@
 //! Statements are made of what stands before their bodies, the bodies, and what stands behind them.
-ghost use Rattle.std.specs.Prelude.{◌≡◌, ◌+◌, ◌≤◌, ◌<◌, List, length, IfOk};
-ghost use Rattle.tsa_base.specs.declared.limits.TheConstants.{INPUT_LIMIT, NESTING_LIMIT};
+ghost use Rattle.std.specs.Prelude.{◌≡◌, ◌≤◌, ◌<◌, List, length, IfOk};
 ghost use Rattle.tsa_tree.specs.declared.stmt.Point.{Point as point_type};
 ghost use Rattle.tsa_base.specs.declared.token.Span.{Span as span_type};
 ghost use Rattle.tsa_tree.specs.Shapes.{shape};
-ghost use Rattle.tsa_tree.specs.Signs.{lexemes, span_at as spec_span, span_over as spec_over};
+ghost use Rattle.tsa_tree.specs.Signs.{span_at as spec_span, span_over as spec_over};
 ghost use Rattle.tsa_tree.specs.Statements.{block};
 ghost use Rattle.tsa_tree.specs.StatementShapes.{stmt_shape, stmt_shapes};
+ghost use Rattle.tsa_expr.specs.Source.{input, named};
 ghost use Rattle.tsa_expr.specs.Gives.{Gives};
-ghost use Rattle.tsa_expr.specs.Known.{known};
 ghost use Rattle.tsa_unit.specs.Heads.{IsMarked, IsOpened, do_end_at, ended as spec_ended, ended_with, if_with};
 ghost use Rattle.tsa_unit.specs.Pointed.{ArePointed, IsPointed, ArmsPointed};
 ghost use Rattle.tsa_unit.specs.Seen.{seen_statement};
@@ -17,11 +16,17 @@ use crate::conditions::while_word;
 use crate::heads::{Head, Marked, marked_test};
 use crate::parts::Body;
 use crate::points::Read;
-use bumpalo::Bump;
-use tsa_base::Token;
 use tsa_decl::semicolon;
-use tsa_expr::{Aliases, SyntaxRefusal, span_over};
+use tsa_expr::{Reader, SyntaxRefusal};
 use tsa_tree::stmt::{Point, Stmt, StmtKind};
+
+/// The arms of an `if`, the second where there is one, and the token behind them.
+#[derive(Clone, Copy)]
+pub struct Arms<'a> {
+    pub yes: &'a Stmt<'a>,
+    pub no: Option<&'a Stmt<'a>>,
+    pub next: u32,
+}
 
 /// What a statement is, and the number of its point, by what stands before its body.
 fn kind_of<'a>(head: Head<'a>, body: &'a Stmt<'a>) -> (StmtKind<'a>, Option<u32>)
@@ -51,79 +56,75 @@ fn kind_of<'a>(head: Head<'a>, body: &'a Stmt<'a>) -> (StmtKind<'a>, Option<u32>
 }
 
 /// A statement with the body that ends it.
-pub fn ended<'a>(tokens: &[Token<'_>], start: u32, head: Head<'a>, body: Body<'a>) -> Read<'a>
+pub fn headed_with_body<'a>(
+    reader: Reader<'_, '_>,
+    start: u32,
+    head: Head<'a>,
+    body: Body<'a>,
+) -> Read<'a>
     requires { 0 < body.next }
-    ensures is { seen_statement result ≡ (spec_ended head.entry (stmt_shape body.entry.stmt.now.kind body.entry.stmt.now.span) (spec_over (lexemes tokens.now) start body.entry.next), body.entry.next) }
+    ensures is { seen_statement result ≡ (spec_ended head.entry (stmt_shape body.entry.stmt.now.kind body.entry.stmt.now.span) (spec_over (input reader.entry) start body.entry.next), body.entry.next) }
     ensures next_is { result.next ≡ body.entry.next }
-    ensures pointed { (first middle last : List point_type) → IsOpened (spec_span (lexemes tokens.now) start) first middle head.entry → IsPointed middle last body.entry.stmt.now → IsPointed first last result.stmt }
+    ensures pointed { (first middle last : List point_type) → IsOpened (spec_span (input reader.entry) start) first middle head.entry → IsPointed middle last body.entry.stmt.now → IsPointed first last result.stmt }
 {
     let (kind, point) = kind_of(head, body.stmt);
-    let span = span_over(tokens, start, body.next);
+    let span = reader.over(start, body.next);
     Read {
         stmt: Stmt { kind, point, span },
         next: body.next,
     }
 }
 
-/// An `if` with its arm, and the other one where there is one, up to before `next`.
+/// An `if` with its arms.
 #[tactic(auto, using(crate::proofs::ClosingLaws::ifs))]
-pub fn if_statement<'a>(
-    tokens: &[Token<'_>],
+pub fn if_with_arms<'a>(
+    reader: Reader<'_, '_>,
     start: u32,
     marked: Marked<'a>,
-    arm: Body<'a>,
-    other: Option<&'a Stmt<'a>>,
-    next: u32,
+    arms: Arms<'a>,
 ) -> Read<'a>
-    requires { 0 < next }
-    ensures is { seen_statement result ≡ (if_with (shape marked.entry.test) arm.entry.stmt.now other.entry (spec_over (lexemes tokens.now) start next), next) }
-    ensures next_is { result.next ≡ next }
-    ensures pointed { (first middle between last : List point_type) → IsMarked first middle marked.entry → IsPointed middle between arm.entry.stmt.now → ArmsPointed between last other.entry → IsPointed first last result.stmt }
+    requires { 0 < arms.next }
+    ensures is { seen_statement result ≡ (if_with (shape marked.entry.test) arms.entry.yes.now arms.entry.no (spec_over (input reader.entry) start arms.entry.next), arms.entry.next) }
+    ensures next_is { result.next ≡ arms.entry.next }
+    ensures pointed { (first middle between last : List point_type) → IsMarked first middle marked.entry → IsPointed middle between arms.entry.yes.now → ArmsPointed between last arms.entry.no → IsPointed first last result.stmt }
 {
     let kind = StmtKind::If {
         test: marked.test,
-        yes: arm.stmt,
-        no: other,
+        yes: arms.yes,
+        no: arms.no,
     };
-    let span = span_over(tokens, start, next);
+    let span = reader.over(start, arms.next);
     Read {
         stmt: Stmt {
             kind,
             point: Some(marked.number),
             span,
         },
-        next,
+        next: arms.next,
     }
 }
 
 /// A `do` from behind its body on: its test, whose point follows those of the body.
 #[tactic(auto, using(crate::proofs::ClosingLaws::dos))]
-pub fn do_statement<'a>(
-    bump: &'a Bump,
-    tokens: &[Token<'_>],
+pub fn do_with_test<'a>(
+    reader: Reader<'a, '_>,
     start: u32,
     depth: u32,
-    aliases: Option<&Aliases>,
     body: Body<'a>,
     points: &mut Vec<Point<'a>>,
 ) -> Result<Read<'a>, SyntaxRefusal>
-    requires room { length tokens.now ≤ INPUT_LIMIT }
-    requires within { (start < body.next) × (body.next ≤ length tokens.now) }
-    requires shallow { depth ≤ NESTING_LIMIT }
-    requires few { length points.now.items ≤ body.next }
-    ensures gives { Gives seen_statement result (do_end_at (lexemes tokens.now) (known aliases.entry) depth start (stmt_shape body.entry.stmt.now.kind body.entry.stmt.now.span) body.entry.next) }
+    ensures gives { Gives seen_statement result (do_end_at (input reader.entry) (named reader.entry) depth start (stmt_shape body.entry.stmt.now.kind body.entry.stmt.now.span) body.entry.next) }
     ensures pointed { IfOk result (λ r. (first : List point_type) → IsPointed first points.old.items body.entry.stmt.now → IsPointed first points.new.items r.stmt) }
-    ensures few { IfOk result (λ r. length points.new.items ≤ r.next) }
-    ensures ends { IfOk result (λ r. (start < r.next) × (r.next ≤ length tokens.now)) }
+    ensures ends { IfOk result (λ r. (body.entry.next < r.next) × (r.next ≤ length reader.entry.tokens.now)) }
 {
-    let behind = while_word(tokens, body.next, aliases)?;
-    let marked = marked_test(bump, tokens, behind, depth, aliases, points)?;
-    let next = semicolon(tokens, marked.next, aliases)?;
+    let behind = while_word(reader, body.next)?;
+    let marked = marked_test(reader, behind, depth, points)?;
+    let next = semicolon(reader, marked.next)?;
     let kind = StmtKind::DoWhile {
         body: body.stmt,
         test: marked.test,
     };
-    let span = span_over(tokens, start, next);
+    let span = reader.over(start, next);
     Ok(Read {
         stmt: Stmt {
             kind,
@@ -136,18 +137,18 @@ pub fn do_statement<'a>(
 
 /// A block with its statements, up to before `next`. It has no point of its own.
 #[tactic(auto, using(crate::proofs::ClosingLaws::blocks))]
-pub fn block_statement<'a>(
-    tokens: &[Token<'_>],
+pub fn block_of<'a>(
+    reader: Reader<'_, '_>,
     start: u32,
     items: &'a [Stmt<'a>],
     next: u32,
 ) -> Read<'a>
     requires { 0 < next }
-    ensures is { seen_statement result ≡ (block (stmt_shapes items.entry.now) (spec_over (lexemes tokens.now) start next), next) }
+    ensures is { seen_statement result ≡ (block (stmt_shapes items.entry.now) (spec_over (input reader.entry) start next), next) }
     ensures next_is { result.next ≡ next }
     ensures pointed { (first last : List point_type) → ArePointed first last items.entry.now → IsPointed first last result.stmt }
 {
-    let span = span_over(tokens, start, next);
+    let span = reader.over(start, next);
     Read {
         stmt: Stmt {
             kind: StmtKind::Block(items),

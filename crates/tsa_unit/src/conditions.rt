@@ -1,20 +1,16 @@
 //! What stands in the parentheses of statements, and the tokens that hold them together (C11 6.8.4, 6.8.5).
 ghost use Rattle.std.specs.Prelude.{◌≡◌, ◌+◌, ◌≤◌, ◌<◌, length, true, IfOk};
-ghost use Rattle.tsa_base.specs.declared.limits.TheConstants.{INPUT_LIMIT, NESTING_LIMIT};
 ghost use Rattle.tsa_tree.specs.declared.sign.Keyword.TheVariants as key;
 ghost use Rattle.tsa_tree.specs.Rows.{a_close, a_colon, a_keyword, sees};
-ghost use Rattle.tsa_tree.specs.Signs.{lexemes};
+ghost use Rattle.tsa_expr.specs.Source.{input, named};
 ghost use Rattle.tsa_expr.specs.Gives.{Gives};
-ghost use Rattle.tsa_expr.specs.Known.{known};
 ghost use Rattle.tsa_decl.specs.Outcomes.{one_token};
 ghost use Rattle.tsa_decl.specs.Seen.{passed};
 ghost use Rattle.tsa_unit.specs.Outcomes.{test_at, value_or_none_at};
 ghost use Rattle.tsa_unit.specs.Seen.{seen_tested, seen_value};
 
-use bumpalo::Bump;
-use tsa_base::Token;
-use tsa_decl::{open, semicolon};
-use tsa_expr::{Aliases, SyntaxCode, SyntaxRefusal, read_expression, refuse, sign_at};
+use tsa_decl::{kept_in, open, semicolon};
+use tsa_expr::{Reader, SyntaxCode, SyntaxRefusal, refuse};
 use tsa_tree::expr::Expr;
 use tsa_tree::sign::{Keyword, Sign};
 
@@ -34,12 +30,11 @@ pub struct Value<'a> {
 
 /// Behind the parenthesis that has to stand at a place and closes a construct.
 #[tactic(auto, using(crate::proofs::ConditionLaws::closings))]
-pub fn close(tokens: &[Token<'_>], at: u32, aliases: Option<&Aliases>) -> Result<u32, SyntaxRefusal>
-    requires room { length tokens.now ≤ INPUT_LIMIT }
-    ensures gives { Gives passed result (one_token (lexemes tokens.now) (a_close (known aliases.entry)) at) }
-    ensures ends { IfOk result (λ next. (next ≡ at + 1) × (next ≤ length tokens.now)) }
+pub fn close(reader: Reader<'_, '_>, at: u32) -> Result<u32, SyntaxRefusal>
+    ensures gives { Gives passed result (one_token (input reader.entry) (a_close (named reader.entry)) at) }
+    ensures ends { IfOk result (λ next. (next ≡ at + 1) × (next ≤ length reader.entry.tokens.now)) }
 {
-    match sign_at(tokens, at, aliases) {
+    match reader.sign(at) {
         Sign::Close => Ok(at + 1),
         _ => Err(refuse(SyntaxCode::SY1, at)),
     }
@@ -47,12 +42,11 @@ pub fn close(tokens: &[Token<'_>], at: u32, aliases: Option<&Aliases>) -> Result
 
 /// Behind the colon that has to stand at a place.
 #[tactic(auto, using(crate::proofs::ConditionLaws::colons))]
-pub fn colon(tokens: &[Token<'_>], at: u32, aliases: Option<&Aliases>) -> Result<u32, SyntaxRefusal>
-    requires room { length tokens.now ≤ INPUT_LIMIT }
-    ensures gives { Gives passed result (one_token (lexemes tokens.now) (a_colon (known aliases.entry)) at) }
-    ensures ends { IfOk result (λ next. (next ≡ at + 1) × (next ≤ length tokens.now)) }
+pub fn colon(reader: Reader<'_, '_>, at: u32) -> Result<u32, SyntaxRefusal>
+    ensures gives { Gives passed result (one_token (input reader.entry) (a_colon (named reader.entry)) at) }
+    ensures ends { IfOk result (λ next. (next ≡ at + 1) × (next ≤ length reader.entry.tokens.now)) }
 {
-    match sign_at(tokens, at, aliases) {
+    match reader.sign(at) {
         Sign::Colon => Ok(at + 1),
         _ => Err(refuse(SyntaxCode::SY1, at)),
     }
@@ -60,27 +54,22 @@ pub fn colon(tokens: &[Token<'_>], at: u32, aliases: Option<&Aliases>) -> Result
 
 /// Behind the `while` that has to stand behind the body of a `do`.
 #[tactic(auto, using(crate::proofs::ConditionLaws::whiles))]
-pub fn while_word(
-    tokens: &[Token<'_>],
-    at: u32,
-    aliases: Option<&Aliases>,
-) -> Result<u32, SyntaxRefusal>
-    requires room { length tokens.now ≤ INPUT_LIMIT }
-    ensures gives { Gives passed result (one_token (lexemes tokens.now) (a_keyword (known aliases.entry) key.While) at) }
-    ensures ends { IfOk result (λ next. (next ≡ at + 1) × (next ≤ length tokens.now)) }
+pub fn while_word(reader: Reader<'_, '_>, at: u32) -> Result<u32, SyntaxRefusal>
+    ensures gives { Gives passed result (one_token (input reader.entry) (a_keyword (named reader.entry) key.While) at) }
+    ensures ends { IfOk result (λ next. (next ≡ at + 1) × (next ≤ length reader.entry.tokens.now)) }
 {
-    match sign_at(tokens, at, aliases) {
+    match reader.sign(at) {
         Sign::Keyword(Keyword::While) => Ok(at + 1),
         _ => Err(refuse(SyntaxCode::SY1, at)),
     }
 }
 
 /// Whether `else` stands at a place.
-pub fn is_else_at(tokens: &[Token<'_>], at: u32, aliases: Option<&Aliases>) -> bool
-    ensures is { result ≡ sees (lexemes tokens.now) (a_keyword (known aliases.entry) key.Else) at }
-    ensures inside { result ≡ true → at < length tokens.now }
+pub fn is_else_at(reader: Reader<'_, '_>, at: u32) -> bool
+    ensures is { result ≡ sees (input reader.entry) (a_keyword (named reader.entry) key.Else) at }
+    ensures inside { result ≡ true → at < length reader.entry.tokens.now }
 {
-    match sign_at(tokens, at, aliases) {
+    match reader.sign(at) {
         Sign::Keyword(Keyword::Else) => true,
         _ => false,
     }
@@ -88,49 +77,35 @@ pub fn is_else_at(tokens: &[Token<'_>], at: u32, aliases: Option<&Aliases>) -> b
 
 /// A test or the value of a `switch`, in its parentheses.
 #[tactic(auto, using(crate::proofs::ConditionLaws::tests))]
-pub fn test<'a>(
-    bump: &'a Bump,
-    tokens: &[Token<'_>],
-    at: u32,
-    depth: u32,
-    aliases: Option<&Aliases>,
-) -> Result<Tested<'a>, SyntaxRefusal>
-    requires room { length tokens.now ≤ INPUT_LIMIT }
-    requires within { at ≤ length tokens.now }
-    requires shallow { depth ≤ NESTING_LIMIT }
-    ensures gives { Gives seen_tested result (test_at (lexemes tokens.now) (known aliases.entry) depth at) }
-    ensures ends { IfOk result (λ r. (at < r.next) × (r.next ≤ length tokens.now)) }
+pub fn test<'a>(reader: Reader<'a, '_>, at: u32, depth: u32) -> Result<Tested<'a>, SyntaxRefusal>
+    ensures gives { Gives seen_tested result (test_at (input reader.entry) (named reader.entry) depth at) }
+    ensures ends { IfOk result (λ r. (at < r.next) × (r.next ≤ length reader.entry.tokens.now)) }
 {
-    let inside = open(tokens, at, depth, aliases)?;
-    let inner = read_expression(bump, tokens, inside, depth + 1, aliases)?;
-    let next = close(tokens, inner.next, aliases)?;
-    let tree: &'a Expr<'a> = bump.try_alloc(inner.tree)?;
+    let inside = open(reader, at, depth)?;
+    let inner = reader.expression(inside, depth + 1, 0)?;
+    let next = close(reader, inner.next)?;
+    let tree = kept_in(reader.bump, inner.tree)?;
     Ok(Tested { tree, next })
 }
 
 /// An expression or nothing, and the `;` behind it.
 #[tactic(auto, using(crate::proofs::ConditionLaws::values))]
 pub fn value_or_none<'a>(
-    bump: &'a Bump,
-    tokens: &[Token<'_>],
+    reader: Reader<'a, '_>,
     at: u32,
     depth: u32,
-    aliases: Option<&Aliases>,
 ) -> Result<Value<'a>, SyntaxRefusal>
-    requires room { length tokens.now ≤ INPUT_LIMIT }
-    requires within { at ≤ length tokens.now }
-    requires shallow { depth ≤ NESTING_LIMIT }
-    ensures gives { Gives seen_value result (value_or_none_at (lexemes tokens.now) (known aliases.entry) depth at) }
-    ensures ends { IfOk result (λ r. (at < r.next) × (r.next ≤ length tokens.now)) }
+    ensures gives { Gives seen_value result (value_or_none_at (input reader.entry) (named reader.entry) depth at) }
+    ensures ends { IfOk result (λ r. (at < r.next) × (r.next ≤ length reader.entry.tokens.now)) }
 {
-    if let Sign::Semicolon = sign_at(tokens, at, aliases) {
+    if let Sign::Semicolon = reader.sign(at) {
         return Ok(Value {
             tree: None,
             next: at + 1,
         });
     }
-    let inner = read_expression(bump, tokens, at, depth, aliases)?;
-    let next = semicolon(tokens, inner.next, aliases)?;
+    let inner = reader.expression(at, depth, 0)?;
+    let next = semicolon(reader, inner.next)?;
     Ok(Value {
         tree: Some(inner.tree),
         next,

@@ -14,14 +14,7 @@ mod points;
 mod signs;
 mod simple;
 mod statements;
+mod text;
 mod unit;
 
-pub use simple::{Simple, SimpleKind, read_simple};
 pub use unit::parse;
-
-#[cfg(test)]
-mod point_tests;
-#[cfg(test)]
-mod shown;
-#[cfg(test)]
-mod tests;

@@ -10,8 +10,8 @@ use tsa_expr::{SyntaxCode, SyntaxRefusal};
 use tsa_tree::item::{FnTree, Item};
 
 /// The function that an item is, a prototype or one with a body.
-fn function<'a>(item: Item<'a>) -> Option<FnTree<'a>>
-    ensures { result ≡ function_in item.entry }
+fn function<'i, 'a>(item: &'i Item<'a>) -> Option<&'i FnTree<'a>>
+    ensures { option_map (λ function. function.now) result ≡ function_in item.now }
 {
     match item {
         Item::Function(function) => Some(function),
@@ -26,7 +26,7 @@ fn past_functions(items: &[Item<'_>]) -> Option<Span>
 {
     let mut left = FUNCTION_LIMIT;
     'items: for item in items {
-        let Some(function) = function(*item) else {
+        let Some(function) = function(item) else {
             continue;
         };
         if left == 0 {
@@ -44,7 +44,7 @@ fn past_points(items: &[Item<'_>]) -> Option<Span>
     ensures { result ≡ option_map (λ name. name.span) (too_many_points (item_shapes items.now)) }
 {
     'items: for item in items {
-        let Some(function) = function(*item) else {
+        let Some(function) = function(item) else {
             continue;
         };
         if function.points.len() > POINT_LIMIT {

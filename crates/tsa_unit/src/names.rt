@@ -11,8 +11,8 @@ use tsa_tree::expr::Name;
 use tsa_tree::item::Item;
 
 /// The name of a type that an item gives.
-fn type_name<'a>(item: Item<'a>) -> Option<Name<'a>>
-    ensures { name_of (option_map name_shape result) ≡ names_of_item (item_shape item.entry) }
+fn type_name<'a>(item: &Item<'a>) -> Option<Name<'a>>
+    ensures { name_of (option_map name_shape result) ≡ names_of_item (item_shape item.now) }
 {
     match item {
         Item::Structure(structure) => structure.alias,
@@ -40,7 +40,7 @@ fn learn(aliases: &mut Aliases, items: &[Item<'_>]) -> Result<(), SyntaxRefusal>
     ensures memory { OnErr result (result ≡ Err SyntaxRefusal.NoMemory) }
 {
     'items: for item in items {
-        if let Some(name) = type_name(*item) {
+        if let Some(name) = type_name(item) {
             add(aliases, name)?;
         }
     }

@@ -1,168 +1,71 @@
-//! How a statement begins, told by its first sign (C11 6.8).
-ghost use Rattle.std.specs.Prelude.{◌≡◌, ◌+◌, ◌≤◌, ◌<◌, length, IfOk};
-ghost use Rattle.tsa_base.specs.declared.limits.TheConstants.{INPUT_LIMIT, NESTING_LIMIT};
+//! What stands before a body that ends its statement, and statements without a body, by their keywords (C11 6.8).
+ghost use Rattle.std.specs.Prelude.{◌≡◌, ◌≤◌, ◌<◌, length, true, IfOk};
 ghost use Rattle.tsa_tree.specs.Reads.{read};
 ghost use Rattle.tsa_tree.specs.Rows.{a_statement, statement as statement_call};
-ghost use Rattle.tsa_tree.specs.Signs.{lexemes, sign_at as spec_sign, span_at as spec_span};
-ghost use Rattle.tsa_expr.specs.Gives.{Gives};
-ghost use Rattle.tsa_expr.specs.Known.{known};
-ghost use Rattle.tsa_unit.specs.Openings.{GoesOn, HoldsNoBody, IsBefore, place_of};
-ghost use Rattle.tsa_unit.specs.Outcomes.{AreNear};
+ghost use Rattle.tsa_tree.specs.Signs.{sign_at as spec_sign, span_at as spec_span};
+ghost use Rattle.tsa_expr.specs.Source.{input, named};
+ghost use Rattle.tsa_expr.specs.Gives.{Gives, Leads};
+ghost use Rattle.tsa_unit.specs.Heads.{IsOpened, ended_at, seen_head};
+ghost use Rattle.tsa_unit.specs.Openings.{HoldsNoBody, ends_with_body};
 ghost use Rattle.tsa_unit.specs.Pointed.{IsPointed};
 ghost use Rattle.tsa_unit.specs.Seen.{seen_statement};
 
-use crate::heads::{
-    Headed, Marked, case_head, default_head, for_head, label_head, marked_test, switch_head,
-    while_head,
+use crate::heads::{Headed, case_head, default_head, switch_head, while_head};
+use crate::leaves::{
+    break_statement, continue_statement, goto, return_statement, simple_statement,
 };
-use crate::leaves::{empty, goto, jump, return_statement, simple_statement};
 use crate::points::Read;
-use bumpalo::Bump;
-use tsa_base::Token;
-use tsa_expr::{Aliases, SyntaxRefusal, sign_at};
+use crate::text::TextReader;
+use tsa_expr::{Reader, SyntaxRefusal};
 use tsa_tree::sign::{Keyword, Sign};
-use tsa_tree::stmt::{Point, StmtKind};
+use tsa_tree::stmt::Point;
 
-/// What was read of a statement: the whole, or what stands before its first body.
-#[derive(Clone, Copy)]
-pub enum Opening<'a> {
-    Whole(Read<'a>),
-    /// A block stands there, and nothing of it was read.
-    Block,
-    If(Marked<'a>),
-    /// `do` stands there.
-    Do,
-    Ending(Headed<'a>),
-}
-
-/// What a statement begins with. A name is a label where a colon stands behind it.
-#[tactic(auto, using(crate::proofs::OpeningLaws::signs))]
-pub fn begin_statement<'a>(
-    bump: &'a Bump,
-    tokens: &[Token<'_>],
-    at: u32,
-    depth: u32,
-    aliases: Option<&Aliases>,
-    points: &mut Vec<Point<'a>>,
-) -> Result<Opening<'a>, SyntaxRefusal>
-    requires room { length tokens.now ≤ INPUT_LIMIT }
-    requires near { AreNear (lexemes tokens.now) }
-    requires within { at ≤ length tokens.now }
-    requires shallow { depth ≤ NESTING_LIMIT }
-    requires few { length points.now.items ≤ at }
-    ensures goes { GoesOn (lexemes tokens.now) (known aliases.entry) depth at result }
-    ensures before { IfOk result (λ r. IsBefore (spec_span (lexemes tokens.now) at) points.old.items points.new.items r) }
-    ensures few { IfOk result (λ r. length points.new.items ≤ place_of at r) }
-    ensures ends { IfOk result (λ r. (at < place_of at r) × (place_of at r ≤ length tokens.now)) }
-{
-    match sign_at(tokens, at, aliases) {
-        Sign::OpenBrace => Ok(Opening::Block),
-        Sign::Semicolon => Ok(Opening::Whole(empty(tokens, at, aliases, points)?)),
-        Sign::Keyword(word) => worded(bump, tokens, at, depth, aliases, word, points),
-        Sign::Name => named(bump, tokens, at, depth, aliases, points),
-        _ => {
-            let read = simple_statement(bump, tokens, at, depth, aliases, points)?;
-            Ok(Opening::Whole(read))
+impl<'a, 't> TextReader<'a, 't> {
+    /// What stands before the body that ends a statement, where it begins with a keyword.
+    #[tactic(auto, using(crate::proofs::OpeningLaws::heads))]
+    pub fn keyword_head(
+        self,
+        at: u32,
+        depth: u32,
+        word: Keyword,
+        points: &mut Vec<Point<'a>>,
+    ) -> Result<Headed<'a>, SyntaxRefusal>
+        requires there { spec_sign (input self.reader) (named self.reader) at ≡ Sign.Keyword word }
+        requires headed { ends_with_body word ≡ true }
+        ensures leads { Leads seen_head result (read (input self.entry.reader) a_statement (statement_call (named self.entry.reader) depth) at) (ended_at (input self.entry.reader) (named self.entry.reader) depth at) }
+        ensures opened { IfOk result (λ r. IsOpened (spec_span (input self.entry.reader) at) points.old.items points.new.items r.head) }
+        ensures ends { IfOk result (λ r. (at < r.next) × (r.next ≤ length self.entry.reader.tokens.now)) }
+    {
+        match word {
+            Keyword::While => while_head(self.reader, at, depth, points),
+            Keyword::Switch => switch_head(self.reader, at, depth, points),
+            Keyword::For => self.for_head(at, depth, points),
+            Keyword::Case => case_head(self.reader, at, depth),
+            _ => default_head(self.reader, at, depth),
         }
     }
 }
 
-/// A label, or a simple statement that begins with a name.
-#[tactic(auto, using(crate::proofs::OpeningLaws::names))]
-fn named<'a>(
-    bump: &'a Bump,
-    tokens: &[Token<'_>],
-    at: u32,
-    depth: u32,
-    aliases: Option<&Aliases>,
-    points: &mut Vec<Point<'a>>,
-) -> Result<Opening<'a>, SyntaxRefusal>
-    requires room { length tokens.now ≤ INPUT_LIMIT }
-    requires within { at < length tokens.now }
-    requires shallow { depth ≤ NESTING_LIMIT }
-    requires few { length points.now.items ≤ at }
-    requires there { spec_sign (lexemes tokens.now) (known aliases) at ≡ Sign.Name }
-    ensures goes { GoesOn (lexemes tokens.now) (known aliases.entry) depth at result }
-    ensures before { IfOk result (λ r. IsBefore (spec_span (lexemes tokens.now) at) points.old.items points.new.items r) }
-    ensures few { IfOk result (λ r. length points.new.items ≤ place_of at r) }
-    ensures ends { IfOk result (λ r. (at < place_of at r) × (place_of at r ≤ length tokens.now)) }
-{
-    let Sign::Colon = sign_at(tokens, at + 1, aliases) else {
-        let read = simple_statement(bump, tokens, at, depth, aliases, points)?;
-        return Ok(Opening::Whole(read));
-    };
-    let headed = label_head(bump, tokens, at, depth, aliases)?;
-    Ok(Opening::Ending(headed))
-}
-
-/// A statement that begins with a keyword; one that begins none is refused as a simple one.
-#[tactic(auto, using(crate::proofs::OpeningLaws::words))]
-fn worded<'a>(
-    bump: &'a Bump,
-    tokens: &[Token<'_>],
-    at: u32,
-    depth: u32,
-    aliases: Option<&Aliases>,
-    word: Keyword,
-    points: &mut Vec<Point<'a>>,
-) -> Result<Opening<'a>, SyntaxRefusal>
-    requires room { length tokens.now ≤ INPUT_LIMIT }
-    requires near { AreNear (lexemes tokens.now) }
-    requires within { at < length tokens.now }
-    requires shallow { depth ≤ NESTING_LIMIT }
-    requires few { length points.now.items ≤ at }
-    requires there { spec_sign (lexemes tokens.now) (known aliases) at ≡ Sign.Keyword word }
-    ensures goes { GoesOn (lexemes tokens.now) (known aliases.entry) depth at result }
-    ensures before { IfOk result (λ r. IsBefore (spec_span (lexemes tokens.now) at) points.old.items points.new.items r) }
-    ensures few { IfOk result (λ r. length points.new.items ≤ place_of at r) }
-    ensures ends { IfOk result (λ r. (at < place_of at r) × (place_of at r ≤ length tokens.now)) }
-{
-    let headed = match word {
-        Keyword::If => {
-            let marked = marked_test(bump, tokens, at + 1, depth, aliases, points)?;
-            return Ok(Opening::If(marked));
-        }
-        Keyword::Do => return Ok(Opening::Do),
-        Keyword::While => while_head(bump, tokens, at, depth, aliases, points)?,
-        Keyword::Switch => switch_head(bump, tokens, at, depth, aliases, points)?,
-        Keyword::For => for_head(bump, tokens, at, depth, aliases, points)?,
-        Keyword::Case => case_head(bump, tokens, at, depth, aliases)?,
-        Keyword::Default => default_head(tokens, at, depth, aliases)?,
-        _ => {
-            let read = jumped(bump, tokens, at, depth, aliases, word, points)?;
-            return Ok(Opening::Whole(read));
-        }
-    };
-    Ok(Opening::Ending(headed))
-}
-
-/// A statement that begins with a keyword and holds no other one.
+/// A statement that begins with a keyword and holds no other one; where no statement begins so, it is refused as a simple one.
 #[tactic(auto, using(crate::proofs::OpeningLaws::jumps))]
-fn jumped<'a>(
-    bump: &'a Bump,
-    tokens: &[Token<'_>],
+pub fn leaf_statement<'a>(
+    reader: Reader<'a, '_>,
     at: u32,
     depth: u32,
-    aliases: Option<&Aliases>,
     word: Keyword,
     points: &mut Vec<Point<'a>>,
 ) -> Result<Read<'a>, SyntaxRefusal>
-    requires room { length tokens.now ≤ INPUT_LIMIT }
-    requires within { at < length tokens.now }
-    requires shallow { depth ≤ NESTING_LIMIT }
-    requires few { length points.now.items ≤ at }
-    requires there { spec_sign (lexemes tokens.now) (known aliases) at ≡ Sign.Keyword word }
+    requires there { spec_sign (input reader) (named reader) at ≡ Sign.Keyword word }
     requires bodiless { HoldsNoBody word }
-    ensures gives { Gives seen_statement result (read (lexemes tokens.now) a_statement (statement_call (known aliases.entry) depth) at) }
+    ensures gives { Gives seen_statement result (read (input reader.entry) a_statement (statement_call (named reader.entry) depth) at) }
     ensures pointed { IfOk result (λ r. IsPointed points.old.items points.new.items r.stmt) }
-    ensures few { IfOk result (λ r. length points.new.items ≤ r.next) }
-    ensures ends { IfOk result (λ r. (at < r.next) × (r.next ≤ length tokens.now)) }
+    ensures ends { IfOk result (λ r. (at < r.next) × (r.next ≤ length reader.entry.tokens.now)) }
 {
     match word {
-        Keyword::Break => jump(tokens, at, aliases, StmtKind::Break, points),
-        Keyword::Continue => jump(tokens, at, aliases, StmtKind::Continue, points),
-        Keyword::Goto => goto(bump, tokens, at, aliases, points),
-        Keyword::Return => return_statement(bump, tokens, at, depth, aliases, points),
-        _ => simple_statement(bump, tokens, at, depth, aliases, points),
+        Keyword::Break => break_statement(reader, at, points),
+        Keyword::Continue => continue_statement(reader, at, points),
+        Keyword::Goto => goto(reader, at, points),
+        Keyword::Return => return_statement(reader, at, depth, points),
+        _ => simple_statement(reader, at, depth, Sign::Keyword(word), points),
     }
 }

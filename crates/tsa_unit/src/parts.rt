@@ -1,31 +1,31 @@
 //! What stands in the parentheses of a `for`, and locals in a block, with their points (C11 6.8.2, 6.8.5.3).
-ghost use Rattle.std.specs.Prelude.{◌≡◌, ◌+◌, ◌≤◌, ◌<◌, ◌++◌, ◌∷◌, [], ℕ, List, length, map, option_map, true, Some, None, Err, IfOk, OnOk, OnErr};
-ghost use Rattle.tsa_base.specs.declared.limits.TheConstants.{INPUT_LIMIT, NESTING_LIMIT};
+ghost use Rattle.std.specs.Prelude.{◌≡◌, ◌+◌, ◌≤◌, ◌<◌, ◌++◌, ◌∷◌, [], List, length, map, option_map, true, Some, None, Err, IfOk, OnOk, OnErr};
 ghost use Rattle.tsa_tree.specs.declared.stmt.Point.{Point as point_type};
 ghost use Rattle.tsa_tree.specs.ItemShapes.{decl_shapes};
 ghost use Rattle.tsa_tree.specs.Points.{point_of_for};
 ghost use Rattle.tsa_tree.specs.Reads.{read};
 ghost use Rattle.tsa_tree.specs.Rows.{a_for_init, some_statements, for_init as for_init_call, statements as statements_call};
 ghost use Rattle.tsa_tree.specs.Shapes.{shape};
-ghost use Rattle.tsa_tree.specs.Signs.{lexemes, span_at as spec_span, begins_type as spec_begins_type, sign_at as spec_sign};
+ghost use Rattle.tsa_tree.specs.Signs.{span_at as spec_span, begins_type as spec_begins_type, sign_at as spec_sign};
 ghost use Rattle.tsa_tree.specs.Statements.{locals_before, none};
 ghost use Rattle.tsa_tree.specs.StatementShapes.{point_shape, stmt_shapes};
+ghost use Rattle.tsa_expr.specs.Source.{input, named};
 ghost use Rattle.tsa_expr.specs.Gives.{Gives, Leads};
-ghost use Rattle.tsa_expr.specs.Known.{known};
 ghost use Rattle.tsa_decl.specs.Seen.{passed};
 ghost use Rattle.tsa_unit.specs.Outcomes.{joined, simply_at, statements_after, step_at};
 ghost use Rattle.tsa_unit.specs.Pointed.{ArePointed, IsBegun, IsPointed, IsStepped};
 ghost use Rattle.tsa_unit.specs.Seen.{seen_body, seen_init, seen_step};
 
 use crate::conditions::close;
-use crate::leaves::done_at;
-use crate::points::{local, mark, pointed};
+use crate::leaves::simply;
+use crate::points::{local, local_in, mark};
 use crate::signs::begins_type;
 use crate::simple::read_simple;
+use crate::text::TextReader;
 use bumpalo::Bump;
-use tsa_base::{Span, Token};
-use tsa_decl::{keep, read_locals, semicolon};
-use tsa_expr::{Aliases, SyntaxRefusal, sign_at, span_at};
+use tsa_base::Span;
+use tsa_decl::{keep, kept_in, read_locals, semicolon};
+use tsa_expr::{Reader, SyntaxRefusal};
 use tsa_tree::decl::Decl;
 use tsa_tree::expr::Expr;
 use tsa_tree::sign::Sign;
@@ -45,62 +45,53 @@ pub struct Part<'a> {
     pub next: u32,
 }
 
-/// A simple statement without a `;`: its span ends with its last token.
+/// A simple statement that begins with this sign, without a `;`: its span ends with its last token.
 #[tactic(auto, using(crate::proofs::PartLaws::simples))]
-fn simply<'a>(
-    bump: &'a Bump,
-    tokens: &[Token<'_>],
+fn simple_part<'a>(
+    reader: Reader<'a, '_>,
     at: u32,
     depth: u32,
-    aliases: Option<&Aliases>,
+    sign: Sign,
     points: &mut Vec<Point<'a>>,
 ) -> Result<Body<'a>, SyntaxRefusal>
-    requires room { length tokens.now ≤ INPUT_LIMIT }
-    requires within { at ≤ length tokens.now }
-    requires shallow { depth ≤ NESTING_LIMIT }
-    requires few { length points.now.items ≤ at }
-    ensures gives { Gives seen_body result (simply_at (lexemes tokens.now) (known aliases.entry) depth at) }
+    requires there { sign ≡ spec_sign (input reader) (named reader) at }
+    ensures gives { Gives seen_body result (simply_at (input reader.entry) (named reader.entry) depth at) }
     ensures pointed { IfOk result (λ r. IsPointed points.old.items points.new.items r.stmt.now) }
-    ensures few { IfOk result (λ r. length points.new.items ≤ r.next) }
-    ensures ends { IfOk result (λ r. (at < r.next) × (r.next ≤ length tokens.now)) }
+    ensures ends { IfOk result (λ r. (at < r.next) × (r.next ≤ length reader.entry.tokens.now)) }
 {
-    let simple = read_simple(bump, tokens, at, depth, aliases)?;
-    let deed = done_at(bump, simple.kind)?;
-    let made = pointed(points, deed.kind, deed.action, simple.span)?;
-    let stmt: &'a Stmt<'a> = bump.try_alloc(made)?;
-    Ok(Body {
-        stmt,
-        next: simple.next,
-    })
+    let simple = read_simple(reader, at, depth, sign)?;
+    let read = simply(reader.bump, &simple.kind, simple.span, simple.next, points)?;
+    in_body(reader.bump, read.stmt, read.next)
+}
+
+/// A statement, kept in the arena.
+pub fn in_body<'a>(bump: &'a Bump, stmt: Stmt<'a>, next: u32) -> Result<Body<'a>, SyntaxRefusal>
+    ensures is { IfOk result (λ r. (r.stmt.now ≡ stmt.entry) × (r.next ≡ next)) }
+    ensures memory { OnErr result (result ≡ Err SyntaxRefusal.NoMemory) }
+{
+    let stmt = kept_in(bump, stmt)?;
+    Ok(Body { stmt, next })
 }
 
 /// The local that stands before the first `;` of a `for`.
 #[tactic(auto, using(crate::proofs::PartLaws::for_locals))]
 fn local_init<'a>(
-    bump: &'a Bump,
-    tokens: &[Token<'_>],
+    reader: Reader<'a, '_>,
     at: u32,
     depth: u32,
-    aliases: Option<&Aliases>,
     points: &mut Vec<Point<'a>>,
 ) -> Result<Part<'a>, SyntaxRefusal>
-    requires room { length tokens.now ≤ INPUT_LIMIT }
-    requires within { at ≤ length tokens.now }
-    requires shallow { depth ≤ NESTING_LIMIT }
-    requires few { length points.now.items ≤ at }
-    requires there { spec_begins_type (spec_sign (lexemes tokens.now) (known aliases) at) ≡ true }
-    ensures gives { Gives seen_init result (read (lexemes tokens.now) a_for_init (for_init_call (known aliases.entry) depth) at) }
+    requires there { spec_begins_type (spec_sign (input reader) (named reader) at) ≡ true }
+    ensures gives { Gives seen_init result (read (input reader.entry) a_for_init (for_init_call (named reader.entry) depth) at) }
     ensures pointed { IfOk result (λ r. IsBegun points.old.items points.new.items r.stmt) }
-    ensures few { IfOk result (λ r. length points.new.items ≤ r.next) }
-    ensures ends { IfOk result (λ r. (at < r.next) × (r.next ≤ length tokens.now)) }
+    ensures ends { IfOk result (λ r. (at < r.next) × (r.next ≤ length reader.entry.tokens.now)) }
 {
-    let (decls, behind) = read_locals(bump, tokens, at, depth, aliases, true)?;
-    let next = semicolon(tokens, behind, aliases)?;
+    let (decls, behind) = read_locals(reader, at, depth, true)?;
+    let next = semicolon(reader, behind)?;
     let Some(decl) = decls.first() else {
         return Ok(Part { stmt: None, next });
     };
-    let made = local(points, decl)?;
-    let stmt: &'a Stmt<'a> = bump.try_alloc(made)?;
+    let stmt = local_in(reader.bump, decl, points)?;
     Ok(Part {
         stmt: Some(stmt),
         next,
@@ -110,23 +101,16 @@ fn local_init<'a>(
 /// What stands before the first `;` of a `for`, and that `;`.
 #[tactic(auto, using(crate::proofs::PartLaws::inits))]
 pub fn for_init<'a>(
-    bump: &'a Bump,
-    tokens: &[Token<'_>],
+    reader: Reader<'a, '_>,
     at: u32,
     depth: u32,
-    aliases: Option<&Aliases>,
     points: &mut Vec<Point<'a>>,
 ) -> Result<Part<'a>, SyntaxRefusal>
-    requires room { length tokens.now ≤ INPUT_LIMIT }
-    requires within { at ≤ length tokens.now }
-    requires shallow { depth ≤ NESTING_LIMIT }
-    requires few { length points.now.items ≤ at }
-    ensures gives { Gives seen_init result (read (lexemes tokens.now) a_for_init (for_init_call (known aliases.entry) depth) at) }
+    ensures gives { Gives seen_init result (read (input reader.entry) a_for_init (for_init_call (named reader.entry) depth) at) }
     ensures pointed { IfOk result (λ r. IsBegun points.old.items points.new.items r.stmt) }
-    ensures few { IfOk result (λ r. length points.new.items ≤ r.next) }
-    ensures ends { IfOk result (λ r. (at < r.next) × (r.next ≤ length tokens.now)) }
+    ensures ends { IfOk result (λ r. (at < r.next) × (r.next ≤ length reader.entry.tokens.now)) }
 {
-    let sign = sign_at(tokens, at, aliases);
+    let sign = reader.sign(at);
     if let Sign::Semicolon = sign {
         return Ok(Part {
             stmt: None,
@@ -134,10 +118,10 @@ pub fn for_init<'a>(
         });
     }
     if begins_type(sign) {
-        return local_init(bump, tokens, at, depth, aliases, points);
+        return local_init(reader, at, depth, points);
     }
-    let whole = simply(bump, tokens, at, depth, aliases, points)?;
-    let next = semicolon(tokens, whole.next, aliases)?;
+    let whole = simple_part(reader, at, depth, sign, points)?;
+    let next = semicolon(reader, whole.next)?;
     Ok(Part {
         stmt: Some(whole.stmt),
         next,
@@ -147,60 +131,51 @@ pub fn for_init<'a>(
 /// What stands behind the second `;` of a `for`, and the parenthesis that closes it.
 #[tactic(auto, using(crate::proofs::PartLaws::steps))]
 pub fn for_step<'a>(
-    bump: &'a Bump,
-    tokens: &[Token<'_>],
+    reader: Reader<'a, '_>,
     at: u32,
     depth: u32,
-    aliases: Option<&Aliases>,
     points: &mut Vec<Point<'a>>,
 ) -> Result<Part<'a>, SyntaxRefusal>
-    requires room { length tokens.now ≤ INPUT_LIMIT }
-    requires within { at ≤ length tokens.now }
-    requires shallow { depth ≤ NESTING_LIMIT }
-    requires few { length points.now.items ≤ at }
-    ensures gives { Gives seen_step result (step_at (lexemes tokens.now) (known aliases.entry) depth at) }
+    ensures gives { Gives seen_step result (step_at (input reader.entry) (named reader.entry) depth at) }
     ensures pointed { IfOk result (λ r. IsStepped points.old.items points.new.items r.stmt) }
-    ensures few { IfOk result (λ r. length points.new.items ≤ r.next) }
-    ensures ends { IfOk result (λ r. (at < r.next) × (r.next ≤ length tokens.now)) }
+    ensures ends { IfOk result (λ r. (at < r.next) × (r.next ≤ length reader.entry.tokens.now)) }
 {
-    if let Sign::Close = sign_at(tokens, at, aliases) {
+    let sign = reader.sign(at);
+    if let Sign::Close = sign {
         return Ok(Part {
             stmt: None,
             next: at + 1,
         });
     }
-    let whole = simply(bump, tokens, at, depth, aliases, points)?;
-    let next = close(tokens, whole.next, aliases)?;
+    let whole = simple_part(reader, at, depth, sign, points)?;
+    let next = close(reader, whole.next)?;
     Ok(Part {
         stmt: Some(whole.stmt),
         next,
     })
 }
 
-/// The point of a `for`: that of its test, or of the constant 1 at its word, of three bytes (C11 6.8.5.3p2).
-#[tactic(auto, using(crate::proofs::MarkLaws::loops))]
-pub fn mark_loop<'a>(
-    bump: &'a Bump,
-    word: Span,
-    test: Option<Expr<'a>>,
-    points: &mut Vec<Point<'a>>,
-) -> Result<u32, SyntaxRefusal>
-    requires near { word.from ≤ INPUT_LIMIT }
-    requires few { length points.now.items ≤ INPUT_LIMIT }
-    ensures number { IfOk result (λ number. number ≡ length points.old.items) }
-    ensures pointed { OnOk result (map point_shape points.new.items ≡ map point_shape points.old.items ++ point_of_for word (option_map shape test.entry) ∷ []) }
-    ensures grown { OnOk result (length points.new.items ≡ length points.old.items + 1) }
-    ensures memory { OnErr result (result ≡ Err SyntaxRefusal.NoMemory) }
-{
-    let Some(tree) = test else {
-        let span = Span {
-            from: word.from,
-            to: word.from + 3,
+impl<'a, 't> TextReader<'a, 't> {
+    /// The point of a `for`: that of its test, or of the constant 1 at its word, of three bytes (C11 6.8.5.3p2).
+    #[tactic(auto, using(crate::proofs::MarkLaws::loops))]
+    pub fn mark_loop(
+        self,
+        start: u32,
+        test: Option<Expr<'a>>,
+        points: &mut Vec<Point<'a>>,
+    ) -> Result<u32, SyntaxRefusal>
+        ensures number { IfOk result (λ number. number ≡ length points.old.items) }
+        ensures pointed { OnOk result (map point_shape points.new.items ≡ map point_shape points.old.items ++ point_of_for (spec_span (input self.entry.reader) start) (option_map shape test.entry) ∷ []) }
+        ensures memory { OnErr result (result ≡ Err SyntaxRefusal.NoMemory) }
+    {
+        let Some(tree) = test else {
+            let from = self.begin(start);
+            let span = Span { from, to: from + 3 };
+            return mark(points, Action::Test(None), span);
         };
-        return mark(points, Action::Test(None), span);
-    };
-    let kept: &'a Expr<'a> = bump.try_alloc(tree)?;
-    mark(points, Action::Test(Some(kept)), kept.span)
+        let kept = kept_in(self.reader.bump, tree)?;
+        mark(points, Action::Test(Some(kept)), kept.span)
+    }
 }
 
 /// Locals behind other statements of a block, each with its point.
@@ -210,10 +185,8 @@ pub fn declare<'a>(
     points: &mut Vec<Point<'a>>,
     list: &mut Vec<Stmt<'a>>,
 ) -> Result<(), SyntaxRefusal>
-    requires few { length points.now.items + length decls.now ≤ INPUT_LIMIT }
     ensures listed { OnOk result (stmt_shapes list.new.items ≡ joined (stmt_shapes list.old.items) (locals_before (decl_shapes decls.entry.now) none)) }
     ensures pointed { OnOk result ((start : List point_type) → ArePointed start points.old.items list.old.items → ArePointed start points.new.items list.new.items) }
-    ensures grown { OnOk result (length points.new.items ≡ length points.old.items + length decls.entry.now) }
     ensures memory { OnErr result (result ≡ Err SyntaxRefusal.NoMemory) }
 {
     'locals: for decl in decls {
@@ -226,26 +199,19 @@ pub fn declare<'a>(
 /// Locals of a block and their `;`, behind its other statements.
 #[tactic(auto, using(crate::proofs::MarkLaws::blocks))]
 pub fn locals<'a>(
-    bump: &'a Bump,
-    tokens: &[Token<'_>],
+    reader: Reader<'a, '_>,
     at: u32,
     depth: u32,
-    aliases: Option<&Aliases>,
     points: &mut Vec<Point<'a>>,
     list: &mut Vec<Stmt<'a>>,
 ) -> Result<u32, SyntaxRefusal>
-    requires room { length tokens.now ≤ INPUT_LIMIT }
-    requires within { at ≤ length tokens.now }
-    requires shallow { depth ≤ NESTING_LIMIT }
-    requires few { length points.now.items ≤ at }
-    requires there { spec_begins_type (spec_sign (lexemes tokens.now) (known aliases) at) ≡ true }
-    ensures leads { Leads passed result (statements_after (stmt_shapes list.old.items) (read (lexemes tokens.now) some_statements (statements_call (known aliases.entry) depth) at)) (λ u next. statements_after (stmt_shapes list.new.items) (read (lexemes tokens.now) some_statements (statements_call (known aliases.entry) depth) next)) }
+    requires there { spec_begins_type (spec_sign (input reader) (named reader) at) ≡ true }
+    ensures leads { Leads passed result (statements_after (stmt_shapes list.old.items) (read (input reader.entry) some_statements (statements_call (named reader.entry) depth) at)) (λ u next. statements_after (stmt_shapes list.new.items) (read (input reader.entry) some_statements (statements_call (named reader.entry) depth) next)) }
     ensures pointed { IfOk result (λ next. (start : List point_type) → ArePointed start points.old.items list.old.items → ArePointed start points.new.items list.new.items) }
-    ensures few { IfOk result (λ next. length points.new.items ≤ next) }
-    ensures ends { IfOk result (λ next. (at < next) × (next ≤ length tokens.now)) }
+    ensures ends { IfOk result (λ next. (at < next) × (next ≤ length reader.entry.tokens.now)) }
 {
-    let (decls, behind) = read_locals(bump, tokens, at, depth, aliases, false)?;
-    let next = semicolon(tokens, behind, aliases)?;
+    let (decls, behind) = read_locals(reader, at, depth, false)?;
+    let next = semicolon(reader, behind)?;
     declare(decls, points, list)?;
     Ok(next)
 }

@@ -1,5 +1,5 @@
 //! What statements see of a sign.
-ghost use Rattle.std.specs.Prelude.{◌≡◌, ◌≢◌, None};
+ghost use Rattle.std.specs.Prelude.{◌≡◌, ◌≢◌, None, true};
 ghost use Rattle.tsa_tree.specs.Signs.{assigns as spec_assigns, begins_type as spec_begins_type, begins_statement as spec_begins_statement};
 ghost use Rattle.tsa_unit.specs.Outcomes.{step_in, closes_block as spec_closes_block};
 
@@ -19,7 +19,8 @@ pub fn step_of(sign: Sign) -> Option<BinaryOp>
 
 /// The operator of an assignment, where a sign is one: `=` has none (C11 6.5.16).
 pub fn assigns(sign: Sign) -> Option<Option<BinaryOp>>
-    ensures { result ≡ spec_assigns sign }
+    ensures is { result ≡ spec_assigns sign }
+    ensures real { result ≢ None → sign ≢ Sign.End }
 {
     match sign {
         Sign::Equals => Some(None),
@@ -30,7 +31,8 @@ pub fn assigns(sign: Sign) -> Option<Option<BinaryOp>>
 
 /// Whether a sign closes a block (C11 6.8.2).
 pub fn closes_block(sign: Sign) -> bool
-    ensures { result ≡ spec_closes_block sign }
+    ensures is { result ≡ spec_closes_block sign }
+    ensures real { result ≡ true → sign ≢ Sign.End }
 {
     match sign {
         Sign::CloseBrace => true,

@@ -16,6 +16,7 @@ ghost use Rattle.tsa_unit.specs.Parsing.{IsParsed, IsLongest, IsBroken, IsRefuse
 use crate::items::item;
 use crate::limits::within_limits;
 use crate::names::learn_from;
+use crate::text::Text;
 use bumpalo::Bump;
 use std::alloc::Global;
 use tsa_base::Token;
@@ -55,7 +56,7 @@ pub fn parse<'a>(
     ensures too_long { (span : span_type) → IsErrOf result (SyntaxRefusal.Function SyntaxCode.LM3 span) → HasTooManyPoints (lexemes tokens.now) span }
     ensures no_other { (refusal : _) → IsErrOf result refusal → IsOfUnits refusal }
 {
-    read_parsed(alloc, bump, tokens)
+    read_parsed(alloc, bump, Text { tokens })
 }
 
 /// The unit that the rows give.
@@ -63,30 +64,26 @@ pub fn parse<'a>(
 fn read_parsed<'a>(
     alloc: Global,
     bump: &'a Bump,
-    tokens: &[Token<'_>],
+    text: Text<'_>,
 ) -> Result<Parsed<'a>, SyntaxRefusal>
-    requires room { length tokens.now ≤ INPUT_LIMIT }
-    requires near { AreNear (lexemes tokens.now) }
-    ensures told { IsTold (λ parsed. item_shapes parsed.unit.now.items.now) result (lexemes tokens.now) }
+    ensures told { IsTold (λ parsed. item_shapes parsed.unit.now.items.now) result (lexemes text.entry.tokens.now) }
     ensures points { IfOk result (λ parsed. HaveTheirPoints parsed.unit.now.items.now) }
 {
-    let items = within(alloc, bump, tokens)?;
+    let items = items_within_limits(alloc, bump, text)?;
     let unit: &'a UnitTree<'a> = bump.try_alloc(UnitTree { items })?;
     Ok(Parsed::new(unit))
 }
 
 /// The items, where they are within the limits of a unit.
-fn within<'a>(
+fn items_within_limits<'a>(
     alloc: Global,
     bump: &'a Bump,
-    tokens: &[Token<'_>],
+    text: Text<'_>,
 ) -> Result<&'a [Item<'a>], SyntaxRefusal>
-    requires room { length tokens.now ≤ INPUT_LIMIT }
-    requires near { AreNear (lexemes tokens.now) }
-    ensures told { IsTold (λ items. item_shapes items.now) result (lexemes tokens.now) }
+    ensures told { IsTold (λ items. item_shapes items.now) result (lexemes text.entry.tokens.now) }
     ensures points { IfOk result (λ items. HaveTheirPoints items.now) }
 {
-    let list = read_items(alloc, bump, tokens)?;
+    let list = read_items(alloc, bump, text)?;
     let items = in_arena(bump, &list)?;
     within_limits(items)?;
     Ok(items)
@@ -97,18 +94,16 @@ fn within<'a>(
 fn read_items<'a>(
     alloc: Global,
     bump: &'a Bump,
-    tokens: &[Token<'_>],
+    text: Text<'_>,
 ) -> Result<Vec<Item<'a>>, SyntaxRefusal>
-    requires room { length tokens.now ≤ INPUT_LIMIT }
-    requires near { AreNear (lexemes tokens.now) }
-    ensures gives { Gives (λ list. (item_shapes list.items, length tokens.now)) result (read_unit (lexemes tokens.now)) }
+    ensures gives { Gives (λ list. (item_shapes list.items, length text.entry.tokens.now)) result (read_unit (lexemes text.entry.tokens.now)) }
     ensures points { IfOk result (λ list. HaveTheirPoints list.items) }
 {
     let mut aliases = Aliases::new(alloc);
     let mut list = Vec::new(alloc);
     let mut next = 0;
-    'items: while (next as usize) < tokens.len() {
-        next = next_item(bump, tokens, next, &mut aliases, &mut list)?;
+    'items: while (next as usize) < text.tokens.len() {
+        next = next_item(bump, text, next, &mut aliases, &mut list)?;
     }
     Ok(list)
 }
@@ -117,20 +112,18 @@ fn read_items<'a>(
 #[tactic(auto, using(crate::proofs::UnitLaws::steps))]
 fn next_item<'a>(
     bump: &'a Bump,
-    tokens: &[Token<'_>],
+    text: Text<'_>,
     at: u32,
     aliases: &mut Aliases,
     list: &mut Vec<Item<'a>>,
 ) -> Result<u32, SyntaxRefusal>
-    requires room { length tokens.now ≤ INPUT_LIMIT }
-    requires near { AreNear (lexemes tokens.now) }
-    requires within { at < length tokens.now }
-    ensures leads { Leads passed result (on_from (lexemes tokens.now) list.old.items aliases.old at) (λ u next. on_from (lexemes tokens.now) list.new.items aliases.new next) }
+    requires within { at < length text.tokens.now }
+    ensures leads { Leads passed result (on_from (lexemes text.entry.tokens.now) list.old.items aliases.old at) (λ u next. on_from (lexemes text.entry.tokens.now) list.new.items aliases.new next) }
     ensures pointed { IfOk result (λ next. HaveTheirPoints list.old.items → HaveTheirPoints list.new.items) }
-    ensures ends { IfOk result (λ next. (at < next) × (next ≤ length tokens.now)) }
+    ensures ends { IfOk result (λ next. (at < next) × (next ≤ length text.entry.tokens.now)) }
 {
     let before = list.len();
-    let next = item(bump, tokens, at, Some(&*aliases), list)?;
+    let next = item(bump, text, at, Some(&*aliases), list)?;
     learn_from(aliases, list, before)?;
     Ok(next)
 }

@@ -17,9 +17,9 @@ returns-in_err-next-clause-gives c =
 
 pub returns-clause-gives : goal.returns-clause-gives
 returns-clause-gives c =
-    plain_goes _ _ c.args.list.now.items (base_shape c.args.specified.base) c.args.specified.is_const c.args.specified.next _ _ _ _ c.ctype.result c.span_over-span.result
-    c.in_ok-of.ensures.gives c.in_ok-next.ensures.gives c.in_ok-next.ensures.ends.0 c.span_over-span.ensures c.ctype.ensures refl
-    ∙ ap (λ l. Ok (item_shapes l, c.in_ok-next.next)) (sym c.in_ok-keep.ensures.gives)
+    plain_goes _ _ c.args.list.now.items (base_shape c.args.specified.base) c.args.specified.is_const c.args.specified.next _ _ _ _ c.ctype.result c.over-span.result
+    c.in_ok-of.ensures.gives c.in_ok-next.ensures.gives c.in_ok-next.ensures.ends.0 c.over-span.ensures c.ctype.ensures refl
+    ∙ ap (λ l. Ok (item_shapes l, c.in_ok-next.next)) (sym c.in_ok-keep_alias.ensures.gives)
 
 pub returns-clause-pointed : goal.returns-clause-pointed
-returns-clause-pointed c = more_pointed _ _ _ c.in_ok-keep.ensures.gives tt
+returns-clause-pointed c = more_pointed _ _ _ c.in_ok-keep_alias.ensures.gives tt

@@ -6,9 +6,9 @@ use Rattle.tsa_decl.proofs.bodies.structure.Goals as goal
 
 pub returns-clause-gives : goal.returns-clause-gives
 returns-clause-gives c =
-    structure_goes _ _ _ _ _ _ _ _ _ _ _ _ _ _ c.span_over-span.result c.in_ok-body.ensures.gives c.in_ok-alias.ensures.gives c.in_ok-next.ensures.gives
-    c.in_ok-next.ensures.ends.0 c.span_over-span.ensures refl
-    ∙ ap (λ l. Ok (item_shapes l, c.in_ok-next.next)) (sym c.in_ok-keep.ensures.gives)
+    structure_goes _ _ _ _ _ _ _ _ _ _ _ _ _ _ c.over-span.result c.in_ok-body.ensures.gives c.in_ok-alias.ensures.gives c.in_ok-next.ensures.gives
+    c.in_ok-next.ensures.ends.0 c.over-span.ensures refl
+    ∙ ap (λ l. Ok (item_shapes l, c.in_ok-next.next)) (sym c.in_ok-keep_structure.ensures.gives)
 
 pub returns-clause-pointed : goal.returns-clause-pointed
-returns-clause-pointed c = more_pointed _ _ _ c.in_ok-keep.ensures.gives tt
+returns-clause-pointed c = more_pointed _ _ _ c.in_ok-keep_structure.ensures.gives tt

@@ -1,13 +1,12 @@
 use Rattle.std.proofs.Common.{◌≡◌, ◌≤◌, length, ◌-◌}
-use Rattle.tsa_tree.specs.Signs.{lexemes}
-use Rattle.tsa_expr.specs.Known.{known}
+use Rattle.tsa_expr.specs.Source.{input, named}
 use Rattle.tsa_decl.specs.Outcomes.{storage_at}
 use Rattle.tsa_decl.proofs.heads.behind_storage.Given as goal
 
 abbrev pub invariant-words : goal.invariant-words
 invariant-words l =
-    (l.at ≤ l.next) × (l.next ≤ length l.tokens)
-    × (storage_at (lexemes l.tokens) (known l.aliases) l.at ≡ storage_at (lexemes l.tokens) (known l.aliases) l.next)
+    (l.at ≤ l.next)
+    × (storage_at (input l.reader) (named l.reader) l.at ≡ storage_at (input l.reader) (named l.reader) l.next)
 
 abbrev pub decreases-words : goal.decreases-words
-decreases-words l = length l.tokens - l.next
+decreases-words l = length l.reader.tokens.now - l.next

@@ -10,4 +10,4 @@ returns-clause-leads c =
     leads_same _ _ _ _ _
     (declared_of_same _ _ bodies c.args.list.now.items (base_shape c.args.base) c.args.at (row_type c.specified_at-specified.result)
     c.specified_at-specified.result.next c.specified_at-specified.ensures.is)
-    (c.declared.ensures.leads bodies)
+    (c.globals_or_head.ensures.leads bodies)

@@ -20,5 +20,5 @@ returns-in-Some-clause-gives c =
     gives_same _ _ _ _
     (struct_alias_named _ _ c.args.list.now.items c.args.at _ _ c.in_ok-opening.opening.tag c.in-Some.tag c.in_ok-opening.opening.next
     (fresh_goes _ _ _ c.new-attrs.ensures.items c.in_ok-behind.ensures.gives) c.in_ok-opening.ensures.gives
-    (ap is_attribute_sign (sym c.sign_at.ensures.is) ∙ sym c.begins_group.ensures ∙ c.if-not-begins_group.true) (sym c.used_tag.ensures ∙ c.in-Some.is))
+    (ap is_attribute_sign (sym c.sign.ensures.is) ∙ sym c.begins_group.ensures ∙ c.if-not-begins_group.true) (sym c.used_tag.ensures ∙ c.in-Some.is))
     c.alias_of.ensures.gives

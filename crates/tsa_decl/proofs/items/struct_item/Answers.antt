@@ -1,7 +1,6 @@
 use Rattle.std.proofs.Common.{rules, ◌∙◌, sym, ap}
 use Rattle.tsa_tree.specs.Rows.{is_attribute_sign}
-use Rattle.tsa_tree.specs.Signs.{lexemes}
-use Rattle.tsa_expr.specs.Known.{known}
+use Rattle.tsa_expr.specs.Source.{input, named}
 use Rattle.tsa_decl.proofs.BegunLaws.{leads_failed, leads_same}
 use Rattle.tsa_decl.proofs.TagLaws.{fresh_fails, fresh_goes, struct_unmarked, struct_tagless, struct_named}
 use Rattle.tsa_decl.proofs.items.struct_item.Goals as goal
@@ -22,6 +21,6 @@ pub returns-in_default-clause-leads : goal.returns-in_default-clause-leads
 returns-in_default-clause-leads c =
     λ bodies.
     leads_same _ _ _ _ _
-    (struct_named (lexemes c.args.tokens.now) (known c.args.aliases) bodies c.args.list.now.items c.args.at _ _ _ _ (fresh_goes _ _ _ c.new-attrs.ensures.items c.in_ok-behind.ensures.gives) c.in_ok-tag.ensures.gives
-    (ap is_attribute_sign (sym c.sign_at.ensures.is) ∙ sym c.begins_group.ensures ∙ c.if-not-begins_group.true) (search rules) (search rules))
+    (struct_named (input c.args.reader) (named c.args.reader) bodies c.args.list.now.items c.args.at _ _ _ _ (fresh_goes _ _ _ c.new-attrs.ensures.items c.in_ok-behind.ensures.gives) c.in_ok-tag.ensures.gives
+    (ap is_attribute_sign (sym c.sign.ensures.is) ∙ sym c.begins_group.ensures ∙ c.if-not-begins_group.true) (search rules) (search rules))
     (c.declared_of.ensures.leads bodies)

@@ -4,13 +4,12 @@ use Rattle.tsa_decl.proofs.GlobalLaws.{lists}
 use Rattle.tsa_decl.proofs.lists.globals.Goals as goal
 
 pub returns-then-not-declared-clause-pointed : goal.returns-then-not-declared-clause-pointed
-returns-then-not-declared-clause-pointed c = λ h. more_pointed _ _ _ c.in_ok-keep.ensures.gives tt (c.globals.invariant.4 h)
+returns-then-not-declared-clause-pointed c = λ h. more_pointed _ _ _ c.in_ok-keep_global.ensures.gives tt (c.globals.invariant.3 h)
 
 pub globals-preserved : goal.globals-preserved
 globals-preserved c = (
   search rules,
   search rules,
-  search rules,
   search (rules, lists),
-  λ h. more_pointed _ _ _ c.in_ok-keep.ensures.gives tt (c.globals.invariant.4 h),
+  λ h. more_pointed _ _ _ c.in_ok-keep_global.ensures.gives tt (c.globals.invariant.3 h),
 )

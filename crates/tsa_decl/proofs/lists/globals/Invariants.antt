@@ -1,17 +1,16 @@
-use Rattle.std.proofs.Common.{◌≡◌, ◌≤◌, ◌<◌, length, ◌-◌}
+use Rattle.std.proofs.Common.{◌≡◌, ◌≤◌, length, ◌-◌}
 use Rattle.tsa_tree.specs.UnitShapes.{item_shapes, HaveTheirPoints}
-use Rattle.tsa_tree.specs.Signs.{lexemes}
-use Rattle.tsa_expr.specs.Known.{known}
+use Rattle.tsa_expr.specs.Source.{input, named}
 use Rattle.tsa_decl.specs.Outcomes.{after, globals_at}
 use Rattle.tsa_decl.specs.Seen.{row_type, row_declarator}
 use Rattle.tsa_decl.proofs.lists.globals.Given as goal
 
 abbrev pub invariant-globals : goal.invariant-globals
 invariant-globals l =
-    (l.first.next ≤ l.of.next) × (l.of.next ≤ length l.tokens) × (l.of.start < l.of.next)
-    × (after (item_shapes l.fn.list.items) (globals_at (lexemes l.tokens) (known l.aliases) (row_type l.specified) (row_declarator l.first) l.first.next)
-    ≡ after (item_shapes l.list.items) (globals_at (lexemes l.tokens) (known l.aliases) (row_type l.specified) (row_declarator l.of) l.of.next))
+    (l.first.next ≤ l.of.next) × (l.of.next ≤ length l.reader.tokens.now)
+    × (after (item_shapes l.fn.list.items) (globals_at (input l.reader) (named l.reader) (row_type l.specified) (row_declarator l.first) l.first.next)
+    ≡ after (item_shapes l.list.items) (globals_at (input l.reader) (named l.reader) (row_type l.specified) (row_declarator l.of) l.of.next))
     × (HaveTheirPoints l.fn.list.items → HaveTheirPoints l.list.items)
 
 abbrev pub decreases-globals : goal.decreases-globals
-decreases-globals l = length l.tokens - l.of.next
+decreases-globals l = length l.reader.tokens.now - l.of.next

@@ -6,9 +6,8 @@ use Rattle.tsa_unit.proofs.leaves.return_statement.Goals as goal
 pub returns : goal.returns
 returns c = record {
   gives =
-      return_answers _ _ _ _ _ _ _ (subst (λ s. s ≢ sign.Semicolon) c.sign_at.ensures.is c.in_default.not-Semicolon) c.in_ok-value.ensures.gives
-      c.closed-2.ensures.gives;
+      return_answers _ _ _ _ _ _ _ (subst (λ s. s ≢ sign.Semicolon) c.sign.ensures.is c.in_default.not-Semicolon) c.in_ok-value.ensures.gives
+      c.closed_statement-2.ensures.gives;
   pointed = search rules;
-  few = search rules;
   ends = search rules;
 }

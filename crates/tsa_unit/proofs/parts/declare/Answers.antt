@@ -1,4 +1,4 @@
-use Rattle.std.proofs.Common.{rules, ◌∙◌, sym, subst}
+use Rattle.std.proofs.Common.{◌∙◌, sym, subst}
 use Rattle.tsa_unit.specs.Pointed.{ArePointed}
 use Rattle.tsa_unit.proofs.MarkLaws.{locals_one, locals_none, pushed}
 use Rattle.tsa_unit.proofs.parts.declare.Goals as goal
@@ -8,7 +8,6 @@ pub locals-preserved : goal.locals-preserved
 locals-preserved c = record {
   listed = c.locals.invariant.listed ∙ locals_one _ _ _ _ _ _ c.locals-test.true c.in_ok-stmt.ensures.is c.in_ok-keep.ensures.gives;
   pointed = λ start h. subst (ArePointed start c.local.new.points.items) (sym c.in_ok-keep.ensures.gives) (pushed start _ _ _ _ (c.locals.invariant.pointed start h) c.in_ok-stmt.ensures.pointed);
-  grown = search rules;
 }
 
 -- src/parts.rt:206:1

@@ -1,5 +1,4 @@
 use Rattle.std.proofs.Common.{◌∙◌, ap, sym, option_copied}
-use Rattle.tsa_tree.specs.StatementShapes.{init_of}
 use Rattle.tsa_unit.proofs.PartLaws.{local_goes, local_seen, lone_none, lone_first}
 use Rattle.tsa_unit.proofs.parts.local_init.Goals as goal
 
@@ -13,5 +12,5 @@ returns-in_default-clause-gives c =
 pub returns-clause-gives : goal.returns-clause-gives
 returns-clause-gives c =
     local_goes _ _ _ _ _ _ _ _ c.requires.there c.in_ok-decls.ensures.gives c.in_ok-next.ensures.gives
-    (ap (λ s. init_of s.kind s.span) c.in_ok-stmt.ensures ∙ local_seen c.in_ok-made.made _ c.in_ok-made.ensures.is
+    (local_seen c.in_ok-stmt.stmt.now _ c.in_ok-stmt.ensures.is
     ∙ sym (lone_first _ _ (sym c.first.ensures.value ∙ ap option_copied c.in-Some.is)))

@@ -7,8 +7,8 @@ use Rattle.tsa_unit.proofs.unit.read_items.Given as goal
 
 abbrev pub invariant-items : goal.invariant-items
 invariant-items l =
-    (l.next ≤ length l.tokens) × HaveTheirPoints l.list.items
-    × (read_unit (lexemes l.tokens) ≡ on_from (lexemes l.tokens) l.list.items l.aliases l.next)
+    (l.next ≤ length l.text.tokens.now) × HaveTheirPoints l.list.items
+    × (read_unit (lexemes l.text.tokens.now) ≡ on_from (lexemes l.text.tokens.now) l.list.items l.aliases l.next)
 
 abbrev pub decreases-items : goal.decreases-items
-decreases-items l = length l.tokens - l.next
+decreases-items l = length l.text.tokens.now - l.next
