@@ -35,6 +35,7 @@ fn put_assignment(
     sheet.put_expr(right, 0)
 }
 
+// Puts an expression where there is one.
 fn put_optional(sheet: &mut Sheet, expr: Option<&Expr<'_>>) -> Result<(), NoMemory>
     ensures { OnOk result (page_of sheet.new ≡ put (page_of sheet.old) (optional_pieces (option_map (λ x. shape x.now) expr.entry))) }
 {
@@ -112,6 +113,7 @@ fn put_labelled(sheet: &mut Sheet, text: &[u8]) -> Result<(), NoMemory>
     sheet.put_mark(Mark::Colon)
 }
 
+// Puts a `case` with its value and a colon.
 #[tactic(auto, using(crate::proofs::Pages::put_append))]
 fn put_case(sheet: &mut Sheet, value: &Expr<'_>) -> Result<(), NoMemory>
     ensures { OnOk result (page_of sheet.new ≡ put (page_of sheet.old) (word (codes "case") ∷ (pieces (shape value.now) 0 ++ mark marks.Colon ∷ []))) }
@@ -161,6 +163,7 @@ fn put_jump(sheet: &mut Sheet, text: &[u8]) -> Result<(), NoMemory>
     sheet.put_mark(Mark::Semicolon)
 }
 
+// Puts a `goto` with its label and a semicolon.
 fn put_goto(sheet: &mut Sheet, name: Name<'_>) -> Result<(), NoMemory>
     ensures { OnOk result (page_of sheet.new ≡ put (page_of sheet.old) (word (codes "goto") ∷ (word name.entry.text.now ∷ (mark marks.Semicolon ∷ [])))) }
 {
@@ -168,6 +171,7 @@ fn put_goto(sheet: &mut Sheet, name: Name<'_>) -> Result<(), NoMemory>
     put_jump(sheet, name.text)
 }
 
+// Puts a `return` with its value, where it has one, and a semicolon.
 #[tactic(auto, using(crate::proofs::Pages::put_append))]
 fn put_return(sheet: &mut Sheet, value: Option<&Expr<'_>>) -> Result<(), NoMemory>
     ensures { OnOk result (page_of sheet.new ≡ put (page_of sheet.old) (word (codes "return") ∷ (optional_pieces (option_map (λ x. shape x.now) value.entry) ++ mark marks.Semicolon ∷ []))) }
@@ -202,10 +206,7 @@ fn put_statement(sheet: &mut Sheet, stmt: &Stmt<'_>, closing: Mark) -> Result<()
             put_statement(sheet, body, Mark::CloseBlock)
         }
         StmtKind::Switch { value, body } => put_under_test(sheet, b"switch", value, body),
-        StmtKind::Case { value, body } => {
-            put_case(sheet, value)?;
-            put_statement(sheet, body, Mark::CloseBlock)
-        }
+        StmtKind::Case { value, body } => put_under_case(sheet, value, body),
         StmtKind::Otherwise { body } => put_under_label(sheet, b"default", body),
         StmtKind::Label { name, body } => put_under_label(sheet, name.text, body),
         StmtKind::Break => put_jump(sheet, b"break"),
@@ -239,6 +240,17 @@ fn put_under_label(sheet: &mut Sheet, text: &[u8], body: &Stmt<'_>) -> Result<()
     put_statement(sheet, body, Mark::CloseBlock)
 }
 
+// Puts a `case` with its value and a colon, and a statement.
+#[cycle(statements)]
+#[tactic(auto, using(crate::proofs::Pages::put_append))]
+fn put_under_case(sheet: &mut Sheet, value: &Expr<'_>, body: &Stmt<'_>) -> Result<(), NoMemory>
+    ensures { OnOk result (page_of sheet.new ≡ put (page_of sheet.old) (word (codes "case") ∷ (pieces (shape value.now) 0 ++ (mark marks.Colon ∷ statement_pieces marks.CloseBlock (stmt_shape body.now.kind body.now.span))))) }
+{
+    put_case(sheet, value)?;
+    put_statement(sheet, body, Mark::CloseBlock)
+}
+
+// Puts an `if` with its arm, and its `else` where it has one.
 #[cycle(statements)]
 #[tactic(auto, using(crate::proofs::Pages::put_append))]
 fn put_if(
@@ -259,6 +271,7 @@ fn put_if(
     }
 }
 
+// Puts a `do` with its body, its test and a semicolon.
 #[cycle(statements)]
 #[tactic(auto, using(crate::proofs::Pages::put_append))]
 fn put_do(sheet: &mut Sheet, body: &Stmt<'_>, test: &Expr<'_>) -> Result<(), NoMemory>
@@ -281,6 +294,7 @@ pub fn put_block(sheet: &mut Sheet, items: &[Stmt<'_>], closing: Mark) -> Result
     sheet.put_mark(closing)
 }
 
+// Puts statements one after another.
 #[cycle(statements)]
 fn put_statements(sheet: &mut Sheet, items: &[Stmt<'_>]) -> Result<(), NoMemory>
     ensures { OnOk result (page_of sheet.new ≡ put (page_of sheet.old) (statements_pieces (stmt_shapes items.now))) }

@@ -14,6 +14,9 @@ decreases-put_under_test l = 4 * tall (shape_of l.body.now) + 1
 abbrev pub decreases-put_under_label : goal.decreases-put_under_label
 decreases-put_under_label l = 4 * tall (shape_of l.body.now) + 1
 
+abbrev pub decreases-put_under_case : goal.decreases-put_under_case
+decreases-put_under_case l = 4 * tall (shape_of l.body.now) + 1
+
 abbrev pub decreases-put_do : goal.decreases-put_do
 decreases-put_do l = 4 * tall (shape_of l.body.now) + 1
 
