@@ -15,7 +15,7 @@ use tsa_base::{LexCode, LineStarts, NoMemory};
 use tsa_expr::SyntaxCode;
 
 /// How an answer ends the program.
-#[derive(Clone, Copy, Debug, PartialEq, Eq)]
+#[derive(Clone, Copy)]
 pub enum Status {
     Accepted,
     Printed,
@@ -116,6 +116,7 @@ fn warned(alloc: Global, lines: UnitLines) -> Result<Answer, NoMemory>
     })
 }
 
+// Appends the line that counts the warnings.
 fn push_count(alloc: Global, text: &mut Vec<u8>, count: usize) -> Result<(), NoMemory>
     ensures { OnOk result (text.new.items ≡ text.old.items ++ (codes "warnings: " ++ decimal count ++ 10 ∷ [])) }
 {
@@ -207,6 +208,7 @@ fn syntax_text(code: SyntaxCode) -> &'static [u8]
     }
 }
 
+// The status of a refusal of the syntax.
 fn syntax_status(code: SyntaxCode) -> Status
     ensures { result ≡ syntax_status code }
 {
@@ -216,6 +218,7 @@ fn syntax_status(code: SyntaxCode) -> Status
     }
 }
 
+// An answer of a status and a text.
 fn answer_of(alloc: Global, status: Status, text: &[u8]) -> Result<Answer, NoMemory>
     ensures { IfOk result (λ answer. report_of answer ≡ record { status = status; text = text.now }) }
 {

@@ -12,7 +12,7 @@ use std::alloc::Global;
 use tsa_base::{NoMemory, ReadTrouble, Source, read_all};
 
 /// Why there is no answer.
-#[derive(Clone, Copy, Debug, PartialEq, Eq)]
+#[derive(Clone, Copy)]
 pub enum Trouble {
     SourceFailed,
     NoMemory,

@@ -30,7 +30,7 @@ use tsa_unit::parse;
 
 /// Why a unit is refused, with a line of its own: a byte that makes it no tokens, a token or a function that its syntax
 /// refuses, or a form that isn't built yet.
-#[derive(Clone, Copy, Debug, PartialEq, Eq)]
+#[derive(Clone, Copy)]
 pub enum Refusal {
     Lex { code: LexCode, byte: u32 },
     Syntax { code: SyntaxCode, byte: u32 },
@@ -38,7 +38,7 @@ pub enum Refusal {
 }
 
 /// A refusal, or want of memory.
-#[derive(Clone, Copy, Debug, PartialEq, Eq)]
+#[derive(Clone, Copy)]
 pub enum ToolRefusal {
     Refused(Refusal),
     NoMemory,

@@ -12,7 +12,7 @@ use std::alloc::Global;
 use tsa_base::NoMemory;
 
 /// A failing premise: the number of the point, the rule, and the mutex by its place among the items.
-#[derive(Clone, Copy, Debug, PartialEq, Eq)]
+#[derive(Clone, Copy)]
 pub struct Warning {
     pub point: u32,
     pub rule: Rule,
@@ -20,7 +20,7 @@ pub struct Warning {
 }
 
 /// Whether a mutex is held, at one point.
-#[derive(Clone, Copy, Debug, PartialEq, Eq)]
+#[derive(Clone, Copy)]
 pub struct Held {
     pub lock: u32,
     pub is_held: bool,
@@ -47,6 +47,7 @@ fn set_held(row: &mut [Held], lock: u32, to: bool)
     }
 }
 
+// An entry of a row, with the mutex held or not where the entry is its.
 fn entry_with(held: Held, lock: u32, to: bool) -> Held
     ensures { result ≡ entry_with lock to held }
 {
@@ -73,6 +74,7 @@ fn note_held(row: &[Held], point: u32, warnings: &mut Vec<Warning>) -> Result<()
     Ok(())
 }
 
+// Adds a failing premise at the end.
 fn note(point: u32, rule: Rule, path: u32, warnings: &mut Vec<Warning>) -> Result<(), NoMemory>
     ensures { OnOk result (map warning_view warnings.new.items ≡ map warning_view warnings.old.items ++ record { point = point; rule = rule; path = global path } ∷ []) }
 {

@@ -3,7 +3,7 @@
 use tsa_base::Span;
 
 /// What a point of a body does.
-#[derive(Clone, Copy, Debug, PartialEq, Eq)]
+#[derive(Clone, Copy)]
 pub enum PointAction {
     /// Takes the mutex that is declared at this place.
     Take { lock: u32 },
@@ -16,7 +16,7 @@ pub enum PointAction {
 }
 
 /// A point, and the byte where it stands.
-#[derive(Clone, Copy, Debug, PartialEq, Eq)]
+#[derive(Clone, Copy)]
 pub struct BodyPoint {
     pub place: u32,
     pub action: PointAction,

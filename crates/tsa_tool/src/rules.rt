@@ -1,7 +1,7 @@
 //! The rules whose premises a thin unit can break.
 
 /// A rule, by the code of its warnings.
-#[derive(Clone, Copy, Debug, PartialEq, Eq)]
+#[derive(Clone, Copy)]
 pub enum Rule {
     /// What is written is not held exclusively.
     TS02,

@@ -44,7 +44,7 @@ pub enum ThinItem<'a> {
 }
 
 /// A statement of a body (C11 6.8.3), and the byte with which it begins.
-#[derive(Clone, Copy, Debug, PartialEq, Eq)]
+#[derive(Clone, Copy)]
 pub enum ThinStep {
     /// A call of a lock function on a global lock.
     Call {
