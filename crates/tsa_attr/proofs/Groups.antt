@@ -197,6 +197,10 @@ module _ (ts : List Lexeme) (aliases : Aliases) where
   list_fails xs d m e s h = group_refused xs d m _ e (ap is_attribute_sign s) refl h
 
   -- any number of groups
+  pub none_begin : (d m : ℕ) → is_attribute_sign (sign_at ts aliases m) ≡ false → read_any ts aliases d m ≡ Ok ([], m)
+  unfolding read_any
+  none_begin d m e = other _ _ _ e
+
   pub any_fails : (d m : ℕ) (e : SyntaxRefusal) → Fails e (after [] (read_any ts aliases d m)) → Fails e (read_any ts aliases d m)
   any_fails d m e h = fails_same e _ _ (sym (after-nothing _)) h
 
@@ -207,4 +211,4 @@ pub ruleset groups = (sign_within, no_group, macro_goes, macro_fails, macro_left
 
 pub ruleset attribute_lists = (sign_within, bracketed_first, bracketed_second, bracketed_empty, bracketed_full, bracketed_fails)
 
-pub ruleset any = (any_fails, any_goes)
+pub ruleset any = (none_begin, any_fails, any_goes)

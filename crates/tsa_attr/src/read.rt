@@ -11,6 +11,7 @@ ghost use Rattle.tsa_attr.specs.Outcomes.{IsOfAttributes, after};
 
 use crate::nodes::into_arena;
 use crate::reader::groups;
+use crate::view::begins_group;
 use bumpalo::Bump;
 use tsa_base::Token;
 use tsa_expr::{Reader, SyntaxCode, SyntaxRefusal};
@@ -56,6 +57,9 @@ pub fn read_groups<'a>(
     ensures gives { Gives (λ found. (attr_shapes found.0.now, found.1)) result (read_any (input reader.entry) (named reader.entry) depth at) }
     ensures ends { IfOk result (λ found. (at ≤ found.1) × (found.1 ≤ length reader.entry.tokens.now)) }
 {
+    if !begins_group(reader.sign(at)) {
+        return Ok((&[], at));
+    }
     let mut items = Vec::new(reader.bump);
     let next = groups(reader, at, depth, &mut items)?;
     Ok((into_arena(items), next))

@@ -1,5 +1,5 @@
 //! Words that are no names, by their lengths (C11 6.4.1).
-ghost use Rattle.std.specs.Prelude.{◌≡◌, length};
+ghost use Rattle.std.specs.Prelude.{◌≡◌, true, length};
 ghost use Rattle.std.specs.List.{list_any};
 ghost use Rattle.std.specs.Str.{bytes_eq};
 ghost use Rattle.tsa_base.specs.Words.{is_reserved};
@@ -103,12 +103,22 @@ pub fn is_reserved(text: &[u8]) -> bool
     }
 }
 
+// Whether two texts can be the same by their first bytes.
+fn begin_alike(text: &[u8], word: &[u8]) -> bool
+    ensures { bytes_eq text.now word.now ≡ true → result ≡ true }
+{
+    match (text, word) {
+        ([first, ..], [other, ..]) => first == other,
+        _ => true,
+    }
+}
+
 fn is_one_of<const N: usize>(text: &[u8], words: &[[u8; N]]) -> bool
     ensures { result ≡ list_any (bytes_eq text.now) words.now }
 {
     words.iter().any(
         |word| -> bool
             ensures { result ≡ bytes_eq text.entry.now word.now }
-        { text == word.as_slice() },
+        { begin_alike(text, word.as_slice()) && text == word.as_slice() },
     )
 }
