@@ -1,5 +1,5 @@
 //! Balanced tokens are passed over.
-ghost use Rattle.std.specs.Prelude.{◌≡◌, ◌+◌, ◌≤◌, ◌<◌, length, nat_eq, suc, IfOk};
+ghost use Rattle.std.specs.Prelude.{◌≡◌, ◌+◌, ◌<◌, nat_eq, suc, IfOk};
 ghost use Rattle.tsa_base.specs.declared.limits.TheConstants.{NESTING_LIMIT};
 ghost use Rattle.tsa_tree.specs.Reads.{read};
 ghost use Rattle.tsa_tree.specs.Rows.{mark, a_skip, balanced, closer_kind};

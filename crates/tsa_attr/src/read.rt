@@ -1,6 +1,6 @@
 //! Attributes, as the parts of a unit ask for them.
-ghost use Rattle.std.specs.Prelude.{◌≡◌, ◌≤◌, ◌<◌, ℕ, length, [], IfOk, IsErrOf};
-ghost use Rattle.tsa_base.specs.declared.limits.TheConstants.{INPUT_LIMIT, NESTING_LIMIT};
+ghost use Rattle.std.specs.Prelude.{◌≤◌, ◌<◌, ℕ, length, [], IfOk, IsErrOf};
+ghost use Rattle.tsa_base.specs.declared.limits.TheConstants.{INPUT_LIMIT};
 ghost use Rattle.tsa_tree.specs.AttributeAnswers.{IsLongest, IsBroken, IsRefused, IsTooDeep, read_any};
 ghost use Rattle.tsa_tree.specs.AttributeRefusals as reason;
 ghost use Rattle.tsa_tree.specs.Attributes.{attr_shapes};

@@ -1,6 +1,5 @@
 //! Groups of attributes: macro words with their arguments, and `__attribute__((..))`.
 ghost use Rattle.std.specs.Prelude.{◌≡◌, ◌+◌, ◌≤◌, ◌<◌, length, max, IfOk};
-ghost use Rattle.tsa_base.specs.declared.limits.TheConstants.{NESTING_LIMIT};
 ghost use Rattle.tsa_tree.specs.AttributeAnswers.{read_any};
 ghost use Rattle.tsa_tree.specs.Attributes.{attr_shapes};
 ghost use Rattle.tsa_tree.specs.Reads.{read};

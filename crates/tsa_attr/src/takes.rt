@@ -1,5 +1,5 @@
 //! An attribute is read, from its name or macro word to its parenthesis.
-ghost use Rattle.std.specs.Prelude.{◌≤◌, ◌<◌, length, IfOk};
+ghost use Rattle.std.specs.Prelude.{◌<◌, IfOk};
 ghost use Rattle.tsa_tree.specs.Attributes as takes;
 ghost use Rattle.tsa_tree.specs.Attributes.{attr_shapes};
 ghost use Rattle.tsa_expr.specs.Gives.{Gives};

@@ -1,5 +1,5 @@
 //! What attributes see at a place of the tokens.
-ghost use Rattle.std.specs.Prelude.{◌≡◌, ◌+◌, ◌≤◌, ◌<◌, length, Some, None, IfOk, OnOk};
+ghost use Rattle.std.specs.Prelude.{◌≡◌, ◌+◌, ◌<◌, length, Some, None, IfOk, OnOk};
 ghost use Rattle.std.specs.Str.{bytes_eq};
 ghost use Rattle.tsa_base.specs.declared.limits.TheConstants.{NESTING_LIMIT};
 ghost use Rattle.tsa_tree.specs.Attributes.{try_value as spec_try, taking};

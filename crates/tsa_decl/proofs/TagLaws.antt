@@ -20,7 +20,7 @@ use Rattle.tsa_tree.specs.Shapes.{name_shape}
 use Rattle.tsa_tree.specs.Signs.{Aliases, sign_at, identifier_at, is_tag}
 use Rattle.tsa_expr.specs.declared.refusal.SyntaxRefusal.{SyntaxRefusal}
 use Rattle.tsa_expr.specs.Gives.{Fails}
-use Rattle.tsa_expr.proofs.Answering.{fails_then, fails_same, gives_same, not_open, then_done}
+use Rattle.tsa_expr.proofs.Answering.{fails_then, fails_same, gives_same}
 use Rattle.tsa_attr.proofs.Joining.{append-nil, after-nothing}
 use Rattle.tsa_attr.specs.Outcomes as marks
 use Rattle.tsa_decl.specs.Outcomes.{after, going_items, tag_at, opening_at, structure_at, enumeration_at}

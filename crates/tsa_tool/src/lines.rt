@@ -1,8 +1,6 @@
 //! The lines of warnings. The texts of the rules stand here and nowhere else.
-ghost use Rattle.std.specs.Prelude.{◌≡◌, ◌≤◌, ◌<◌, ◌+◌, ◌++◌, ◌∷◌, [], map, length, vec_len, slice_index, OnOk};
+ghost use Rattle.std.specs.Prelude.{◌≡◌, ◌≤◌, ◌<◌, ◌+◌, ◌++◌, [], map, length, vec_len, slice_index, OnOk};
 ghost use Rattle.std.specs.List.{flat_map};
-ghost use Rattle.tsa_base.specs.Places.{place_at, place_text};
-ghost use Rattle.tsa_base.specs.Spans.{span_text};
 ghost use Rattle.tsa_tool.specs.Items.{item_of};
 ghost use Rattle.tsa_tool.specs.Rules.{global};
 ghost use Rattle.tsa_tool.specs.Resolved.{body_view};
