@@ -36,7 +36,7 @@ const BANK_POINTS: &[u8] =
     b"declare 'done = 0' eval 'mtx_lock(&from->mu);' eval 'mtx_lock(&to->mu);' test 'amount < 1 || from->balance < amount' jump 'goto out;' assign 'from->balance -= amount;' 'from->balance' 'amount' assign 'to->balance += amount;' 'to->balance' 'amount' assign 'done = 1;' 'done' '1' eval 'mtx_unlock(&to->mu);' eval 'mtx_unlock(&from->mu);' give 'return done;' end '}' ";
 
 // What is done at a point.
-fn action_word(action: Action<'_>) -> &'static [u8] {
+fn action_word(action: &Action<'_>) -> &'static [u8] {
     match action {
         Action::Declare(_) => b"declare",
         Action::Eval(_) => b"eval",
@@ -53,7 +53,7 @@ fn action_word(action: Action<'_>) -> &'static [u8] {
 }
 
 // What is written on the left and on the right of an assignment: on the right of `++` and `--` stand their own bytes.
-fn put_sides(out: &mut Vec<u8>, text: &[u8], action: Action<'_>) -> Result<(), Fail> {
+fn put_sides(out: &mut Vec<u8>, text: &[u8], action: &Action<'_>) -> Result<(), Fail> {
     if let Action::Assign { left, right, .. } = action {
         put_span(out, text, left.span)?;
         put_span(out, text, right.span)?;
@@ -65,16 +65,16 @@ fn put_sides(out: &mut Vec<u8>, text: &[u8], action: Action<'_>) -> Result<(), F
 // without is `leave`.
 fn put_points(out: &mut Vec<u8>, text: &[u8], points: &[Point<'_>]) -> Result<(), Fail> {
     for point in points {
-        put(out, action_word(point.action))?;
+        put(out, action_word(&point.action))?;
         put(out, b" ")?;
         put_span(out, text, point.span)?;
-        put_sides(out, text, point.action)?;
+        put_sides(out, text, &point.action)?;
     }
     Ok(())
 }
 
 // The word of a statement.
-fn statement_word(kind: StmtKind<'_>) -> &'static [u8] {
+fn statement_word(kind: &StmtKind<'_>) -> &'static [u8] {
     match kind {
         StmtKind::Block(_) => b"block",
         StmtKind::Empty => b"empty",
@@ -99,7 +99,7 @@ fn statement_word(kind: StmtKind<'_>) -> &'static [u8] {
 // A parenthesis, the word of a statement, a blank, and the number of its point where it has one.
 fn put_word(out: &mut Vec<u8>, stmt: &Stmt<'_>) -> Result<(), Fail> {
     put(out, b"(")?;
-    put(out, statement_word(stmt.kind))?;
+    put(out, statement_word(&stmt.kind))?;
     put(out, b" ")?;
     match stmt.point {
         Some(number) => put_number(out, number),
@@ -115,7 +115,7 @@ fn put_stmt(out: &mut Vec<u8>, stmt: &Stmt<'_>, levels: u32) -> Result<(), Fail>
         return Ok(());
     }
     put_word(out, stmt)?;
-    match stmt.kind {
+    match &stmt.kind {
         StmtKind::Block(items) => put_stmts(out, items, levels - 1)?,
         StmtKind::If { yes, no, .. } => {
             put_stmt(out, yes, levels - 1)?;

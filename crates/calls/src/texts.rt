@@ -2,7 +2,7 @@
 ghost use Rattle.std.specs.Prelude.{◌≤◌, vec_len, IfOk};
 ghost use Rattle.tsa_base.specs.declared.limits.TheConstants.{INPUT_LIMIT as LONGEST};
 ghost use Rattle.tsa_tree.specs.Signs.{lexemes};
-ghost use Rattle.tsa_unit.specs.Outcomes.{AreNear};
+ghost use Rattle.tsa_stmt.specs.Near.{AreNear};
 
 use std::alloc::Global;
 use std::test::Fail;

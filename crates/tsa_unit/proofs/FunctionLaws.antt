@@ -29,8 +29,8 @@ use Rattle.tsa_decl.specs.Outcomes.{after, going_items, opening_brace, finished}
 use Rattle.tsa_decl.proofs.ListLaws.{map-push}
 use Rattle.tsa_decl.proofs.TokenLaws.{not_semicolon}
 use Rattle.tsa_decl.proofs.BegunLaws.{more_pointed}
-use Rattle.tsa_unit.specs.Pointed.{ArePointed}
-use Rattle.tsa_unit.proofs.RowLaws.{opens_law}
+use Rattle.tsa_leaf.specs.Pointed.{ArePointed}
+use Rattle.tsa_leaf.proofs.RowLaws.{opens_law}
 
 -- the last point is the end
 end_push : (ps : List Point) (p : Point) → end_of (ps ++ p ∷ []) ≡ p.span

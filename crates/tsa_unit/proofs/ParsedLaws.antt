@@ -186,5 +186,3 @@ pub all_found : (tokens : List Token) (r : Result Parsed SyntaxRefusal) → IsTo
 all_found tokens (Ok parsed) g =
     subst (IsLongest (lexemes tokens) (seen parsed)) (length-map tokens lexeme) (found seen (lexemes tokens) (Ok parsed) g)
 all_found tokens (Err e) g = tt
-
-pub ruleset kept = (well_read)

@@ -1,10 +1,4 @@
-pub mod Outcomes
-pub mod Seen
-pub mod Pointed
-pub mod Kept
 pub mod Parsing
-pub mod Heads
-pub mod Openings
 pub mod Names
 pub mod Functions
 pub mod Items

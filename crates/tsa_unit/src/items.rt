@@ -10,11 +10,12 @@ ghost use Rattle.tsa_expr.specs.Source.{input, named};
 ghost use Rattle.tsa_expr.specs.Gives.{Gives};
 ghost use Rattle.tsa_decl.specs.Outcomes.{after, going_items};
 
-use crate::points::mark;
-use crate::text::{Text, TextReader};
+use crate::text::Text;
 use bumpalo::Bump;
 use tsa_decl::{begin_item, in_arena, keep_function, open_brace};
 use tsa_expr::{Aliases, Reader, SyntaxRefusal};
+use tsa_leaf::mark;
+use tsa_stmt::TextReader;
 use tsa_tree::item::{FnTree, Item};
 use tsa_tree::sign::Sign;
 use tsa_tree::stmt::{Action, Point, Stmt};
@@ -42,37 +43,35 @@ pub fn item<'a>(
         return Ok(begun.next);
     };
     let source = TextReader { reader };
-    source.function(begun.next, head, list)
+    function(source, begun.next, head, list)
 }
 
-impl<'a, 't> TextReader<'a, 't> {
-    /// A function from behind its head on, at the end of a list: a `;`, or its body with the body's points, the last of which
-    /// is its end.
-    #[tactic(auto, using(crate::proofs::FunctionLaws::functions))]
-    fn function(
-        self,
-        at: u32,
-        head: &FnTree<'a>,
-        list: &mut Vec<Item<'a>>,
-    ) -> Result<u32, SyntaxRefusal>
-        requires bodiless { (head.now.body ≡ None) × (head.now.points.now ≡ []) }
-        ensures gives { Gives (λ next. (item_shapes list.new.items, next)) result (after (item_shapes list.old.items) (going_items (input self.entry.reader) (function_end (input self.entry.reader) (named self.entry.reader) true (head_shape head.now) at) at)) }
-        ensures pointed { IfOk result (λ next. HaveTheirPoints list.old.items → HaveTheirPoints list.new.items) }
-        ensures ends { IfOk result (λ next. (at < next) × (next ≤ length self.entry.reader.tokens.now)) }
-    {
-        if let Sign::Semicolon = self.reader.sign(at) {
-            keep_function(list, head)?;
-            return Ok(at + 1);
-        }
-        let inside = open_brace(self.reader, at, 0)?;
-        let mut points = Vec::new(*list.allocator());
-        let (body, next) = self.statements(inside, 1, &mut points)?;
-        mark(&mut points, Action::End, self.reader.span(next - 1))?;
-        let points = in_arena(self.reader.bump, &points)?;
-        let whole = with_body(head, body, points);
-        keep_function(list, &whole)?;
-        Ok(next)
+/// A function from behind its head on, at the end of a list: a `;`, or its body with the body's points, the last of which
+/// is its end.
+#[tactic(auto, using(crate::proofs::FunctionLaws::functions))]
+fn function<'a>(
+    source: TextReader<'a, '_>,
+    at: u32,
+    head: &FnTree<'a>,
+    list: &mut Vec<Item<'a>>,
+) -> Result<u32, SyntaxRefusal>
+    requires bodiless { (head.now.body ≡ None) × (head.now.points.now ≡ []) }
+    ensures gives { Gives (λ next. (item_shapes list.new.items, next)) result (after (item_shapes list.old.items) (going_items (input source.entry.reader) (function_end (input source.entry.reader) (named source.entry.reader) true (head_shape head.now) at) at)) }
+    ensures pointed { IfOk result (λ next. HaveTheirPoints list.old.items → HaveTheirPoints list.new.items) }
+    ensures ends { IfOk result (λ next. (at < next) × (next ≤ length source.entry.reader.tokens.now)) }
+{
+    if let Sign::Semicolon = source.reader.sign(at) {
+        keep_function(list, head)?;
+        return Ok(at + 1);
     }
+    let inside = open_brace(source.reader, at, 0)?;
+    let mut points = Vec::new(*list.allocator());
+    let (body, next) = source.statements(inside, 1, &mut points)?;
+    mark(&mut points, Action::End, source.reader.span(next - 1))?;
+    let points = in_arena(source.reader.bump, &points)?;
+    let whole = with_body(head, body, points);
+    keep_function(list, &whole)?;
+    Ok(next)
 }
 
 /// A function with its body and the body's points.

@@ -21,8 +21,8 @@ fn function<'i, 'a>(item: &'i Item<'a>) -> Option<&'i FnTree<'a>>
 
 /// Where the name of the first function stands that is one too many.
 #[tactic(auto, using(crate::proofs::LimitLaws::functions))]
-fn past_functions(items: &[Item<'_>]) -> Option<Span>
-    ensures { result ≡ option_map (λ name. name.span) (too_many_functions (item_shapes items.now)) }
+fn past_functions(items: &Vec<Item<'_>>) -> Option<Span>
+    ensures { result ≡ option_map (λ name. name.span) (too_many_functions (item_shapes items.now.items)) }
 {
     let mut left = FUNCTION_LIMIT;
     'items: for item in items {
@@ -39,9 +39,9 @@ fn past_functions(items: &[Item<'_>]) -> Option<Span>
 
 /// Where the name of the first function stands whose body has too many points, its end included.
 #[tactic(auto, using(crate::proofs::LimitLaws::points))]
-fn past_points(items: &[Item<'_>]) -> Option<Span>
-    requires points { HaveTheirPoints items.now }
-    ensures { result ≡ option_map (λ name. name.span) (too_many_points (item_shapes items.now)) }
+fn past_points(items: &Vec<Item<'_>>) -> Option<Span>
+    requires points { HaveTheirPoints items.now.items }
+    ensures { result ≡ option_map (λ name. name.span) (too_many_points (item_shapes items.now.items)) }
 {
     'items: for item in items {
         let Some(function) = function(item) else {
@@ -55,9 +55,9 @@ fn past_points(items: &[Item<'_>]) -> Option<Span>
 }
 
 /// Refuses a function that is one too many, and else one of too many points.
-pub fn within_limits(items: &[Item<'_>]) -> Result<(), SyntaxRefusal>
-    requires points { HaveTheirPoints items.now }
-    ensures { IsWithin result (item_shapes items.now) }
+pub fn within_limits(items: &Vec<Item<'_>>) -> Result<(), SyntaxRefusal>
+    requires points { HaveTheirPoints items.now.items }
+    ensures { IsWithin result (item_shapes items.now.items) }
 {
     if let Some(span) = past_functions(items) {
         let code = SyntaxCode::LM5;

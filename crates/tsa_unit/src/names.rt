@@ -51,11 +51,11 @@ fn learn(aliases: &mut Aliases, items: &[Item<'_>]) -> Result<(), SyntaxRefusal>
 #[tactic(auto, using(crate::proofs::NameLaws::behind_others))]
 pub fn learn_from(
     aliases: &mut Aliases,
-    items: &[Item<'_>],
+    items: &Vec<Item<'_>>,
     from: usize,
 ) -> Result<(), SyntaxRefusal>
-    requires within { from ≤ length items.now }
-    ensures added { OnOk result (aliases.new ≡ with_names aliases.old (names_of (item_shapes (drop from items.now)))) }
+    requires within { from ≤ length items.now.items }
+    ensures added { OnOk result (aliases.new ≡ with_names aliases.old (names_of (item_shapes (drop from items.now.items)))) }
     ensures memory { OnErr result (result ≡ Err SyntaxRefusal.NoMemory) }
 {
     learn(aliases, &items[from..])

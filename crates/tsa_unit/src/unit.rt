@@ -1,5 +1,5 @@
 //! A whole unit is read (C11 6.9).
-ghost use Rattle.std.specs.Prelude.{◌≡◌, ◌≤◌, ◌<◌, ℕ, None, length, IfOk, IsErrOf};
+ghost use Rattle.std.specs.Prelude.{◌≡◌, ◌≤◌, ◌<◌, ℕ, None, length, Err, IfOk, OnErr, IsErrOf};
 ghost use Rattle.tsa_base.specs.declared.limits.TheConstants.{INPUT_LIMIT};
 ghost use Rattle.tsa_base.specs.declared.token.Span.{Span as span_type};
 ghost use Rattle.tsa_tree.specs.AttributeRefusals as reason;
@@ -9,7 +9,7 @@ ghost use Rattle.tsa_tree.specs.UnitLimits.{past_functions, past_points};
 ghost use Rattle.tsa_tree.specs.UnitShapes.{item_shapes, HaveTheirPoints};
 ghost use Rattle.tsa_tree.specs.WellRead.{IsWellRead};
 ghost use Rattle.tsa_expr.specs.Gives.{Gives, Leads};
-ghost use Rattle.tsa_unit.specs.Outcomes.{AreNear};
+ghost use Rattle.tsa_stmt.specs.Near.{AreNear};
 ghost use Rattle.tsa_unit.specs.Items.{passed, on_from};
 ghost use Rattle.tsa_unit.specs.Parsing.{IsParsed, IsLongest, IsBroken, IsRefused, IsTooDeep, HasTooManyFunctions, HasTooManyPoints, IsOfUnits, IsTold};
 
@@ -20,7 +20,7 @@ use crate::text::Text;
 use bumpalo::Bump;
 use std::alloc::Global;
 use tsa_base::Token;
-use tsa_decl::in_arena;
+use tsa_decl::{in_arena, kept_in};
 use tsa_expr::{Aliases, SyntaxCode, SyntaxRefusal};
 use tsa_tree::Parsed;
 use tsa_tree::item::{Item, UnitTree};
@@ -59,8 +59,7 @@ pub fn parse<'a>(
     read_parsed(alloc, bump, Text { tokens })
 }
 
-/// The unit that the rows give.
-#[tactic(auto, using(crate::proofs::ParsedLaws::kept))]
+/// The unit that the rows give, where it is within the limits of a unit.
 fn read_parsed<'a>(
     alloc: Global,
     bump: &'a Bump,
@@ -69,24 +68,20 @@ fn read_parsed<'a>(
     ensures told { IsTold (λ parsed. item_shapes parsed.unit.now.items.now) result (lexemes text.entry.tokens.now) }
     ensures points { IfOk result (λ parsed. HaveTheirPoints parsed.unit.now.items.now) }
 {
-    let items = items_within_limits(alloc, bump, text)?;
-    let unit: &'a UnitTree<'a> = bump.try_alloc(UnitTree { items })?;
-    Ok(Parsed::new(unit))
+    let list = read_items(alloc, bump, text)?;
+    within_limits(&list)?;
+    in_parsed(bump, &list)
 }
 
-/// The items, where they are within the limits of a unit.
-fn items_within_limits<'a>(
-    alloc: Global,
-    bump: &'a Bump,
-    text: Text<'_>,
-) -> Result<&'a [Item<'a>], SyntaxRefusal>
-    ensures told { IsTold (λ items. item_shapes items.now) result (lexemes text.entry.tokens.now) }
-    ensures points { IfOk result (λ items. HaveTheirPoints items.now) }
+/// The unit of items that are well read, kept in the arena.
+fn in_parsed<'a>(bump: &'a Bump, list: &Vec<Item<'a>>) -> Result<Parsed<'a>, SyntaxRefusal>
+    requires well_read { IsWellRead list.now.items }
+    ensures is { IfOk result (λ parsed. parsed.unit.now.items.now ≡ list.now.items) }
+    ensures memory { OnErr result (result ≡ Err SyntaxRefusal.NoMemory) }
 {
-    let list = read_items(alloc, bump, text)?;
-    let items = in_arena(bump, &list)?;
-    within_limits(items)?;
-    Ok(items)
+    let items = in_arena(bump, list)?;
+    let unit = kept_in(bump, UnitTree { items })?;
+    Ok(Parsed::new(unit))
 }
 
 /// The items one behind another, up to the last token.

@@ -5,4 +5,4 @@ use Rattle.tsa_unit.proofs.LimitLaws.{functions_from}
 use Rattle.tsa_unit.proofs.limits.past_functions.Given as goal
 
 abbrev pub invariant-items : goal.invariant-items
-invariant-items l = past_functions (item_shapes l.items) ≡ slice_get (functions_from l.item-index l.items) l.left
+invariant-items l = past_functions (item_shapes l.items.items) ≡ slice_get (functions_from l.item-index l.items.items) l.left

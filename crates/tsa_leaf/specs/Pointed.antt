@@ -1,0 +1,60 @@
+-- What a statement adds to the points that were read before it, and the numbers that it bears.
+use Rattle.std.specs.Prelude.{ℕ, ◌≡◌, ◌++◌, ◌∷◌, [], List, Some, None, length, map}
+use Rattle.std.specs.Borrow.{Bor}
+use Rattle.std.specs.declared.option.Option.{Option}
+use Rattle.tsa_base.specs.declared.token.Span.{Span}
+use Rattle.tsa_tree.specs.declared.stmt.Action.{Action}
+use Rattle.tsa_tree.specs.declared.stmt.Point.{Point}
+use Rattle.tsa_tree.specs.declared.stmt.Stmt.{Stmt}
+use Rattle.tsa_tree.specs.declared.stmt.StmtKind.{StmtKind}
+use Rattle.tsa_tree.specs.declared.stmt.StmtKind.TheVariants.{Local, Eval, Assign}
+use Rattle.tsa_tree.specs.Points.{points_of, points_of_all, points_of_init, points_of_step}
+use Rattle.tsa_tree.specs.StatementShapes.{stmt_shape, stmt_shapes, point_shape, action_shape, IsNumbered, AreNumbered}
+use Rattle.tsa_leaf.specs.Seen.{init_seen, step_seen}
+
+abbrev pub IsPointed : (old new : List Point) → Stmt → Type 0
+IsPointed old new s =
+    (map point_shape new ≡ map point_shape old ++ points_of (stmt_shape s.kind s.span)) × IsNumbered s.kind s.point s.span (length old)
+
+-- a statement with one point, where this is done
+abbrev pub IsAlone : StmtKind → Action → Span → Type 0
+IsAlone kind action span =
+    (points_of (stmt_shape kind span) ≡ record { deed = action_shape action; span = span } ∷ [])
+    × ((n : ℕ) → IsNumbered kind (Some n) span n)
+
+-- the same for the statements of a block
+abbrev pub ArePointed : (old new : List Point) → List Stmt → Type 0
+ArePointed old new list = (map point_shape new ≡ map point_shape old ++ points_of_all (stmt_shapes list)) × AreNumbered list (length old)
+
+-- what may be a part of a `for`
+abbrev pub MayBePart : StmtKind → Type 0
+MayBePart (Local d) = Unit {0}
+MayBePart (Eval x) = Unit {0}
+MayBePart (Assign left op right) = Unit {0}
+MayBePart kind = ⊥
+
+abbrev pub IsPartAt : Option (Bor Stmt) → (n : ℕ) → Type 0
+IsPartAt None n = Unit {0}
+IsPartAt (Some s) n = MayBePart s.now.kind × (s.now.point ≡ Some n)
+
+-- what may be the third part
+abbrev pub MayBeStep : StmtKind → Type 0
+MayBeStep (Eval x) = Unit {0}
+MayBeStep (Assign left op right) = Unit {0}
+MayBeStep kind = ⊥
+
+abbrev pub IsStepAt : Option (Bor Stmt) → (n : ℕ) → Type 0
+IsStepAt None n = Unit {0}
+IsStepAt (Some s) n = MayBeStep s.now.kind × (s.now.point ≡ Some n)
+
+-- what the first part of a `for` adds, and what the third one adds
+abbrev pub IsBegun : (old new : List Point) → Option (Bor Stmt) → Type 0
+IsBegun old new s = (map point_shape new ≡ map point_shape old ++ points_of_init (init_seen s)) × IsPartAt s (length old)
+
+abbrev pub IsStepped : (old new : List Point) → Option (Bor Stmt) → Type 0
+IsStepped old new s = (map point_shape new ≡ map point_shape old ++ points_of_step (step_seen s)) × IsStepAt s (length old)
+
+-- what the other arm of an `if` adds, where there is one
+abbrev pub ArmsPointed : (old new : List Point) → Option (Bor Stmt) → Type 0
+ArmsPointed old new None = new ≡ old
+ArmsPointed old new (Some s) = IsPointed old new s.now

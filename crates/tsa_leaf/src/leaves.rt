@@ -1,0 +1,216 @@
+//! Statements that hold no other one are read (C11 6.8.3, 6.8.6).
+ghost use Rattle.std.specs.Prelude.{◌≡◌, ◌+◌, ◌≤◌, ◌<◌, length, IfOk, OnErr, Err};
+ghost use Rattle.tsa_base.specs.declared.token.Span.{Span as span_type};
+ghost use Rattle.tsa_tree.specs.Signs.{sign_at as spec_sign};
+ghost use Rattle.tsa_tree.specs.Statements.{simple as simple_statement_of, empty as nothing_done};
+ghost use Rattle.tsa_tree.specs.StatementShapes.{stmt_shape};
+ghost use Rattle.tsa_expr.specs.Source.{input, named};
+ghost use Rattle.tsa_expr.specs.Gives.{Gives};
+ghost use Rattle.tsa_leaf.specs.Outcomes.{simple_statement_at, closed_at, goto_at, return_at};
+ghost use Rattle.tsa_leaf.specs.Pointed.{IsAlone, IsPointed};
+ghost use Rattle.tsa_leaf.specs.Seen.{kind_shape, seen_statement};
+
+use crate::points::{Deed, Read, alone};
+use crate::simple::{SimpleKind, read_simple};
+use bumpalo::Bump;
+use tsa_base::Span;
+use tsa_decl::{kept_in, name, semicolon};
+use tsa_expr::{Reader, SyntaxRefusal};
+use tsa_tree::expr::Expr;
+use tsa_tree::sign::Sign;
+use tsa_tree::stmt::{Action, Point, StmtKind};
+
+/// The statement that an expression is, of one point that is marked, up to before `next`.
+fn evaluation<'a>(
+    bump: &'a Bump,
+    tree: &Expr<'a>,
+    span: Span,
+    next: u32,
+    points: &mut Vec<Point<'a>>,
+) -> Result<Read<'a>, SyntaxRefusal>
+    ensures is { IfOk result (λ r. (stmt_shape r.stmt.kind r.stmt.span ≡ simple_statement_of (kind_shape (SimpleKind.Eval tree.now) span)) × (r.next ≡ next)) }
+    ensures pointed { IfOk result (λ r. IsPointed points.old.items points.new.items r.stmt) }
+    ensures memory { OnErr result (result ≡ Err SyntaxRefusal.NoMemory) }
+{
+    let kept = kept_in(bump, *tree)?;
+    let deed = Deed {
+        kind: StmtKind::Eval(*tree),
+        action: Action::Eval(kept),
+    };
+    alone(points, &deed, span, next)
+}
+
+/// The statement that a simple one is, of one point that is marked, up to before `next`.
+pub fn simply<'a>(
+    bump: &'a Bump,
+    simple: &SimpleKind<'a>,
+    span: Span,
+    next: u32,
+    points: &mut Vec<Point<'a>>,
+) -> Result<Read<'a>, SyntaxRefusal>
+    ensures is { IfOk result (λ r. (stmt_shape r.stmt.kind r.stmt.span ≡ simple_statement_of (kind_shape simple.now span)) × (r.next ≡ next)) }
+    ensures pointed { IfOk result (λ r. IsPointed points.old.items points.new.items r.stmt) }
+    ensures memory { OnErr result (result ≡ Err SyntaxRefusal.NoMemory) }
+{
+    match simple {
+        SimpleKind::Eval(tree) => evaluation(bump, tree, span, next, points),
+        SimpleKind::Assign { left, op, right } => {
+            let kept = kept_in(bump, *left)?;
+            let value = kept_in(bump, *right)?;
+            let deed = Deed {
+                kind: StmtKind::Assign {
+                    left: *left,
+                    op: *op,
+                    right: *right,
+                },
+                action: Action::Assign {
+                    left: kept,
+                    op: *op,
+                    right: value,
+                },
+            };
+            alone(points, &deed, span, next)
+        }
+    }
+}
+
+/// A simple statement that begins with this sign, with its `;`.
+#[tactic(auto, using(crate::proofs::LeafLaws::simple_statements))]
+pub fn simple_statement<'a>(
+    reader: Reader<'a, '_>,
+    at: u32,
+    depth: u32,
+    sign: Sign,
+    points: &mut Vec<Point<'a>>,
+) -> Result<Read<'a>, SyntaxRefusal>
+    requires there { sign ≡ spec_sign (input reader) (named reader) at }
+    ensures gives { Gives seen_statement result (simple_statement_at (input reader.entry) (named reader.entry) depth at) }
+    ensures pointed { IfOk result (λ r. IsPointed points.old.items points.new.items r.stmt) }
+    ensures ends { IfOk result (λ r. (at < r.next) × (r.next ≤ length reader.entry.tokens.now)) }
+{
+    let simple = read_simple(reader, at, depth, sign)?;
+    let next = semicolon(reader, simple.next)?;
+    let span = reader.over(at, next);
+    simply(reader.bump, &simple.kind, span, next, points)
+}
+
+/// A statement of one point that begins at `start` and ends with the `;` that has to stand at a place.
+#[tactic(auto, using(crate::proofs::LeafLaws::closed))]
+pub fn closed_statement<'a>(
+    reader: Reader<'_, '_>,
+    start: u32,
+    at: u32,
+    deed: &Deed<'a>,
+    points: &mut Vec<Point<'a>>,
+) -> Result<Read<'a>, SyntaxRefusal>
+    requires single { (span : span_type) → IsAlone deed.now.kind deed.now.action span }
+    ensures gives { Gives seen_statement result (closed_at (input reader.entry) (named reader.entry) (stmt_shape deed.now.kind) start at) }
+    ensures pointed { IfOk result (λ r. IsPointed points.old.items points.new.items r.stmt) }
+    ensures ends { IfOk result (λ r. (at < r.next) × (r.next ≤ length reader.entry.tokens.now)) }
+{
+    let next = semicolon(reader, at)?;
+    let span = reader.over(start, next);
+    alone(points, deed, span, next)
+}
+
+/// `;` alone.
+pub fn empty<'a>(
+    reader: Reader<'_, '_>,
+    at: u32,
+    points: &mut Vec<Point<'a>>,
+) -> Result<Read<'a>, SyntaxRefusal>
+    ensures gives { Gives seen_statement result (closed_at (input reader.entry) (named reader.entry) nothing_done at at) }
+    ensures pointed { IfOk result (λ r. IsPointed points.old.items points.new.items r.stmt) }
+    ensures ends { IfOk result (λ r. (at < r.next) × (r.next ≤ length reader.entry.tokens.now)) }
+{
+    let deed = Deed {
+        kind: StmtKind::Empty,
+        action: Action::Idle,
+    };
+    closed_statement(reader, at, at, &deed, points)
+}
+
+/// `break` with its `;`.
+pub fn break_statement<'a>(
+    reader: Reader<'_, '_>,
+    at: u32,
+    points: &mut Vec<Point<'a>>,
+) -> Result<Read<'a>, SyntaxRefusal>
+    requires within { at < length reader.tokens.now }
+    ensures gives { Gives seen_statement result (closed_at (input reader.entry) (named reader.entry) (stmt_shape StmtKind.Break) at (at + 1)) }
+    ensures pointed { IfOk result (λ r. IsPointed points.old.items points.new.items r.stmt) }
+    ensures ends { IfOk result (λ r. (at < r.next) × (r.next ≤ length reader.entry.tokens.now)) }
+{
+    let deed = Deed {
+        kind: StmtKind::Break,
+        action: Action::Jump,
+    };
+    closed_statement(reader, at, at + 1, &deed, points)
+}
+
+/// `continue` with its `;`.
+pub fn continue_statement<'a>(
+    reader: Reader<'_, '_>,
+    at: u32,
+    points: &mut Vec<Point<'a>>,
+) -> Result<Read<'a>, SyntaxRefusal>
+    requires within { at < length reader.tokens.now }
+    ensures gives { Gives seen_statement result (closed_at (input reader.entry) (named reader.entry) (stmt_shape StmtKind.Continue) at (at + 1)) }
+    ensures pointed { IfOk result (λ r. IsPointed points.old.items points.new.items r.stmt) }
+    ensures ends { IfOk result (λ r. (at < r.next) × (r.next ≤ length reader.entry.tokens.now)) }
+{
+    let deed = Deed {
+        kind: StmtKind::Continue,
+        action: Action::Jump,
+    };
+    closed_statement(reader, at, at + 1, &deed, points)
+}
+
+/// `goto` with its label and its `;`.
+#[tactic(auto, using(crate::proofs::LeafLaws::gotos))]
+pub fn goto<'a>(
+    reader: Reader<'a, '_>,
+    start: u32,
+    points: &mut Vec<Point<'a>>,
+) -> Result<Read<'a>, SyntaxRefusal>
+    requires within { start < length reader.tokens.now }
+    ensures gives { Gives seen_statement result (goto_at (input reader.entry) (named reader.entry) start) }
+    ensures pointed { IfOk result (λ r. IsPointed points.old.items points.new.items r.stmt) }
+    ensures ends { IfOk result (λ r. (start < r.next) × (r.next ≤ length reader.entry.tokens.now)) }
+{
+    let label = name(reader, start + 1)?;
+    let deed = Deed {
+        kind: StmtKind::Goto(label),
+        action: Action::Jump,
+    };
+    closed_statement(reader, start, start + 2, &deed, points)
+}
+
+/// `return` with its value, where it has one, and its `;`.
+#[tactic(auto, using(crate::proofs::LeafLaws::returns))]
+pub fn return_statement<'a>(
+    reader: Reader<'a, '_>,
+    start: u32,
+    depth: u32,
+    points: &mut Vec<Point<'a>>,
+) -> Result<Read<'a>, SyntaxRefusal>
+    requires within { start < length reader.tokens.now }
+    ensures gives { Gives seen_statement result (return_at (input reader.entry) (named reader.entry) depth start) }
+    ensures pointed { IfOk result (λ r. IsPointed points.old.items points.new.items r.stmt) }
+    ensures ends { IfOk result (λ r. (start < r.next) × (r.next ≤ length reader.entry.tokens.now)) }
+{
+    if let Sign::Semicolon = reader.sign(start + 1) {
+        let deed = Deed {
+            kind: StmtKind::Return(None),
+            action: Action::Return(None),
+        };
+        return closed_statement(reader, start, start + 1, &deed, points);
+    }
+    let value = reader.expression(start + 1, depth, 0)?;
+    let kept = kept_in(reader.bump, value.tree)?;
+    let deed = Deed {
+        kind: StmtKind::Return(Some(value.tree)),
+        action: Action::Return(Some(kept)),
+    };
+    closed_statement(reader, start, value.next, &deed, points)
+}

@@ -1,0 +1,127 @@
+//! Points are kept in order of the text, and statements bear their numbers.
+ghost use Rattle.std.specs.Prelude.{◌≡◌, ◌++◌, ◌∷◌, [], length, Some, Ok, OnOk, OnErr, Err, IfOk};
+ghost use Rattle.tsa_leaf.specs.Pointed.{IsPointed, IsAlone};
+
+use bumpalo::Bump;
+use tsa_base::Span;
+use tsa_decl::kept_in;
+use tsa_expr::SyntaxRefusal;
+use tsa_tree::decl::Decl;
+use tsa_tree::stmt::{Action, Point, Stmt, StmtKind};
+
+/// A statement of one point, and what is done there.
+#[derive(Clone, Copy)]
+pub struct Deed<'a> {
+    pub kind: StmtKind<'a>,
+    pub action: Action<'a>,
+}
+
+/// A statement that was read, and the token after it.
+#[derive(Clone, Copy)]
+pub struct Read<'a> {
+    pub stmt: Stmt<'a>,
+    pub next: u32,
+}
+
+/// Keeps a point behind the others, and gives its number: more of them than a `u32` counts are want of memory.
+pub fn mark<'a>(
+    points: &mut Vec<Point<'a>>,
+    action: Action<'a>,
+    span: Span,
+) -> Result<u32, SyntaxRefusal>
+    ensures number { IfOk result (λ number. number ≡ length points.old.items) }
+    ensures kept { OnOk result (points.new.items ≡ points.old.items ++ record { action = action.entry; span = span } ∷ []) }
+    ensures memory { OnErr result (result ≡ Err SyntaxRefusal.NoMemory) }
+{
+    let Ok(number) = u32::try_from(points.len()) else {
+        return Err(SyntaxRefusal::NoMemory);
+    };
+    points.push(Point { action, span })?;
+    Ok(number)
+}
+
+/// A statement of one point.
+#[tactic(auto, using(crate::proofs::PointLaws::alone))]
+pub fn pointed<'a>(
+    points: &mut Vec<Point<'a>>,
+    deed: &Deed<'a>,
+    span: Span,
+) -> Result<Stmt<'a>, SyntaxRefusal>
+    requires single { IsAlone deed.now.kind deed.now.action span }
+    ensures is { IfOk result (λ stmt. (stmt.kind ≡ deed.now.kind) × (stmt.span ≡ span)) }
+    ensures pointed { IfOk result (λ stmt. IsPointed points.old.items points.new.items stmt) }
+    ensures memory { OnErr result (result ≡ Err SyntaxRefusal.NoMemory) }
+{
+    let number = mark(points, deed.action, span)?;
+    let point = Some(number);
+    Ok(Stmt {
+        kind: deed.kind,
+        point,
+        span,
+    })
+}
+
+/// A statement of one point, up to before `next`.
+#[tactic(auto, using(crate::proofs::PointLaws::alone))]
+pub fn alone<'a>(
+    points: &mut Vec<Point<'a>>,
+    deed: &Deed<'a>,
+    span: Span,
+    next: u32,
+) -> Result<Read<'a>, SyntaxRefusal>
+    requires single { IsAlone deed.now.kind deed.now.action span }
+    ensures is { IfOk result (λ r. (r.stmt.kind ≡ deed.now.kind) × (r.stmt.span ≡ span) × (r.next ≡ next)) }
+    ensures pointed { IfOk result (λ r. IsPointed points.old.items points.new.items r.stmt) }
+    ensures memory { OnErr result (result ≡ Err SyntaxRefusal.NoMemory) }
+{
+    let number = mark(points, deed.action, span)?;
+    let point = Some(number);
+    let stmt = Stmt {
+        kind: deed.kind,
+        point,
+        span,
+    };
+    Ok(Read { stmt, next })
+}
+
+/// The statement that a local is.
+#[tactic(auto, using(crate::proofs::MarkLaws::locals))]
+pub fn local<'a>(points: &mut Vec<Point<'a>>, decl: &'a Decl<'a>) -> Result<Stmt<'a>, SyntaxRefusal>
+    ensures is { IfOk result (λ stmt. (stmt.kind ≡ StmtKind.Local decl.entry.now) × (stmt.span ≡ decl.entry.now.span)) }
+    ensures pointed { IfOk result (λ stmt. IsPointed points.old.items points.new.items stmt) }
+    ensures memory { OnErr result (result ≡ Err SyntaxRefusal.NoMemory) }
+{
+    let deed = Deed {
+        kind: StmtKind::Local(*decl),
+        action: Action::Declare(decl),
+    };
+    pointed(points, &deed, decl.span)
+}
+
+/// A value, kept in the arena where there is one.
+fn outcome_in<'a, T: Copy>(
+    bump: &'a Bump,
+    value: Result<T, SyntaxRefusal>,
+) -> Result<&'a T, SyntaxRefusal>
+    requires memory { OnErr value (value ≡ Err SyntaxRefusal.NoMemory) }
+    ensures is { IfOk result (λ kept. value ≡ Ok kept.now) }
+    ensures memory { OnErr result (result ≡ Err SyntaxRefusal.NoMemory) }
+{
+    match value {
+        Ok(item) => kept_in(bump, item),
+        Err(refusal) => Err(refusal),
+    }
+}
+
+/// The statement that a local is, kept in the arena.
+pub fn local_in<'a>(
+    bump: &'a Bump,
+    decl: &'a Decl<'a>,
+    points: &mut Vec<Point<'a>>,
+) -> Result<&'a Stmt<'a>, SyntaxRefusal>
+    ensures is { IfOk result (λ stmt. (stmt.now.kind ≡ StmtKind.Local decl.entry.now) × (stmt.now.span ≡ decl.entry.now.span)) }
+    ensures pointed { IfOk result (λ stmt. IsPointed points.old.items points.new.items stmt.now) }
+    ensures memory { OnErr result (result ≡ Err SyntaxRefusal.NoMemory) }
+{
+    outcome_in(bump, local(points, decl))
+}

@@ -1,0 +1,4 @@
+pub mod Near
+pub mod Heads
+pub mod Openings
+pub mod Kept
