@@ -16,7 +16,7 @@ use Rattle.tsa_tree.specs.Signs.{Aliases, sign_at, span_over, operator, level}
 use Rattle.tsa_expr.specs.declared.refusal.SyntaxRefusal.{SyntaxRefusal}
 use Rattle.tsa_expr.specs.Gives.{Fails}
 use Rattle.tsa_expr.proofs.Answering.{fails_then, fails_same, gives_same, then_done, in_limit, over_limit}
-use Rattle.tsa_expr.proofs.Places.{read_ends}
+use Rattle.tsa_expr.proofs.Places.{sign_within, read_ends}
 
 module _ (ts : List Lexeme) (aliases : Aliases) where
   abbrev going : Row an_expression → ℕ → Outcome Expression
@@ -81,4 +81,4 @@ module _ (ts : List Lexeme) (aliases : Aliases) where
 
 pub ruleset expressions = (expression_fails, expression_goes, gives_same, read_ends)
 
-pub ruleset operations = (operation_none, operation_loose, operation_high, operation_fails, operation_joins, fails_same, gives_same)
+pub ruleset operations = (sign_within, operation_none, operation_loose, operation_high, operation_fails, operation_joins, fails_same, gives_same)

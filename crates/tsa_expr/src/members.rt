@@ -1,5 +1,5 @@
 //! Members behind `.` and `->`.
-ghost use Rattle.std.specs.Prelude.{◌≡◌, ◌<◌, Some, IfOk};
+ghost use Rattle.std.specs.Prelude.{◌≡◌, ◌+◌, ◌≤◌, ◌<◌, length, Some, IfOk};
 ghost use Rattle.tsa_tree.specs.Reads.{read_behind};
 ghost use Rattle.tsa_tree.specs.Shapes.{shape};
 ghost use Rattle.tsa_tree.specs.Signs.{sign_at, access};
@@ -27,7 +27,8 @@ impl<'a, 't> Reader<'a, 't> {
         requires there { access (sign_at (input self) (named self) base.next) ≡ Some arrow }
         ensures leads { Leads seen result (read_behind (input self.entry) (named self.entry) depth base.entry.start (shape base.entry.tree) base.entry.next) (λ x n. read_behind (input self.entry) (named self.entry) depth base.entry.start x n) }
         ensures begins { IfOk result (λ r. r.start ≡ base.entry.start) }
-        ensures goes { IfOk result (λ r. base.entry.next < r.next) }
+        ensures ahead { IfOk result (λ r. r.ahead ≡ sign_at (input self.entry) (named self.entry) r.next) }
+        ensures goes { IfOk result (λ r. (base.entry.next < r.next) × (r.next ≤ length self.entry.tokens.now)) }
     {
         if base.height >= NESTING_LIMIT {
             return Err(refuse(SyntaxCode::LM2, base.next));
@@ -47,6 +48,7 @@ impl<'a, 't> Reader<'a, 't> {
             height,
             start,
             next,
+            ahead: self.sign(next),
         })
     }
 }

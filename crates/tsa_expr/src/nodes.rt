@@ -10,17 +10,20 @@ use crate::source::Reader;
 use bumpalo::Bump;
 use bumpalo::collections::into_bump_slice;
 use tsa_tree::expr::{BinaryOp, Expr, ExprKind, Name, UnaryOp};
+use tsa_tree::sign::Sign;
 
 impl<'a, 't> Reader<'a, 't> {
-    ghost use Rattle.tsa_expr.specs.Source.{input};
+    ghost use Rattle.tsa_tree.specs.Signs.{sign_at};
+    ghost use Rattle.tsa_expr.specs.Source.{input, named};
 
-    /// The expression of one token.
-    pub fn leaf(self, at: u32, kind: ExprKind<'a>) -> Reading<'a>
+    /// The expression of one token, before one of a sign.
+    pub fn leaf(self, at: u32, kind: ExprKind<'a>, ahead: Sign) -> Reading<'a>
         requires within { at < length self.tokens.now }
         requires low { height_of (kind_shape kind (spec_span (input self) at)) ≡ 1 }
         ensures is { shape result.tree ≡ kind_shape kind.entry (spec_span (input self.entry) at) }
         ensures begins { result.start ≡ at }
         ensures ends { result.next ≡ at + 1 }
+        ensures ahead { result.ahead ≡ ahead }
     {
         let span = self.span(at);
         Reading {
@@ -28,6 +31,7 @@ impl<'a, 't> Reader<'a, 't> {
             height: 1,
             start: at,
             next: at + 1,
+            ahead,
         }
     }
 
@@ -37,6 +41,7 @@ impl<'a, 't> Reader<'a, 't> {
         ensures is { shape result.tree ≡ a_call (name_shape callee.entry) (shapes args.entry.items.now) (spec_over (input self.entry) at args.entry.next) }
         ensures begins { result.start ≡ at }
         ensures ends { result.next ≡ args.entry.next }
+        ensures ahead { result.ahead ≡ sign_at (input self.entry) (named self.entry) args.entry.next }
     {
         let span = self.over(at, args.next);
         let kind = ExprKind::Call {
@@ -48,6 +53,7 @@ impl<'a, 't> Reader<'a, 't> {
             height: args.height + 1,
             start: at,
             next: args.next,
+            ahead: self.sign(args.next),
         }
     }
 
@@ -63,10 +69,12 @@ impl<'a, 't> Reader<'a, 't> {
         ensures is { IfOk result (λ r. shape r.tree ≡ a_unary op (shape inner.entry.tree) (spec_over (input self.entry) at inner.entry.next)) }
         ensures begins { IfOk result (λ r. r.start ≡ at) }
         ensures ends { IfOk result (λ r. r.next ≡ inner.entry.next) }
+        ensures ahead { IfOk result (λ r. r.ahead ≡ inner.entry.ahead) }
     {
         let span = self.over(at, inner.next);
         let height = inner.height + 1;
         let next = inner.next;
+        let ahead = inner.ahead;
         let inner = self.keep(inner.tree)?;
         let kind = ExprKind::Unary { op, inner };
         Ok(Reading {
@@ -74,6 +82,7 @@ impl<'a, 't> Reader<'a, 't> {
             height,
             start: at,
             next,
+            ahead,
         })
     }
 
@@ -89,11 +98,13 @@ impl<'a, 't> Reader<'a, 't> {
         ensures is { IfOk result (λ r. shape r.tree ≡ a_binary op (shape left.entry.tree) (shape right.entry.tree) (spec_over (input self.entry) left.entry.start right.entry.next)) }
         ensures begins { IfOk result (λ r. r.start ≡ left.entry.start) }
         ensures ends { IfOk result (λ r. r.next ≡ right.entry.next) }
+        ensures ahead { IfOk result (λ r. r.ahead ≡ right.entry.ahead) }
     {
         let span = self.over(left.start, right.next);
         let height = left.height.max(right.height) + 1;
         let start = left.start;
         let next = right.next;
+        let ahead = right.ahead;
         let left = self.keep(left.tree)?;
         let right = self.keep(right.tree)?;
         let kind = ExprKind::Binary { op, left, right };
@@ -102,6 +113,7 @@ impl<'a, 't> Reader<'a, 't> {
             height,
             start,
             next,
+            ahead,
         })
     }
 

@@ -29,6 +29,7 @@ impl<'a, 't> Reader<'a, 't> {
     pub fn expression(self, at: u32, depth: u32, tight: u32) -> Result<Reading<'a>, SyntaxRefusal>
         ensures gives { Gives seen result (read (input self.entry) an_expression (expression_call (named self.entry) depth tight) at) }
         ensures begins { IfOk result (λ r. r.start ≡ at) }
+        ensures ahead { IfOk result (λ r. r.ahead ≡ sign_at (input self.entry) (named self.entry) r.next) }
         ensures ends { IfOk result (λ r. (at < r.next) × (r.next ≤ length self.entry.tokens.now)) }
     {
         let left = self.operand(at, depth)?;
@@ -39,8 +40,10 @@ impl<'a, 't> Reader<'a, 't> {
     #[tactic(auto, using(crate::proofs::Climbing::expressions))]
     pub fn rest(self, depth: u32, left: Reading<'a>) -> Result<Reading<'a>, SyntaxRefusal>
         requires begun { read (input self) an_expression (operand_call (named self) depth) left.start ≡ Ok (shape left.tree, left.next) }
+        requires ahead { left.ahead ≡ sign_at (input self) (named self) left.next }
         ensures gives { Gives seen result (read (input self.entry) an_expression (expression_call (named self.entry) depth 0) left.entry.start) }
         ensures begins { IfOk result (λ r. r.start ≡ left.entry.start) }
+        ensures ahead { IfOk result (λ r. r.ahead ≡ sign_at (input self.entry) (named self.entry) r.next) }
         ensures ends { IfOk result (λ r. (left.entry.start < r.next) × (r.next ≤ length self.entry.tokens.now)) }
     {
         self.operations(depth, 0, left)
@@ -55,12 +58,14 @@ impl<'a, 't> Reader<'a, 't> {
         tight: u32,
         left: Reading<'a>,
     ) -> Result<Reading<'a>, SyntaxRefusal>
+        requires ahead { left.ahead ≡ sign_at (input self) (named self) left.next }
         ensures gives { Gives seen result (read_on (input self.entry) (named self.entry) depth tight left.entry.start (shape left.entry.tree) left.entry.next) }
         ensures begins { IfOk result (λ r. r.start ≡ left.entry.start) }
+        ensures ahead { IfOk result (λ r. r.ahead ≡ sign_at (input self.entry) (named self.entry) r.next) }
     {
         let mut whole = left;
         'operators: loop {
-            let Sign::Operator(op) = self.sign(whole.next) else {
+            let Sign::Operator(op) = whole.ahead else {
                 return Ok(whole);
             };
             let tightness = op.level();
@@ -81,6 +86,7 @@ impl<'a, 't> Reader<'a, 't> {
     pub fn operand(self, at: u32, depth: u32) -> Result<Reading<'a>, SyntaxRefusal>
         ensures gives { Gives seen result (read (input self.entry) an_expression (operand_call (named self.entry) depth) at) }
         ensures begins { IfOk result (λ r. r.start ≡ at) }
+        ensures ahead { IfOk result (λ r. r.ahead ≡ sign_at (input self.entry) (named self.entry) r.next) }
         ensures ends { IfOk result (λ r. (at < r.next) × (r.next ≤ length self.entry.tokens.now)) }
     {
         let sign = self.sign(at);
@@ -107,20 +113,21 @@ impl<'a, 't> Reader<'a, 't> {
         requires plain { spec_prefix sign ≡ None }
         ensures leads { Leads seen result (read (input self.entry) an_expression (operand_call (named self.entry) depth) at) (λ x n. read_behind (input self.entry) (named self.entry) depth at x n) }
         ensures begins { IfOk result (λ r. r.start ≡ at) }
+        ensures ahead { IfOk result (λ r. r.ahead ≡ sign_at (input self.entry) (named self.entry) r.next) }
     {
         match sign {
             Sign::Number => {
                 let (value, unsigned) = self.number(at);
-                Ok(self.leaf(at, ExprKind::Number { value, unsigned }))
+                Ok(self.leaf(at, ExprKind::Number { value, unsigned }, self.sign(at + 1)))
             }
-            Sign::Null => Ok(self.leaf(at, ExprKind::Null)),
+            Sign::Null => Ok(self.leaf(at, ExprKind::Null, self.sign(at + 1))),
             Sign::Name => self.name_or_call(at, depth),
             Sign::Open => {
                 if depth >= NESTING_LIMIT {
                     return Err(refuse(SyntaxCode::LM2, at));
                 }
                 let inner = self.expression(at + 1, depth + 1, 0)?;
-                let Sign::Close = self.sign(inner.next) else {
+                let Sign::Close = inner.ahead else {
                     return Err(refuse(SyntaxCode::SY1, inner.next));
                 };
                 Ok(Reading {
@@ -128,6 +135,7 @@ impl<'a, 't> Reader<'a, 't> {
                     height: inner.height,
                     start: at,
                     next: inner.next + 1,
+                    ahead: self.sign(inner.next + 1),
                 })
             }
             _ => Err(refuse(SyntaxCode::SY1, at)),
@@ -141,10 +149,12 @@ impl<'a, 't> Reader<'a, 't> {
         requires there { sign_at (input self) (named self) at ≡ Sign.Name }
         ensures leads { Leads seen result (read (input self.entry) an_expression (operand_call (named self.entry) depth) at) (λ x n. read_behind (input self.entry) (named self.entry) depth at x n) }
         ensures begins { IfOk result (λ r. r.start ≡ at) }
+        ensures ahead { IfOk result (λ r. r.ahead ≡ sign_at (input self.entry) (named self.entry) r.next) }
     {
         let name = self.name(at)?;
-        let Sign::Open = self.sign(at + 1) else {
-            return Ok(self.leaf(at, ExprKind::Named(name)));
+        let ahead = self.sign(at + 1);
+        let Sign::Open = ahead else {
+            return Ok(self.leaf(at, ExprKind::Named(name), ahead));
         };
         if depth >= NESTING_LIMIT {
             return Err(refuse(SyntaxCode::LM2, at + 1));
@@ -199,7 +209,7 @@ impl<'a, 't> Reader<'a, 't> {
             let item = self.expression(next, depth, 0)?;
             append(list, item.tree)?;
             height = item.height.max(height);
-            match self.sign(item.next) {
+            match item.ahead {
                 Sign::Comma => next = item.next + 1,
                 Sign::Close => return Ok(Extent {
                     height,
@@ -214,12 +224,14 @@ impl<'a, 't> Reader<'a, 't> {
     #[cycle(reader)]
     #[tactic(auto, using(crate::proofs::Accesses::accesses))]
     fn accesses(self, depth: u32, base: Reading<'a>) -> Result<Reading<'a>, SyntaxRefusal>
+        requires ahead { base.ahead ≡ sign_at (input self) (named self) base.next }
         ensures gives { Gives seen result (read_behind (input self.entry) (named self.entry) depth base.entry.start (shape base.entry.tree) base.entry.next) }
         ensures begins { IfOk result (λ r. r.start ≡ base.entry.start) }
+        ensures ahead { IfOk result (λ r. r.ahead ≡ sign_at (input self.entry) (named self.entry) r.next) }
     {
         let mut whole = base;
         'operators: loop {
-            let longer = match self.sign(whole.next) {
+            let longer = match whole.ahead {
                 Sign::Dot => self.member(depth, whole, false),
                 Sign::Arrow => self.member(depth, whole, true),
                 Sign::OpenBracket => self.element(depth, whole),
@@ -236,7 +248,8 @@ impl<'a, 't> Reader<'a, 't> {
         requires there { sign_at (input self) (named self) base.next ≡ Sign.OpenBracket }
         ensures leads { Leads seen result (read_behind (input self.entry) (named self.entry) depth base.entry.start (shape base.entry.tree) base.entry.next) (λ x n. read_behind (input self.entry) (named self.entry) depth base.entry.start x n) }
         ensures begins { IfOk result (λ r. r.start ≡ base.entry.start) }
-        ensures goes { IfOk result (λ r. base.entry.next < r.next) }
+        ensures ahead { IfOk result (λ r. r.ahead ≡ sign_at (input self.entry) (named self.entry) r.next) }
+        ensures goes { IfOk result (λ r. (base.entry.next < r.next) × (r.next ≤ length self.entry.tokens.now)) }
     {
         if base.height >= NESTING_LIMIT {
             return Err(refuse(SyntaxCode::LM2, base.next));
@@ -245,7 +258,7 @@ impl<'a, 't> Reader<'a, 't> {
             return Err(refuse(SyntaxCode::LM2, base.next));
         }
         let index = self.expression(base.next + 1, depth + 1, 0)?;
-        let Sign::CloseBracket = self.sign(index.next) else {
+        let Sign::CloseBracket = index.ahead else {
             return Err(refuse(SyntaxCode::SY1, index.next));
         };
         let span = self.over(base.start, index.next + 1);
@@ -259,6 +272,7 @@ impl<'a, 't> Reader<'a, 't> {
             height,
             start: base.start,
             next: index.next + 1,
+            ahead: self.sign(index.next + 1),
         })
     }
 }

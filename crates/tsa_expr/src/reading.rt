@@ -4,14 +4,16 @@ ghost use Rattle.tsa_tree.specs.Expressions.{height as height_of, heights};
 ghost use Rattle.tsa_tree.specs.Shapes.{shape, shapes};
 
 use tsa_tree::expr::Expr;
+use tsa_tree::sign::Sign;
 
-/// An expression that was read: its height, the token that it begins at, and the token after it.
+/// An expression that was read: its height, the token that it begins at, the token after it, and that one's sign.
 #[derive(Clone, Copy)]
 pub struct Reading<'a> {
     pub tree: Expr<'a>,
     pub height: u32,
     pub start: u32,
     pub next: u32,
+    pub ahead: Sign,
     pub ghost high: { height ≡ height_of (shape tree) },
     pub ghost low: { height + start ≤ next },
 }

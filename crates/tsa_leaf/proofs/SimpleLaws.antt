@@ -198,4 +198,4 @@ module _ (ts : List Lexeme) (aliases : Aliases) where
 
 pub ruleset simples = (stepped_fails, stepped_goes, unstepped_fails, sign_within)
 
-pub ruleset behind_operands = (step_behind, assigned_fails, assigned_goes, rest_fails, rest_goes)
+pub ruleset behind_operands = (sign_within, step_behind, assigned_fails, assigned_goes, rest_fails, rest_goes)

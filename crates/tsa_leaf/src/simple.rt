@@ -100,10 +100,11 @@ fn behind_operand<'a>(
 ) -> Result<Simple<'a>, SyntaxRefusal>
     requires unstepped { step_in (spec_sign (input reader) (named reader) left.start) ≡ None }
     requires begun { read (input reader) an_expression (operand (named reader) depth) left.start ≡ Ok (shape left.tree, left.next) }
+    requires ahead { left.ahead ≡ spec_sign (input reader) (named reader) left.next }
     ensures gives { Gives seen_simple result (simple_at (input reader.entry) (named reader.entry) depth left.entry.start) }
     ensures ends { IfOk result (λ r. (left.entry.start < r.next) × (r.next ≤ length reader.entry.tokens.now)) }
 {
-    let sign = reader.sign(left.next);
+    let sign = left.ahead;
     if let Some(op) = step_of(sign) {
         let kind = SimpleKind::Assign {
             left: left.tree,

@@ -3,6 +3,7 @@ use Rattle.tsa_tree.specs.Expressions.{heights}
 use Rattle.tsa_tree.specs.Reads.{read, read_on, read_behind}
 use Rattle.tsa_tree.specs.Rows.{some_arguments, series}
 use Rattle.tsa_tree.specs.Shapes.{shape, shapes}
+use Rattle.tsa_tree.specs.Signs.{sign_at}
 use Rattle.tsa_expr.specs.Source.{input, named}
 use Rattle.tsa_expr.specs.Seen.{after}
 use Rattle.tsa_expr.proofs.source.Reader.+reader.Given as goal
@@ -37,6 +38,7 @@ decreases-element l = 8 * (length l.self.tokens.now - l.base.next)
 abbrev pub invariant-operations-operators : goal.invariant-operations-operators
 invariant-operations-operators l =
     (l.whole.start ≡ l.fn.left.start) × (l.fn.left.next ≤ l.whole.next)
+    × (l.whole.ahead ≡ sign_at (input l.self) (named l.self) l.whole.next)
     × (read_on (input l.self) (named l.self) l.depth l.tight l.fn.left.start (shape l.fn.left.tree) l.fn.left.next
     ≡ read_on (input l.self) (named l.self) l.depth l.tight l.whole.start (shape l.whole.tree) l.whole.next)
 
@@ -46,6 +48,7 @@ decreases-operations-operators l = length l.self.tokens.now - l.whole.next
 abbrev pub invariant-accesses-operators : goal.invariant-accesses-operators
 invariant-accesses-operators l =
     (l.whole.start ≡ l.fn.base.start) × (l.fn.base.next ≤ l.whole.next)
+    × (l.whole.ahead ≡ sign_at (input l.self) (named l.self) l.whole.next)
     × (read_behind (input l.self) (named l.self) l.depth l.fn.base.start (shape l.fn.base.tree) l.fn.base.next
     ≡ read_behind (input l.self) (named l.self) l.depth l.whole.start (shape l.whole.tree) l.whole.next)
 
