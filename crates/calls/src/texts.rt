@@ -1,7 +1,7 @@
 //! Texts with their tokens, as the other tests of this crate read them.
 ghost use Rattle.std.specs.Prelude.{◌≤◌, vec_len, IfOk};
 ghost use Rattle.tsa_base.specs.declared.limits.TheConstants.{INPUT_LIMIT as LONGEST};
-ghost use Rattle.tsa_tree.specs.Signs.{lexemes};
+ghost use Rattle.tsa_tree.specs.tokens.Signs.{lexemes};
 ghost use Rattle.tsa_stmt.specs.Near.{AreNear};
 
 use std::alloc::Global;

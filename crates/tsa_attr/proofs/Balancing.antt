@@ -6,10 +6,10 @@ use Rattle.tsa_forms.specs.Reading.{Outcome, refuse, syntax, deep, then, choose}
 use Rattle.tsa_tree.proofs.RowsRead.{read_steps}
 use Rattle.tsa_tree.specs.declared.sign.Sign.{Sign}
 use Rattle.tsa_tree.specs.declared.sign.Sign.TheVariants as sign
-use Rattle.tsa_tree.specs.Answers.{below_limit}
+use Rattle.tsa_tree.specs.expressions.Answers.{below_limit}
 use Rattle.tsa_tree.specs.Reads.{read}
 use Rattle.tsa_tree.specs.Rows.{a_skip, balanced, closer_kind, mark, balanced_row}
-use Rattle.tsa_tree.specs.Signs.{Aliases, sign_at, is_plain_sign}
+use Rattle.tsa_tree.specs.tokens.Signs.{Aliases, sign_at, is_plain_sign}
 use Rattle.tsa_expr.specs.declared.refusal.SyntaxRefusal.{SyntaxRefusal}
 use Rattle.tsa_expr.specs.declared.refusal.SyntaxRefusal.TheVariants.{At}
 use Rattle.tsa_expr.specs.declared.refusal.SyntaxCode.TheVariants.{LM2}

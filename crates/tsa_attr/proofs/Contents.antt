@@ -8,14 +8,14 @@ use Rattle.tsa_tree.specs.declared.attr.Attr.{Attr}
 use Rattle.tsa_tree.specs.declared.attr.AttrKind.{AttrKind}
 use Rattle.tsa_tree.specs.declared.sign.Sign.{Sign}
 use Rattle.tsa_tree.specs.declared.sign.Sign.TheVariants as sign
-use Rattle.tsa_tree.specs.AttributeRefusals.{lacking}
-use Rattle.tsa_tree.specs.Attributes as takes
-use Rattle.tsa_tree.specs.Attributes.{Attribute, Taking, taking, unquoted, try_value, attr_shape, attr_shapes}
-use Rattle.tsa_tree.specs.AttributeSpelling.{attribute}
-use Rattle.tsa_tree.specs.Expressions.{Expression, Arguments, none, more}
+use Rattle.tsa_tree.specs.attributes.Refusals.{lacking}
+use Rattle.tsa_tree.specs.attributes.Syntax as takes
+use Rattle.tsa_tree.specs.attributes.Syntax.{Attribute, Taking, taking, unquoted, try_value, attr_shape, attr_shapes}
+use Rattle.tsa_tree.specs.attributes.Spelling.{attribute}
+use Rattle.tsa_tree.specs.expressions.Syntax.{Expression, Arguments, none, more}
 use Rattle.tsa_tree.specs.Reads.{read}
 use Rattle.tsa_tree.specs.Rows.{an_expression, some_arguments, some_attributes, expression, series, Row, a_close, a_comma, a_text, is_given, mark, sees, lacking_at, arguments_row}
-use Rattle.tsa_tree.specs.Signs.{Aliases, sign_at, identifier_at, span_over}
+use Rattle.tsa_tree.specs.tokens.Signs.{Aliases, sign_at, identifier_at, span_over}
 use Rattle.tsa_expr.specs.declared.refusal.SyntaxRefusal.{SyntaxRefusal}
 use Rattle.tsa_expr.specs.Gives.{Fails}
 use Rattle.tsa_expr.proofs.Answering.{fails_then, fails_same, gives_same, not_comma}

@@ -14,12 +14,12 @@ use Rattle.tsa_tree.specs.declared.attr.AttrKind.{AttrKind}
 use Rattle.tsa_tree.specs.declared.sign.Sign.TheVariants as sign
 use Rattle.tsa_tree.specs.declared.sign.Meaning.{Meaning}
 use Rattle.tsa_tree.specs.declared.sign.Meaning.TheVariants as mean
-use Rattle.tsa_tree.specs.Answers.{below_limit}
-use Rattle.tsa_tree.specs.AttributeRefusals.{left_out, lacking}
-use Rattle.tsa_tree.specs.Attributes.{Attribute, taking, attr_shapes}
+use Rattle.tsa_tree.specs.expressions.Answers.{below_limit}
+use Rattle.tsa_tree.specs.attributes.Refusals.{left_out, lacking}
+use Rattle.tsa_tree.specs.attributes.Syntax.{Attribute, taking, attr_shapes}
 use Rattle.tsa_tree.specs.Reads.{read}
 use Rattle.tsa_tree.specs.Rows.{a_skip, some_attributes, Row, entries, balanced, closing_parenthesis, an_open, mark, sees, lacks, arguments_row, entry_row, entries_end}
-use Rattle.tsa_tree.specs.Signs.{Aliases, lexemes, sign_at, is_word, kind_in, is_word_at, entry_meaning}
+use Rattle.tsa_tree.specs.tokens.Signs.{Aliases, lexemes, sign_at, is_word, kind_in, is_word_at, entry_meaning}
 use Rattle.tsa_expr.specs.declared.refusal.SyntaxRefusal.{SyntaxRefusal}
 use Rattle.tsa_expr.specs.Gives.{Fails, Gives}
 use Rattle.tsa_expr.proofs.Answering.{fails_then, fails_same, gives_same, not_open, not_close, not_comma}

@@ -1,11 +1,11 @@
 -- What was read by the rows is what the grammar asks for.
 use Rattle.std.proofs.Common.{ℕ, ◌≡◌, subst, List, Ok, Err, Result, IfOk}
 use Rattle.tsa_base.specs.Tokens.{Lexeme}
-use Rattle.tsa_tree.specs.Signs.{Aliases}
-use Rattle.tsa_tree.specs.Attributes.{Attribute}
-use Rattle.tsa_tree.specs.AttributeAnswers.{IsLongest, IsBroken, IsRefused, IsTooDeep, IsAnswer, read_any}
-use Rattle.tsa_tree.specs.AttributeRefusals.{left_out, lacking}
-use Rattle.tsa_tree.proofs.AttributeAnswers.{read_any_answers}
+use Rattle.tsa_tree.specs.tokens.Signs.{Aliases}
+use Rattle.tsa_tree.specs.attributes.Syntax.{Attribute}
+use Rattle.tsa_tree.specs.attributes.Answers.{IsLongest, IsBroken, IsRefused, IsTooDeep, IsAnswer, read_any}
+use Rattle.tsa_tree.specs.attributes.Refusals.{left_out, lacking}
+use Rattle.tsa_tree.proofs.attributes.Answers.{read_any_answers}
 use Rattle.tsa_expr.specs.declared.refusal.SyntaxRefusal.{SyntaxRefusal}
 use Rattle.tsa_expr.specs.declared.refusal.SyntaxRefusal.TheVariants.{At, Function, NoMemory}
 use Rattle.tsa_expr.specs.declared.refusal.SyntaxCode.TheVariants.{SY1, AT1, AT2, LM2, LM3, LM5}

@@ -9,17 +9,17 @@ use Rattle.tsa_tree.specs.declared.attr.Attr.{Attr}
 use Rattle.tsa_tree.specs.declared.attr.AttrKind.{AttrKind}
 use Rattle.tsa_tree.specs.declared.sign.Sign.{Sign}
 use Rattle.tsa_tree.specs.declared.sign.Sign.TheVariants as sign
-use Rattle.tsa_tree.specs.AttributeRefusals.{left_out, lacking}
-use Rattle.tsa_tree.specs.Attributes.{Attribute, taking, attr_shapes}
+use Rattle.tsa_tree.specs.attributes.Refusals.{left_out, lacking}
+use Rattle.tsa_tree.specs.attributes.Syntax.{Attribute, taking, attr_shapes}
 use Rattle.tsa_tree.specs.Reads.{read}
 use Rattle.tsa_tree.specs.Rows.{some_attributes, attributes, group, entries, Row, a_close, mark, sees, lacks, opens, arguments_row, group_row, is_attribute_sign}
-use Rattle.tsa_tree.specs.Signs.{Aliases, sign_at}
+use Rattle.tsa_tree.specs.tokens.Signs.{Aliases, sign_at}
 use Rattle.tsa_expr.specs.declared.refusal.SyntaxRefusal.{SyntaxRefusal}
 use Rattle.tsa_expr.specs.Gives.{Fails, Gives}
 use Rattle.tsa_expr.proofs.Answering.{fails_then, fails_same, gives_same}
 use Rattle.tsa_expr.proofs.Places.{sign_within}
 use Rattle.tsa_attr.specs.Outcomes.{after, one_token, opening, arguments_at, attribute_at}
-use Rattle.tsa_tree.specs.AttributeAnswers.{read_any}
+use Rattle.tsa_tree.specs.attributes.Answers.{read_any}
 use Rattle.tsa_attr.specs.Seen.{passed}
 use Rattle.tsa_attr.proofs.Joining.{then-same, then-ok, append-nil, passed_at, after-then, after-then-as, after-after, after-nothing}
 use Rattle.tsa_attr.proofs.Openings.{going, opens_at}

@@ -2,7 +2,7 @@
 use Rattle.std.proofs.Common.{ℕ, ◌+◌, ◌≡◌, ap, sym, refl, Bool, true, false, List, [], ◌∷◌, ◌++◌, Ok, Err}
 use Rattle.tsa_forms.specs.Reading.{Outcome, refuse, syntax, deep, then, choose}
 use Rattle.tsa_tree.specs.declared.attr.Attr.{Attr}
-use Rattle.tsa_tree.specs.Attributes.{Attribute, attr_shape, attr_shapes}
+use Rattle.tsa_tree.specs.attributes.Syntax.{Attribute, attr_shape, attr_shapes}
 use Rattle.tsa_attr.specs.Outcomes.{after}
 
 pub then-then : {A B C : Type 0} (r : Outcome A) (f : A → ℕ → Outcome B) (go : B → ℕ → Outcome C) → then (then r f) go ≡ then r (λ x n. then (f x n) go)

@@ -4,10 +4,10 @@ use Rattle.tsa_base.specs.Tokens.{Lexeme}
 use Rattle.tsa_forms.proofs.Cases.{chosen, other}
 use Rattle.tsa_forms.specs.Reading.{Outcome, refuse, syntax, deep, then, follow}
 use Rattle.tsa_tree.specs.declared.sign.Sign.TheVariants as sign
-use Rattle.tsa_tree.specs.Answers.{below_limit}
+use Rattle.tsa_tree.specs.expressions.Answers.{below_limit}
 use Rattle.tsa_tree.specs.Reads.{read}
 use Rattle.tsa_tree.specs.Rows.{Sort, Node, Row, an_open, a_close, sees, mark, opens}
-use Rattle.tsa_tree.specs.Signs.{Aliases, sign_at}
+use Rattle.tsa_tree.specs.tokens.Signs.{Aliases, sign_at}
 use Rattle.tsa_expr.proofs.Answering.{in_limit, over_limit, not_open, not_close}
 use Rattle.tsa_attr.specs.Outcomes.{one_token, opening}
 use Rattle.tsa_attr.proofs.Joining.{opens-law}

@@ -4,12 +4,12 @@ use Rattle.tsa_base.specs.Tokens.{Lexeme}
 use Rattle.tsa_tree.specs.declared.attr.AttrKind.{AttrKind}
 use Rattle.tsa_tree.specs.declared.sign.Meaning.{Meaning}
 use Rattle.tsa_tree.specs.declared.sign.Meaning.TheVariants as mean
-use Rattle.tsa_tree.specs.Answers.{below_limit}
-use Rattle.tsa_tree.specs.AttributeRefusals.{left_out, lacking}
-use Rattle.tsa_tree.specs.Attributes.{Attribute, Taking, taking}
+use Rattle.tsa_tree.specs.expressions.Answers.{below_limit}
+use Rattle.tsa_tree.specs.attributes.Refusals.{left_out, lacking}
+use Rattle.tsa_tree.specs.attributes.Syntax.{Attribute, Taking, taking}
 use Rattle.tsa_tree.specs.Reads.{read}
 use Rattle.tsa_tree.specs.Rows.{some_attributes, a_skip, balanced, Kind, an_open, closing_parenthesis, sees, lacks, arguments_row, entries_end}
-use Rattle.tsa_tree.specs.Signs.{Aliases, is_word_at, entry_meaning}
+use Rattle.tsa_tree.specs.tokens.Signs.{Aliases, is_word_at, entry_meaning}
 use Rattle.tsa_expr.specs.declared.refusal.SyntaxRefusal.{SyntaxRefusal}
 use Rattle.tsa_expr.specs.declared.refusal.SyntaxRefusal.TheVariants.{At, NoMemory}
 use Rattle.tsa_expr.specs.declared.refusal.SyntaxCode.TheVariants.{SY1, AT1, AT2, LM2}

@@ -5,9 +5,9 @@ use Rattle.tsa_base.specs.declared.token.Span.{Span}
 use Rattle.tsa_tree.specs.declared.attr.AttrKind.{AttrKind}
 use Rattle.tsa_tree.specs.declared.sign.Sign.{Sign}
 use Rattle.tsa_tree.specs.declared.sign.Sign.TheVariants as sign
-use Rattle.tsa_tree.specs.Attributes.{Attribute, attr_shape}
-use Rattle.tsa_tree.specs.Attributes as takes
-use Rattle.tsa_tree.specs.Expressions.{Arguments}
+use Rattle.tsa_tree.specs.attributes.Syntax.{Attribute, attr_shape}
+use Rattle.tsa_tree.specs.attributes.Syntax as takes
+use Rattle.tsa_tree.specs.expressions.Syntax.{Arguments}
 use Rattle.tsa_tree.specs.Rows as rows
 use Rattle.tsa_expr.specs.declared.source.Reader.{Reader}
 use Rattle.tsa_attr.specs.declared.balance.Closer.{Closer}

@@ -1,7 +1,7 @@
 //! The list in `__attribute__((..))`, one entry after another.
 ghost use Rattle.std.specs.Prelude.{◌+◌, ◌<◌, length, IfOk};
 ghost use Rattle.tsa_base.specs.declared.limits.TheConstants.{NESTING_LIMIT};
-ghost use Rattle.tsa_tree.specs.Attributes.{attr_shapes};
+ghost use Rattle.tsa_tree.specs.attributes.Syntax.{attr_shapes};
 ghost use Rattle.tsa_tree.specs.Reads.{read};
 ghost use Rattle.tsa_tree.specs.Rows.{some_attributes, entries as entries_call};
 ghost use Rattle.tsa_expr.specs.Gives.{Gives};

@@ -1,10 +1,10 @@
 //! The nodes of attributes are made.
 ghost use Rattle.std.specs.Prelude.{◌≡◌, ◌++◌, ◌∷◌, [], Some, None, IfOk, OnOk, OnErr, Err};
-ghost use Rattle.tsa_tree.specs.Attributes.{attr_shape, attr_shapes, unquoted};
-ghost use Rattle.tsa_tree.specs.AttributeSpelling.{attribute};
-ghost use Rattle.tsa_tree.specs.Expressions.{none, more};
-ghost use Rattle.tsa_tree.specs.Shapes.{shape, shapes};
-ghost use Rattle.tsa_tree.specs.Signs.{identifier_at};
+ghost use Rattle.tsa_tree.specs.attributes.Syntax.{attr_shape, attr_shapes, unquoted};
+ghost use Rattle.tsa_tree.specs.attributes.Spelling.{attribute};
+ghost use Rattle.tsa_tree.specs.expressions.Syntax.{none, more};
+ghost use Rattle.tsa_tree.specs.expressions.Shapes.{shape, shapes};
+ghost use Rattle.tsa_tree.specs.tokens.Signs.{identifier_at};
 ghost use Rattle.tsa_expr.specs.Source.{input};
 ghost use Rattle.tsa_attr.specs.Seen.{made};
 
@@ -87,7 +87,7 @@ fn without_quotes(text: &[u8]) -> &[u8]
 }
 
 /// The bytes between the quotes of the text at a place, kept in the arena.
-#[tactic(auto, unfolding(tsa_tree::specs::Signs::identifier_at))]
+#[tactic(auto, unfolding(tsa_tree::specs::tokens::Signs::identifier_at))]
 pub fn text_at<'a>(reader: Reader<'a, '_>, at: u32) -> Result<&'a [u8], AllocError>
     ensures { IfOk result (λ text. text.now ≡ unquoted (identifier_at (input reader.entry) at).text) }
 {

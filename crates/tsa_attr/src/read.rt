@@ -1,10 +1,10 @@
 //! Attributes, as the parts of a unit ask for them.
 ghost use Rattle.std.specs.Prelude.{◌≤◌, ◌<◌, ℕ, length, [], IfOk, IsErrOf};
 ghost use Rattle.tsa_base.specs.declared.limits.TheConstants.{INPUT_LIMIT};
-ghost use Rattle.tsa_tree.specs.AttributeAnswers.{IsLongest, IsBroken, IsRefused, IsTooDeep, read_any};
-ghost use Rattle.tsa_tree.specs.AttributeRefusals as reason;
-ghost use Rattle.tsa_tree.specs.Attributes.{attr_shapes};
-ghost use Rattle.tsa_tree.specs.Signs.{lexemes};
+ghost use Rattle.tsa_tree.specs.attributes.Answers.{IsLongest, IsBroken, IsRefused, IsTooDeep, read_any};
+ghost use Rattle.tsa_tree.specs.attributes.Refusals as reason;
+ghost use Rattle.tsa_tree.specs.attributes.Syntax.{attr_shapes};
+ghost use Rattle.tsa_tree.specs.tokens.Signs.{lexemes};
 ghost use Rattle.tsa_expr.specs.Gives.{Gives};
 ghost use Rattle.tsa_expr.specs.Source.{input, named};
 ghost use Rattle.tsa_attr.specs.Outcomes.{IsOfAttributes, after};

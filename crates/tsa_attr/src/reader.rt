@@ -1,10 +1,10 @@
 //! Groups of attributes: macro words with their arguments, and `__attribute__((..))`.
 ghost use Rattle.std.specs.Prelude.{◌≡◌, ◌+◌, ◌≤◌, ◌<◌, length, max, IfOk};
-ghost use Rattle.tsa_tree.specs.AttributeAnswers.{read_any};
-ghost use Rattle.tsa_tree.specs.Attributes.{attr_shapes};
+ghost use Rattle.tsa_tree.specs.attributes.Answers.{read_any};
+ghost use Rattle.tsa_tree.specs.attributes.Syntax.{attr_shapes};
 ghost use Rattle.tsa_tree.specs.Reads.{read};
 ghost use Rattle.tsa_tree.specs.Rows.{some_attributes, group as group_call};
-ghost use Rattle.tsa_tree.specs.Signs.{sign_at as spec_sign};
+ghost use Rattle.tsa_tree.specs.tokens.Signs.{sign_at as spec_sign};
 ghost use Rattle.tsa_expr.specs.Gives.{Gives};
 ghost use Rattle.tsa_expr.specs.Source.{input, named};
 ghost use Rattle.tsa_attr.specs.Seen.{IsBehind};

@@ -1,7 +1,7 @@
 //! An attribute is read, from its name or macro word to its parenthesis.
 ghost use Rattle.std.specs.Prelude.{◌<◌, IfOk};
-ghost use Rattle.tsa_tree.specs.Attributes as takes;
-ghost use Rattle.tsa_tree.specs.Attributes.{attr_shapes};
+ghost use Rattle.tsa_tree.specs.attributes.Syntax as takes;
+ghost use Rattle.tsa_tree.specs.attributes.Syntax.{attr_shapes};
 ghost use Rattle.tsa_expr.specs.Gives.{Gives};
 ghost use Rattle.tsa_expr.specs.Source.{input, named};
 ghost use Rattle.tsa_attr.specs.Outcomes.{after, arguments_at, attribute_at};

@@ -2,9 +2,9 @@
 ghost use Rattle.std.specs.Prelude.{◌≡◌, ◌+◌, ◌<◌, length, Some, None, IfOk, OnOk};
 ghost use Rattle.std.specs.Str.{bytes_eq};
 ghost use Rattle.tsa_base.specs.declared.limits.TheConstants.{NESTING_LIMIT};
-ghost use Rattle.tsa_tree.specs.Attributes.{try_value as spec_try, taking};
+ghost use Rattle.tsa_tree.specs.attributes.Syntax.{try_value as spec_try, taking};
 ghost use Rattle.tsa_tree.specs.Rows.{sees, a_close, is_attribute_sign as spec_begins, lacking_at, takes_result as spec_takes};
-ghost use Rattle.tsa_tree.specs.Signs.{identifier_at, is_plain_sign as spec_plain, entry_meaning as spec_meaning};
+ghost use Rattle.tsa_tree.specs.tokens.Signs.{identifier_at, is_plain_sign as spec_plain, entry_meaning as spec_meaning};
 ghost use Rattle.tsa_expr.specs.Gives.{Gives};
 ghost use Rattle.tsa_expr.specs.Source.{input, named};
 ghost use Rattle.tsa_attr.specs.Outcomes.{opening, one_token};
@@ -102,7 +102,7 @@ fn is(text: &[u8], word: &[u8]) -> bool
 }
 
 /// The result that a text names for a try.
-#[tactic(auto, unfolding(tsa_tree::specs::Attributes::try_value))]
+#[tactic(auto, unfolding(tsa_tree::specs::attributes::Syntax::try_value))]
 fn try_value(text: &[u8]) -> Option<bool>
     ensures { result ≡ spec_try text.now }
 {
@@ -120,7 +120,7 @@ fn try_value(text: &[u8]) -> Option<bool>
 }
 
 /// The result that the token at a place names for a try.
-#[tactic(auto, unfolding(tsa_tree::specs::Signs::identifier_at, tsa_tree::specs::Attributes::try_value))]
+#[tactic(auto, unfolding(tsa_tree::specs::tokens::Signs::identifier_at, tsa_tree::specs::attributes::Syntax::try_value))]
 pub fn try_value_at(reader: Reader<'_, '_>, at: u32) -> Option<bool>
     ensures { result ≡ spec_try (identifier_at (input reader.entry) at).text }
 {

@@ -7,11 +7,11 @@ use Rattle.tsa_forms.specs.Reading.{Outcome, then}
 use Rattle.tsa_tree.specs.declared.item.FnTree.{FnTree}
 use Rattle.tsa_tree.specs.declared.item.Item.{Item}
 use Rattle.tsa_tree.specs.declared.item.Item.TheVariants as item
-use Rattle.tsa_tree.specs.UnitItems.{UnitItem, function_item}
-use Rattle.tsa_tree.specs.ItemShapes.{head_shape}
-use Rattle.tsa_tree.specs.UnitShapes.{shape_with, function_shape, item_shape, item_shapes, HaveTheirPoints}
+use Rattle.tsa_tree.specs.units.Syntax.{UnitItem, function_item}
+use Rattle.tsa_tree.specs.declarations.Shapes.{head_shape}
+use Rattle.tsa_tree.specs.units.Shapes.{shape_with, function_shape, item_shape, item_shapes, HaveTheirPoints}
 use Rattle.tsa_tree.specs.Rows.{sees, a_semicolon}
-use Rattle.tsa_tree.specs.Signs.{Aliases}
+use Rattle.tsa_tree.specs.tokens.Signs.{Aliases}
 use Rattle.tsa_expr.specs.declared.refusal.SyntaxRefusal.{SyntaxRefusal}
 use Rattle.tsa_expr.specs.Gives.{Fails, Leads}
 use Rattle.tsa_expr.proofs.Answering.{fails_then, fails_same}

@@ -11,16 +11,16 @@ use Rattle.tsa_tree.proofs.RowsRead.{read_steps}
 use Rattle.tsa_tree.specs.declared.decl.CType.{CType}
 use Rattle.tsa_tree.specs.declared.item.Item.{Item}
 use Rattle.tsa_tree.specs.declared.sign.Sign.TheVariants as sign
-use Rattle.tsa_tree.specs.AttributeAnswers.{read_any}
-use Rattle.tsa_tree.specs.Attributes.{Attribute}
-use Rattle.tsa_tree.specs.Declarations.{Base, Declaration, Specified, Declarator, made_of, EnumConstant, StructBody}
-use Rattle.tsa_tree.specs.UnitItems.{UnitItem, structure_item, enumeration_item, alias_item}
-use Rattle.tsa_tree.specs.Expressions.{Identifier}
-use Rattle.tsa_tree.specs.ItemShapes.{type_shape}
-use Rattle.tsa_tree.specs.UnitShapes.{item_shape, item_shapes}
+use Rattle.tsa_tree.specs.attributes.Answers.{read_any}
+use Rattle.tsa_tree.specs.attributes.Syntax.{Attribute}
+use Rattle.tsa_tree.specs.declarations.Syntax.{Base, Declaration, Specified, Declarator, made_of, EnumConstant, StructBody}
+use Rattle.tsa_tree.specs.units.Syntax.{UnitItem, structure_item, enumeration_item, alias_item}
+use Rattle.tsa_tree.specs.expressions.Syntax.{Identifier}
+use Rattle.tsa_tree.specs.declarations.Shapes.{type_shape}
+use Rattle.tsa_tree.specs.units.Shapes.{item_shape, item_shapes}
 use Rattle.tsa_tree.specs.Reads.{read}
 use Rattle.tsa_tree.specs.Rows.{some_declarations, a_declarator, a_struct_body, some_constants, members, struct_body, enum_body, declarator, mark, sees, a_name, a_semicolon, behind_attributes, alias_end}
-use Rattle.tsa_tree.specs.Signs.{Aliases, sign_at, span_over, identifier_at}
+use Rattle.tsa_tree.specs.tokens.Signs.{Aliases, sign_at, span_over, identifier_at}
 use Rattle.tsa_expr.specs.declared.refusal.SyntaxRefusal.{SyntaxRefusal}
 use Rattle.tsa_expr.specs.Gives.{Fails, Gives}
 use Rattle.tsa_expr.proofs.Answering.{fails_then, fails_same}

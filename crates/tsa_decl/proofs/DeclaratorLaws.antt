@@ -10,12 +10,12 @@ use Rattle.tsa_tree.specs.declared.expr.Expr.{Expr}
 use Rattle.tsa_tree.specs.declared.sign.Keyword.TheVariants as key
 use Rattle.tsa_tree.specs.declared.sign.Sign.{Sign}
 use Rattle.tsa_tree.specs.declared.sign.Sign.TheVariants as sign
-use Rattle.tsa_tree.specs.Declarations.{Declarator}
-use Rattle.tsa_tree.specs.Expressions.{Expression, Identifier}
+use Rattle.tsa_tree.specs.declarations.Syntax.{Declarator}
+use Rattle.tsa_tree.specs.expressions.Syntax.{Expression, Identifier}
 use Rattle.tsa_tree.specs.Reads.{read}
 use Rattle.tsa_tree.specs.Rows.{an_expression, a_declarator, expression, declarator, a_name, is_keyword, a_close_bracket, mark, sees}
-use Rattle.tsa_tree.specs.Shapes.{shape}
-use Rattle.tsa_tree.specs.Signs.{Aliases, sign_at, identifier_at, is_star}
+use Rattle.tsa_tree.specs.expressions.Shapes.{shape}
+use Rattle.tsa_tree.specs.tokens.Signs.{Aliases, sign_at, identifier_at, is_star}
 use Rattle.tsa_expr.specs.declared.refusal.SyntaxRefusal.{SyntaxRefusal}
 use Rattle.tsa_expr.specs.Gives.{Fails}
 use Rattle.tsa_expr.proofs.Answering.{fails_then, fails_same, in_limit, over_limit, not_close_bracket}

@@ -6,14 +6,14 @@ use Rattle.tsa_forms.proofs.Cases.{chosen, other, goes}
 use Rattle.tsa_forms.specs.Reading.{Outcome, refuse, syntax, then, choose}
 use Rattle.tsa_tree.proofs.RowsRead.{read_steps}
 use Rattle.tsa_tree.specs.declared.sign.Sign.TheVariants as sign
-use Rattle.tsa_tree.specs.AttributeAnswers.{read_any}
-use Rattle.tsa_tree.specs.Attributes.{Attribute}
-use Rattle.tsa_tree.specs.Declarations.{Specified, Declarator, Declaration, declaration, Declared, Initialiser}
-use Rattle.tsa_tree.specs.DeclarationSpelling.{Role, a_member, a_global}
-use Rattle.tsa_tree.specs.Expressions.{Expression}
+use Rattle.tsa_tree.specs.attributes.Answers.{read_any}
+use Rattle.tsa_tree.specs.attributes.Syntax.{Attribute}
+use Rattle.tsa_tree.specs.declarations.Syntax.{Specified, Declarator, Declaration, declaration, Declared, Initialiser}
+use Rattle.tsa_tree.specs.declarations.Spelling.{Role, a_member, a_global}
+use Rattle.tsa_tree.specs.expressions.Syntax.{Expression}
 use Rattle.tsa_tree.specs.Reads.{read}
 use Rattle.tsa_tree.specs.Rows.{an_initialiser, a_declared, Row, initialiser, declared_rest, a_comma, a_semicolon, an_equals, mark, sees, behind_init, behind_attributes, delimiter}
-use Rattle.tsa_tree.specs.Signs.{Aliases, sign_at, span_over}
+use Rattle.tsa_tree.specs.tokens.Signs.{Aliases, sign_at, span_over}
 use Rattle.tsa_expr.specs.declared.refusal.SyntaxRefusal.{SyntaxRefusal}
 use Rattle.tsa_expr.specs.Gives.{Fails}
 use Rattle.tsa_expr.proofs.Answering.{fails_then, fails_same}

@@ -5,7 +5,7 @@ use Rattle.tsa_forms.proofs.Cases.{chosen, other}
 use Rattle.tsa_forms.specs.Reading.{refuse, syntax}
 use Rattle.tsa_tree.specs.declared.sign.Sign.TheVariants as sign
 use Rattle.tsa_tree.specs.Rows.{mark}
-use Rattle.tsa_tree.specs.Signs.{Aliases, sign_at}
+use Rattle.tsa_tree.specs.tokens.Signs.{Aliases, sign_at}
 use Rattle.tsa_expr.proofs.Answering.{not_comma}
 use Rattle.tsa_decl.specs.Outcomes.{delimiter_at}
 use Rattle.tsa_decl.proofs.TokenLaws.{not_semicolon}

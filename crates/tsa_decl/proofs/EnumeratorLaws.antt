@@ -8,13 +8,13 @@ use Rattle.tsa_forms.specs.Reading.{Outcome, refuse, syntax, then, choose}
 use Rattle.tsa_tree.proofs.RowsRead.{read_steps}
 use Rattle.tsa_tree.specs.declared.item.Enumerator.{Enumerator}
 use Rattle.tsa_tree.specs.declared.sign.Sign.TheVariants as sign
-use Rattle.tsa_tree.specs.Answers.{below_limit}
-use Rattle.tsa_tree.specs.Declarations.{EnumConstant}
-use Rattle.tsa_tree.specs.Expressions.{Identifier, Expression}
-use Rattle.tsa_tree.specs.ItemShapes.{enumerator_shape, enumerator_shapes}
+use Rattle.tsa_tree.specs.expressions.Answers.{below_limit}
+use Rattle.tsa_tree.specs.declarations.Syntax.{EnumConstant}
+use Rattle.tsa_tree.specs.expressions.Syntax.{Identifier, Expression}
+use Rattle.tsa_tree.specs.declarations.Shapes.{enumerator_shape, enumerator_shapes}
 use Rattle.tsa_tree.specs.Reads.{read}
 use Rattle.tsa_tree.specs.Rows.{Sort, an_expression, some_constants, Row, expression, constants, enum_body, a_name, an_open_brace, a_close_brace, an_equals, sees, mark, opens_brace, constants_end}
-use Rattle.tsa_tree.specs.Signs.{Aliases, sign_at, identifier_at}
+use Rattle.tsa_tree.specs.tokens.Signs.{Aliases, sign_at, identifier_at}
 use Rattle.tsa_expr.specs.declared.refusal.SyntaxRefusal.{SyntaxRefusal}
 use Rattle.tsa_expr.specs.Gives.{Fails}
 use Rattle.tsa_expr.proofs.Answering.{fails_then, fails_same, gives_same, then_done, not_comma}

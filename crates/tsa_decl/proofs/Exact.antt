@@ -2,13 +2,13 @@
 use Rattle.std.proofs.Common.{ℕ, ◌≡◌, sym, subst, List, [], Ok, Err, Result, IfOk, ◌∙◌, false}
 use Rattle.tsa_base.specs.Tokens.{Lexeme}
 use Rattle.tsa_forms.specs.Reading.{Outcome}
-use Rattle.tsa_tree.proofs.DeclarationLaws.{an_answer}
-use Rattle.tsa_tree.specs.AttributeRefusals.{left_out, lacking}
-use Rattle.tsa_tree.specs.DeclarationAnswers.{Part, sort_of, call_of, IsLongest, IsBroken, IsRefused, IsTooDeep, IsAnswer}
-use Rattle.tsa_tree.specs.UnitItems.{UnitItem}
+use Rattle.tsa_tree.proofs.declarations.Laws.{an_answer}
+use Rattle.tsa_tree.specs.attributes.Refusals.{left_out, lacking}
+use Rattle.tsa_tree.specs.declarations.Answers.{Part, sort_of, call_of, IsLongest, IsBroken, IsRefused, IsTooDeep, IsAnswer}
+use Rattle.tsa_tree.specs.units.Syntax.{UnitItem}
 use Rattle.tsa_tree.specs.Reads.{read}
 use Rattle.tsa_tree.specs.Rows.{some_items, item, Node}
-use Rattle.tsa_tree.specs.Signs.{Aliases}
+use Rattle.tsa_tree.specs.tokens.Signs.{Aliases}
 use Rattle.tsa_expr.specs.declared.refusal.SyntaxRefusal.{SyntaxRefusal}
 use Rattle.tsa_expr.specs.declared.refusal.SyntaxRefusal.TheVariants.{At, Function, NoMemory}
 use Rattle.tsa_expr.specs.declared.refusal.SyntaxCode.TheVariants.{SY1, AT1, AT2, LM2, LM3, LM5}

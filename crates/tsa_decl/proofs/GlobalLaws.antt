@@ -7,14 +7,14 @@ use Rattle.tsa_tree.proofs.RowsRead.{read_steps}
 use Rattle.tsa_tree.specs.declared.decl.Decl.{Decl}
 use Rattle.tsa_tree.specs.declared.item.Item.{Item}
 use Rattle.tsa_tree.specs.declared.item.Item.TheVariants as items
-use Rattle.tsa_tree.specs.Declarations.{Specified, Declarator, Declaration, Declared}
-use Rattle.tsa_tree.specs.UnitItems.{UnitItem, global_item}
-use Rattle.tsa_tree.specs.DeclarationSpelling.{a_global}
-use Rattle.tsa_tree.specs.ItemShapes.{decl_shape}
-use Rattle.tsa_tree.specs.UnitShapes.{item_shape, item_shapes}
+use Rattle.tsa_tree.specs.declarations.Syntax.{Specified, Declarator, Declaration, Declared}
+use Rattle.tsa_tree.specs.units.Syntax.{UnitItem, global_item}
+use Rattle.tsa_tree.specs.declarations.Spelling.{a_global}
+use Rattle.tsa_tree.specs.declarations.Shapes.{decl_shape}
+use Rattle.tsa_tree.specs.units.Shapes.{item_shape, item_shapes}
 use Rattle.tsa_tree.specs.Reads.{read}
 use Rattle.tsa_tree.specs.Rows.{a_declarator, a_declared, some_declarations, declarator, declared_rest, declarators}
-use Rattle.tsa_tree.specs.Signs.{Aliases}
+use Rattle.tsa_tree.specs.tokens.Signs.{Aliases}
 use Rattle.tsa_expr.specs.declared.refusal.SyntaxRefusal.{SyntaxRefusal}
 use Rattle.tsa_expr.specs.Gives.{Fails}
 use Rattle.tsa_expr.proofs.Answering.{fails_then, fails_same, gives_same}

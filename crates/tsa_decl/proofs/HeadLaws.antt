@@ -5,13 +5,13 @@ use Rattle.tsa_forms.proofs.Cases.{chosen, other, goes}
 use Rattle.tsa_forms.specs.Form.{done, part}
 use Rattle.tsa_forms.specs.Reading.{Outcome, then, choose}
 use Rattle.tsa_tree.proofs.RowsRead.{read_steps}
-use Rattle.tsa_tree.specs.Answers.{below_limit}
-use Rattle.tsa_tree.specs.Attributes.{Attribute}
-use Rattle.tsa_tree.specs.AttributeAnswers.{read_any}
-use Rattle.tsa_tree.specs.Declarations.{Specified, Declarator, Parameter, Signature, Head, head_of}
+use Rattle.tsa_tree.specs.expressions.Answers.{below_limit}
+use Rattle.tsa_tree.specs.attributes.Syntax.{Attribute}
+use Rattle.tsa_tree.specs.attributes.Answers.{read_any}
+use Rattle.tsa_tree.specs.declarations.Syntax.{Specified, Declarator, Parameter, Signature, Head, head_of}
 use Rattle.tsa_tree.specs.Reads.{read}
 use Rattle.tsa_tree.specs.Rows.{Sort, some_parameters, a_skip, a_specifier, a_declarator, a_signature, a_head, Row, parameters, storage, specifier, declarator, signature, head, an_open, sees, opens, behind_attributes}
-use Rattle.tsa_tree.specs.Signs.{Aliases, sign_at, is_storage}
+use Rattle.tsa_tree.specs.tokens.Signs.{Aliases, sign_at, is_storage}
 use Rattle.tsa_expr.specs.declared.refusal.SyntaxRefusal.{SyntaxRefusal}
 use Rattle.tsa_expr.specs.Gives.{Fails}
 use Rattle.tsa_expr.proofs.Answering.{fails_then, fails_same, gives_same, then_done}

@@ -10,13 +10,13 @@ use Rattle.tsa_tree.specs.declared.item.Item.{Item}
 use Rattle.tsa_tree.specs.declared.sign.Keyword.TheVariants as key
 use Rattle.tsa_tree.specs.declared.sign.Sign.{Sign}
 use Rattle.tsa_tree.specs.declared.sign.Sign.TheVariants as sign
-use Rattle.tsa_tree.specs.Declarations.{Base, Specified, Declarator, Signature, Head, head_of}
-use Rattle.tsa_tree.specs.UnitItems.{UnitItem}
-use Rattle.tsa_tree.specs.ItemShapes.{head_shape}
-use Rattle.tsa_tree.specs.UnitShapes.{item_shapes}
+use Rattle.tsa_tree.specs.declarations.Syntax.{Base, Specified, Declarator, Signature, Head, head_of}
+use Rattle.tsa_tree.specs.units.Syntax.{UnitItem}
+use Rattle.tsa_tree.specs.declarations.Shapes.{head_shape}
+use Rattle.tsa_tree.specs.units.Shapes.{item_shapes}
 use Rattle.tsa_tree.specs.Reads.{read}
 use Rattle.tsa_tree.specs.Rows.{a_specifier, a_declarator, a_signature, some_items, specifier, declarator, signature, declared, item, mark, is_keyword, sees, a_keyword, an_open, function_end, declared_of, alias_of, alias_end, structure_row, enumeration_row, structure_alias_row, enumeration_alias_row, typedef_row, item_row}
-use Rattle.tsa_tree.specs.Signs.{Aliases, sign_at}
+use Rattle.tsa_tree.specs.tokens.Signs.{Aliases, sign_at}
 use Rattle.tsa_expr.specs.declared.refusal.SyntaxRefusal.{SyntaxRefusal}
 use Rattle.tsa_expr.specs.Gives.{Fails}
 use Rattle.tsa_expr.proofs.Answering.{fails_then, fails_same, gives_same, not_open, then_done}

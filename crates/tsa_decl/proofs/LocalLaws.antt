@@ -8,12 +8,12 @@ use Rattle.tsa_forms.specs.Reading.{Outcome, refuse, syntax, then, choose}
 use Rattle.tsa_tree.proofs.RowsRead.{read_steps}
 use Rattle.tsa_tree.specs.declared.decl.Decl.{Decl}
 use Rattle.tsa_tree.specs.declared.sign.Sign.TheVariants as sign
-use Rattle.tsa_tree.specs.Declarations.{Specified, Declarator, Declaration, declaration, Initialiser, value}
-use Rattle.tsa_tree.specs.Expressions.{Expression}
-use Rattle.tsa_tree.specs.ItemShapes.{decl_shape, decl_shapes}
+use Rattle.tsa_tree.specs.declarations.Syntax.{Specified, Declarator, Declaration, declaration, Initialiser, value}
+use Rattle.tsa_tree.specs.expressions.Syntax.{Expression}
+use Rattle.tsa_tree.specs.declarations.Shapes.{decl_shape, decl_shapes}
 use Rattle.tsa_tree.specs.Reads.{read}
 use Rattle.tsa_tree.specs.Rows.{an_expression, a_specifier, a_declarator, some_declarations, a_variable, some_variables, Row, expression, specifier, declarator, variable, variables, locals, a_comma, an_equals, mark, sees}
-use Rattle.tsa_tree.specs.Signs.{Aliases, sign_at, span_over}
+use Rattle.tsa_tree.specs.tokens.Signs.{Aliases, sign_at, span_over}
 use Rattle.tsa_expr.specs.declared.refusal.SyntaxRefusal.{SyntaxRefusal}
 use Rattle.tsa_expr.specs.Gives.{Fails}
 use Rattle.tsa_expr.proofs.Answering.{fails_then, fails_same, gives_same, not_comma}

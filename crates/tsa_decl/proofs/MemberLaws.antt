@@ -5,12 +5,12 @@ use Rattle.tsa_forms.proofs.Cases.{chosen, other, goes}
 use Rattle.tsa_forms.specs.Reading.{Outcome, refuse, syntax, then, choose}
 use Rattle.tsa_tree.proofs.RowsRead.{read_steps}
 use Rattle.tsa_tree.specs.declared.decl.Decl.{Decl}
-use Rattle.tsa_tree.specs.Declarations.{Specified, Declarator, Declaration, Declared}
-use Rattle.tsa_tree.specs.DeclarationSpelling.{Role, a_member}
-use Rattle.tsa_tree.specs.ItemShapes.{decl_shape, decl_shapes}
+use Rattle.tsa_tree.specs.declarations.Syntax.{Specified, Declarator, Declaration, Declared}
+use Rattle.tsa_tree.specs.declarations.Spelling.{Role, a_member}
+use Rattle.tsa_tree.specs.declarations.Shapes.{decl_shape, decl_shapes}
 use Rattle.tsa_tree.specs.Reads.{read}
 use Rattle.tsa_tree.specs.Rows.{a_specifier, a_declarator, a_declared, some_declarations, specifier, declarator, declared_rest, declarators, member_line, members, a_close_brace, sees}
-use Rattle.tsa_tree.specs.Signs.{Aliases}
+use Rattle.tsa_tree.specs.tokens.Signs.{Aliases}
 use Rattle.tsa_expr.specs.declared.refusal.SyntaxRefusal.{SyntaxRefusal}
 use Rattle.tsa_expr.specs.Gives.{Fails}
 use Rattle.tsa_expr.proofs.Answering.{fails_then, fails_same, gives_same, then_done}

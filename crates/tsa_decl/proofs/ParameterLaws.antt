@@ -13,13 +13,13 @@ use Rattle.tsa_tree.specs.declared.item.Param.{Param}
 use Rattle.tsa_tree.specs.declared.sign.Keyword.TheVariants as key
 use Rattle.tsa_tree.specs.declared.sign.Sign.{Sign}
 use Rattle.tsa_tree.specs.declared.sign.Sign.TheVariants as sign
-use Rattle.tsa_tree.specs.Declarations.{Specified, Parameter}
-use Rattle.tsa_tree.specs.Expressions.{Identifier}
-use Rattle.tsa_tree.specs.ItemShapes.{param_shape, param_shapes}
-use Rattle.tsa_tree.specs.ItemSpelling.{parameter, parameter_start}
+use Rattle.tsa_tree.specs.declarations.Syntax.{Specified, Parameter}
+use Rattle.tsa_tree.specs.expressions.Syntax.{Identifier}
+use Rattle.tsa_tree.specs.declarations.Shapes.{param_shape, param_shapes}
+use Rattle.tsa_tree.specs.declarations.ItemSpelling.{parameter, parameter_start}
 use Rattle.tsa_tree.specs.Reads.{read}
 use Rattle.tsa_tree.specs.Rows.{a_specifier, some_parameters, Row, specifier, parameter_list, parameters, a_name, a_close, sees, mark, is_keyword, parameter_end}
-use Rattle.tsa_tree.specs.Signs.{Aliases, lexemes, sign_at, identifier_at, span_over, is_void, is_close, is_lone_void}
+use Rattle.tsa_tree.specs.tokens.Signs.{Aliases, lexemes, sign_at, identifier_at, span_over, is_void, is_close, is_lone_void}
 use Rattle.tsa_expr.specs.declared.refusal.SyntaxRefusal.{SyntaxRefusal}
 use Rattle.tsa_expr.specs.Gives.{Fails}
 use Rattle.tsa_expr.proofs.Answering.{fails_then, fails_same, gives_same, then_done, not_name, not_comma, not_close}

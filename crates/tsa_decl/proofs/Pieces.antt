@@ -3,13 +3,13 @@ use Rattle.std.proofs.Common.{ℕ, ◌+◌, ◌≡◌, refl, Bool, true, false, 
 use Rattle.tsa_base.specs.Tokens.{Lexeme}
 use Rattle.tsa_forms.specs.Reading.{Outcome, refuse, syntax, deep, then, choose}
 use Rattle.tsa_tree.specs.declared.sign.Keyword.TheVariants as key
-use Rattle.tsa_tree.specs.Answers.{below_limit}
-use Rattle.tsa_tree.specs.Attributes.{Attribute}
-use Rattle.tsa_tree.specs.AttributeAnswers.{read_any}
-use Rattle.tsa_tree.specs.Expressions.{Expression}
+use Rattle.tsa_tree.specs.expressions.Answers.{below_limit}
+use Rattle.tsa_tree.specs.attributes.Syntax.{Attribute}
+use Rattle.tsa_tree.specs.attributes.Answers.{read_any}
+use Rattle.tsa_tree.specs.expressions.Syntax.{Expression}
 use Rattle.tsa_tree.specs.Reads.{read}
 use Rattle.tsa_tree.specs.Rows.{Sort, an_expression, some_attributes, a_skip, Row, expression, attributes, consts, storage, a_keyword, an_open_bracket, a_close_bracket, sees, is_attribute_sign, behind_consts, behind_star, behind_length, behind_attributes, behind_storage}
-use Rattle.tsa_tree.specs.Signs.{Aliases, sign_at, is_storage, is_star}
+use Rattle.tsa_tree.specs.tokens.Signs.{Aliases, sign_at, is_storage, is_star}
 use Rattle.tsa_decl.specs.Outcomes.{going, consts_at, storage_at, star_at, length_at}
 
 flag-law : {A B : Type 0} (b : Bool) (r : Outcome A) (x : A) (m : ℕ) (f : Bool → ℕ → Outcome B)

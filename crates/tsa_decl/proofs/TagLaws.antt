@@ -8,16 +8,16 @@ use Rattle.tsa_tree.specs.declared.attr.Attr.{Attr}
 use Rattle.tsa_tree.specs.declared.expr.Name.{Name}
 use Rattle.tsa_tree.specs.declared.item.Item.{Item}
 use Rattle.tsa_tree.specs.declared.sign.Sign.TheVariants as sign
-use Rattle.tsa_tree.specs.AttributeAnswers.{read_any}
-use Rattle.tsa_tree.specs.Attributes.{Attribute, attr_shapes}
-use Rattle.tsa_tree.specs.Declarations.{structure, enumerated}
-use Rattle.tsa_tree.specs.UnitItems.{UnitItem}
-use Rattle.tsa_tree.specs.Expressions.{Identifier}
-use Rattle.tsa_tree.specs.UnitShapes.{item_shapes}
+use Rattle.tsa_tree.specs.attributes.Answers.{read_any}
+use Rattle.tsa_tree.specs.attributes.Syntax.{Attribute, attr_shapes}
+use Rattle.tsa_tree.specs.declarations.Syntax.{structure, enumerated}
+use Rattle.tsa_tree.specs.units.Syntax.{UnitItem}
+use Rattle.tsa_tree.specs.expressions.Syntax.{Identifier}
+use Rattle.tsa_tree.specs.units.Shapes.{item_shapes}
 use Rattle.tsa_tree.specs.Reads.{read}
 use Rattle.tsa_tree.specs.Rows.{some_attributes, attributes, mark, sees, is_attribute_sign, an_open_brace, a_semicolon, declared_of, alias_of, structure_row, enumeration_row, structure_alias_row, enumeration_alias_row}
-use Rattle.tsa_tree.specs.Shapes.{name_shape}
-use Rattle.tsa_tree.specs.Signs.{Aliases, sign_at, identifier_at, is_tag}
+use Rattle.tsa_tree.specs.expressions.Shapes.{name_shape}
+use Rattle.tsa_tree.specs.tokens.Signs.{Aliases, sign_at, identifier_at, is_tag}
 use Rattle.tsa_expr.specs.declared.refusal.SyntaxRefusal.{SyntaxRefusal}
 use Rattle.tsa_expr.specs.Gives.{Fails}
 use Rattle.tsa_expr.proofs.Answering.{fails_then, fails_same, gives_same}

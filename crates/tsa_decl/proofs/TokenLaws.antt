@@ -5,9 +5,9 @@ use Rattle.tsa_forms.proofs.Cases.{chosen, other}
 use Rattle.tsa_forms.specs.Reading.{refuse, syntax, deep}
 use Rattle.tsa_tree.specs.declared.sign.Sign.{Sign}
 use Rattle.tsa_tree.specs.declared.sign.Sign.TheVariants as sign
-use Rattle.tsa_tree.specs.Expressions.{Identifier}
+use Rattle.tsa_tree.specs.expressions.Syntax.{Identifier}
 use Rattle.tsa_tree.specs.Rows.{a_semicolon, mark}
-use Rattle.tsa_tree.specs.Signs.{Aliases, sign_at, identifier_at, is_tag}
+use Rattle.tsa_tree.specs.tokens.Signs.{Aliases, sign_at, identifier_at, is_tag}
 use Rattle.tsa_expr.proofs.Answering.{in_limit, over_limit, not_name, not_open}
 use Rattle.tsa_decl.specs.Outcomes.{one_token, opening, opening_brace, name_at, tag_at}
 

@@ -10,12 +10,12 @@ use Rattle.tsa_tree.proofs.RowsRead.{read_steps}
 use Rattle.tsa_tree.specs.declared.decl.Init.{Init, List as init_list, List', Row_of-Init, end_of-Init, more_of-Init, items-the_row-Init, items_hidden-the_row-Init-0}
 use Rattle.tsa_tree.specs.declared.sign.Sign.{Sign}
 use Rattle.tsa_tree.specs.declared.sign.Sign.TheVariants as sign
-use Rattle.tsa_tree.specs.Declarations.{Initialiser, value, list, Initialisers, no_more, one_more}
-use Rattle.tsa_tree.specs.Expressions.{Expression}
-use Rattle.tsa_tree.specs.ItemShapes.{init_shape, init_row_shape, init_shapes}
+use Rattle.tsa_tree.specs.declarations.Syntax.{Initialiser, value, list, Initialisers, no_more, one_more}
+use Rattle.tsa_tree.specs.expressions.Syntax.{Expression}
+use Rattle.tsa_tree.specs.declarations.Shapes.{init_shape, init_row_shape, init_shapes}
 use Rattle.tsa_tree.specs.Reads.{read}
 use Rattle.tsa_tree.specs.Rows.{an_expression, an_initialiser, some_initialisers, expression, initialiser, initialisers, a_close_brace, sees, mark}
-use Rattle.tsa_tree.specs.Signs.{Aliases, sign_at, span_over}
+use Rattle.tsa_tree.specs.tokens.Signs.{Aliases, sign_at, span_over}
 use Rattle.tsa_expr.specs.declared.refusal.SyntaxRefusal.{SyntaxRefusal}
 use Rattle.tsa_expr.specs.Gives.{Fails}
 use Rattle.tsa_expr.proofs.Answering.{fails_then, fails_same, gives_same, in_limit, over_limit, not_comma}

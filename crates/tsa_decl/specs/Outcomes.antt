@@ -6,17 +6,17 @@ use Rattle.tsa_base.specs.Tokens.{Lexeme}
 use Rattle.tsa_tree.specs.declared.sign.Keyword.TheVariants as key
 use Rattle.tsa_tree.specs.declared.sign.Sign.{Sign}
 use Rattle.tsa_tree.specs.declared.sign.Sign.TheVariants as sign
-use Rattle.tsa_tree.specs.Answers.{below_limit}
-use Rattle.tsa_tree.specs.Attributes.{Attribute}
-use Rattle.tsa_tree.specs.AttributeAnswers.{read_any}
-use Rattle.tsa_tree.specs.Declarations.{Base, int, unsigned, void, structure, enumerated, alias, Specified, Declarator, Declaration, Initialiser, value, Initialisers, no_more, one_more, Parameter, EnumConstant, StructBody, Head, head_of, made_of}
-use Rattle.tsa_tree.specs.UnitItems.{UnitItem}
-use Rattle.tsa_tree.specs.DeclarationSpelling.{Role, a_member, a_global}
-use Rattle.tsa_tree.specs.Expressions.{Identifier, Expression}
-use Rattle.tsa_tree.specs.ItemSpelling.{parameter, parameter_start}
+use Rattle.tsa_tree.specs.expressions.Answers.{below_limit}
+use Rattle.tsa_tree.specs.attributes.Syntax.{Attribute}
+use Rattle.tsa_tree.specs.attributes.Answers.{read_any}
+use Rattle.tsa_tree.specs.declarations.Syntax.{Base, int, unsigned, void, structure, enumerated, alias, Specified, Declarator, Declaration, Initialiser, value, Initialisers, no_more, one_more, Parameter, EnumConstant, StructBody, Head, head_of, made_of}
+use Rattle.tsa_tree.specs.units.Syntax.{UnitItem}
+use Rattle.tsa_tree.specs.declarations.Spelling.{Role, a_member, a_global}
+use Rattle.tsa_tree.specs.expressions.Syntax.{Identifier, Expression}
+use Rattle.tsa_tree.specs.declarations.ItemSpelling.{parameter, parameter_start}
 use Rattle.tsa_tree.specs.Reads.{read}
 use Rattle.tsa_tree.specs.Rows.{Sort, an_expression, a_skip, a_specifier, an_initialiser, some_initialisers, a_declared, a_variable, some_variables, a_struct_body, a_signature, some_items, Node, Row, Kind, expression, consts, storage, specifier, initialiser, initialisers, declared_rest, variable, variables, struct_body, signature, declared, a_keyword, a_name, an_open, a_comma, a_semicolon, an_open_bracket, a_close_bracket, an_open_brace, a_close_brace, an_equals, sees, behind_global, structure_end, structure_alias_end, enumeration_end, enumeration_alias_end, behind_storage, function_end}
-use Rattle.tsa_tree.specs.Signs.{Aliases, sign_at, identifier_at, is_tag, is_storage, is_star}
+use Rattle.tsa_tree.specs.tokens.Signs.{Aliases, sign_at, identifier_at, is_tag, is_storage, is_star}
 use Rattle.tsa_forms.specs.Form.{done, part}
 use Rattle.tsa_forms.specs.Reading.{Outcome, refuse, syntax, deep, then, choose, follow}
 

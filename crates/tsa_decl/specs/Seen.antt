@@ -3,14 +3,14 @@ use Rattle.std.specs.Prelude.{ℕ, ◌+◌, List, Bool, option_map}
 use Rattle.std.specs.declared.option.Option.{Option}
 use Rattle.tsa_tree.specs.declared.expr.Name.{Name}
 use Rattle.tsa_tree.specs.declared.item.Item.{Item}
-use Rattle.tsa_tree.specs.Attributes.{Attribute, attr_shapes}
-use Rattle.tsa_tree.specs.Declarations.{Base, Specified, Declarator, Declared, Declaration, Initialiser, Parameter, EnumConstant, Signature, StructBody, Head}
-use Rattle.tsa_tree.specs.DeclarationSpelling.{Role, a_member, a_global}
-use Rattle.tsa_tree.specs.Expressions.{Identifier, Expression}
-use Rattle.tsa_tree.specs.ItemShapes.{base_shape, init_shape, decl_shape, decl_shapes, param_shape, param_shapes, enumerator_shape, head_shape}
-use Rattle.tsa_tree.specs.Shapes.{name_shape, shape}
-use Rattle.tsa_tree.specs.UnitItems.{UnitItem}
-use Rattle.tsa_tree.specs.UnitShapes.{item_shapes}
+use Rattle.tsa_tree.specs.attributes.Syntax.{Attribute, attr_shapes}
+use Rattle.tsa_tree.specs.declarations.Syntax.{Base, Specified, Declarator, Declared, Declaration, Initialiser, Parameter, EnumConstant, Signature, StructBody, Head}
+use Rattle.tsa_tree.specs.declarations.Spelling.{Role, a_member, a_global}
+use Rattle.tsa_tree.specs.expressions.Syntax.{Identifier, Expression}
+use Rattle.tsa_tree.specs.declarations.Shapes.{base_shape, init_shape, decl_shape, decl_shapes, param_shape, param_shapes, enumerator_shape, head_shape}
+use Rattle.tsa_tree.specs.expressions.Shapes.{name_shape, shape}
+use Rattle.tsa_tree.specs.units.Syntax.{UnitItem}
+use Rattle.tsa_tree.specs.units.Shapes.{item_shapes}
 use Rattle.tsa_decl.specs.declared.bodies.Body.{Body}
 use Rattle.tsa_decl.specs.declared.bodies.AliasName.{AliasName}
 use Rattle.tsa_decl.specs.declared.bodies.Opening.{Opening}

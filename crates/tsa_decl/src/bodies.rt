@@ -1,9 +1,9 @@
 //! Structs and enums are read from their braces on, and the plain aliases of types (C11 6.7.2.1, 6.7.2.2, 6.7.8).
 ghost use Rattle.std.specs.Prelude.{◌≡◌, ◌≤◌, ◌<◌, length, option_map, IfOk};
-ghost use Rattle.tsa_tree.specs.Attributes.{attr_shapes};
-ghost use Rattle.tsa_tree.specs.UnitShapes.{item_shapes, HaveTheirPoints};
+ghost use Rattle.tsa_tree.specs.attributes.Syntax.{attr_shapes};
+ghost use Rattle.tsa_tree.specs.units.Shapes.{item_shapes, HaveTheirPoints};
 ghost use Rattle.tsa_tree.specs.Rows.{alias_end};
-ghost use Rattle.tsa_tree.specs.Shapes.{name_shape};
+ghost use Rattle.tsa_tree.specs.expressions.Shapes.{name_shape};
 ghost use Rattle.tsa_expr.specs.Source.{input, named};
 ghost use Rattle.tsa_expr.specs.Gives.{Gives};
 ghost use Rattle.tsa_decl.specs.Outcomes.{after, going_items, body_at, alias_name_at, structure_at, enumeration_at, opening_at as spec_opening};

@@ -1,6 +1,6 @@
 //! The enumerators of an enum are read (C11 6.7.2.2).
 ghost use Rattle.std.specs.Prelude.{◌≤◌, ◌<◌, length, IfOk};
-ghost use Rattle.tsa_tree.specs.ItemShapes.{enumerator_shapes};
+ghost use Rattle.tsa_tree.specs.declarations.Shapes.{enumerator_shapes};
 ghost use Rattle.tsa_tree.specs.Reads.{read};
 ghost use Rattle.tsa_tree.specs.Rows.{some_constants, constants as constants_call, enum_body as body_call};
 ghost use Rattle.tsa_expr.specs.Source.{input, named};

@@ -2,8 +2,8 @@
 ghost use Rattle.std.specs.Prelude.{◌≡◌, ◌≢◌, ◌≤◌, ◌<◌, length as count, Some, IfOk, OnErr, Err};
 ghost use Rattle.tsa_tree.specs.Reads.{read};
 ghost use Rattle.tsa_tree.specs.Rows.{a_declarator, declarator as declarator_call};
-ghost use Rattle.tsa_tree.specs.Shapes.{shape};
-ghost use Rattle.tsa_tree.specs.Signs.{sign_at as spec_sign};
+ghost use Rattle.tsa_tree.specs.expressions.Shapes.{shape};
+ghost use Rattle.tsa_tree.specs.tokens.Signs.{sign_at as spec_sign};
 ghost use Rattle.tsa_expr.specs.Source.{input, named};
 ghost use Rattle.tsa_expr.specs.Gives.{Gives};
 ghost use Rattle.tsa_decl.specs.Outcomes.{star_at as spec_star, length_at as spec_length};

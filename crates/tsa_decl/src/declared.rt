@@ -1,12 +1,12 @@
 //! What a declarator of a member or a global declares (C11 6.7, 6.7.2.1).
 ghost use Rattle.std.specs.Prelude.{◌≡◌, ◌+◌, ◌≤◌, ◌<◌, length as count, option_map, Some, None, IfOk};
 ghost use Rattle.tsa_base.specs.declared.limits.TheConstants.{NESTING_LIMIT};
-ghost use Rattle.tsa_tree.specs.Attributes.{attr_shapes};
-ghost use Rattle.tsa_tree.specs.Declarations.{declaration as declaration_of, made_of};
-ghost use Rattle.tsa_tree.specs.ItemShapes.{init_shape, type_shape, decl_shape};
+ghost use Rattle.tsa_tree.specs.attributes.Syntax.{attr_shapes};
+ghost use Rattle.tsa_tree.specs.declarations.Syntax.{declaration as declaration_of, made_of};
+ghost use Rattle.tsa_tree.specs.declarations.Shapes.{init_shape, type_shape, decl_shape};
 ghost use Rattle.tsa_tree.specs.Reads.{read};
 ghost use Rattle.tsa_tree.specs.Rows.{a_declared, declared_rest as rest_call};
-ghost use Rattle.tsa_tree.specs.Shapes.{shape};
+ghost use Rattle.tsa_tree.specs.expressions.Shapes.{shape};
 ghost use Rattle.tsa_expr.specs.Source.{input, named};
 ghost use Rattle.tsa_expr.specs.Gives.{Gives};
 ghost use Rattle.tsa_decl.specs.Outcomes.{init_at, suffix_at as spec_suffix, delimiter_at};

@@ -1,11 +1,11 @@
 //! The head of a function is read: its storage, its result, its name, its parameters and its attributes (C11 6.7.6.3, 6.9.1).
 ghost use Rattle.std.specs.Prelude.{◌≡◌, ◌≤◌, ◌<◌, length, option_map, [], None, Ok, IfOk};
-ghost use Rattle.tsa_tree.specs.Declarations.{head_of};
-ghost use Rattle.tsa_tree.specs.ItemShapes.{param_shape, param_shapes, head_shape};
+ghost use Rattle.tsa_tree.specs.declarations.Syntax.{head_of};
+ghost use Rattle.tsa_tree.specs.declarations.Shapes.{param_shape, param_shapes, head_shape};
 ghost use Rattle.tsa_tree.specs.Reads.{read};
 ghost use Rattle.tsa_tree.specs.Rows.{some_parameters, a_signature, a_head, parameter_list as list_call, parameters as parameters_call, signature as signature_call, head as head_call};
-ghost use Rattle.tsa_tree.specs.Shapes.{name_shape};
-ghost use Rattle.tsa_tree.specs.Signs.{is_storage as spec_storage};
+ghost use Rattle.tsa_tree.specs.expressions.Shapes.{name_shape};
+ghost use Rattle.tsa_tree.specs.tokens.Signs.{is_storage as spec_storage};
 ghost use Rattle.tsa_expr.specs.Source.{input, named};
 ghost use Rattle.tsa_expr.specs.Gives.{Gives};
 ghost use Rattle.tsa_decl.specs.Outcomes.{after, parameter_with, storage_at, parameter_at as spec_parameter, head_end_at};

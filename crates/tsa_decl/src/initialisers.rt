@@ -1,7 +1,7 @@
 //! Initialisers are read (C11 6.7.9). The recursion is as deep as braces may be nested.
 ghost use Rattle.std.specs.Prelude.{◌≡◌, ◌≤◌, ◌<◌, length, IfOk};
-ghost use Rattle.tsa_tree.specs.Declarations.{list};
-ghost use Rattle.tsa_tree.specs.ItemShapes.{init_shape, init_shapes};
+ghost use Rattle.tsa_tree.specs.declarations.Syntax.{list};
+ghost use Rattle.tsa_tree.specs.declarations.Shapes.{init_shape, init_shapes};
 ghost use Rattle.tsa_tree.specs.Reads.{read};
 ghost use Rattle.tsa_tree.specs.Rows.{an_initialiser, initialiser as initialiser_call};
 ghost use Rattle.tsa_expr.specs.Source.{input, named};

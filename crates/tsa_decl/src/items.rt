@@ -1,10 +1,10 @@
 //! Items are read, told by their first tokens: a function up to before its `;` or its body (C11 6.7, 6.9).
 ghost use Rattle.std.specs.Prelude.{◌≡◌, ◌≢◌, ◌+◌, ◌≤◌, ◌<◌, length, [], Bool, Some, None, Err, IfOk, IfSome, IsOkAnd, MatchResult};
-ghost use Rattle.tsa_tree.specs.ItemShapes.{base_shape};
-ghost use Rattle.tsa_tree.specs.UnitShapes.{item_shapes, HaveTheirPoints};
+ghost use Rattle.tsa_tree.specs.declarations.Shapes.{base_shape};
+ghost use Rattle.tsa_tree.specs.units.Shapes.{item_shapes, HaveTheirPoints};
 ghost use Rattle.tsa_tree.specs.Reads.{read};
 ghost use Rattle.tsa_tree.specs.Rows.{some_items, an_open_brace, sees, declared as declared_call, item as item_call, declared_of as declared_of_row, alias_of as alias_of_row, structure_row, enumeration_row, structure_alias_row, enumeration_alias_row, typedef_row};
-ghost use Rattle.tsa_tree.specs.Signs.{sign_at as spec_sign};
+ghost use Rattle.tsa_tree.specs.tokens.Signs.{sign_at as spec_sign};
 ghost use Rattle.tsa_forms.specs.Reading.{choose};
 ghost use Rattle.tsa_expr.specs.Source.{input, named};
 ghost use Rattle.tsa_expr.specs.Gives.{Gives, Leads};

@@ -1,8 +1,8 @@
 //! Lists of members and globals are read, a declarator at a time (C11 6.7.2.1, 6.7).
 ghost use Rattle.std.specs.Prelude.{◌≤◌, ◌<◌, length as count, IfOk};
-ghost use Rattle.tsa_tree.specs.DeclarationSpelling.{a_member};
-ghost use Rattle.tsa_tree.specs.ItemShapes.{decl_shapes};
-ghost use Rattle.tsa_tree.specs.UnitShapes.{item_shapes, HaveTheirPoints};
+ghost use Rattle.tsa_tree.specs.declarations.Spelling.{a_member};
+ghost use Rattle.tsa_tree.specs.declarations.Shapes.{decl_shapes};
+ghost use Rattle.tsa_tree.specs.units.Shapes.{item_shapes, HaveTheirPoints};
 ghost use Rattle.tsa_tree.specs.Reads.{read};
 ghost use Rattle.tsa_tree.specs.Rows.{some_declarations, declarators as declarators_call, member_line as line_call, members as members_call};
 ghost use Rattle.tsa_expr.specs.Source.{input, named};

@@ -1,6 +1,6 @@
 //! Locals are read (C11 6.8.2).
 ghost use Rattle.std.specs.Prelude.{◌+◌, ◌≤◌, ◌<◌, length as count, IfOk};
-ghost use Rattle.tsa_tree.specs.ItemShapes.{decl_shapes};
+ghost use Rattle.tsa_tree.specs.declarations.Shapes.{decl_shapes};
 ghost use Rattle.tsa_tree.specs.Reads.{read};
 ghost use Rattle.tsa_tree.specs.Rows.{a_variable, some_declarations, variable as variable_call, locals as locals_call};
 ghost use Rattle.tsa_expr.specs.Source.{input, named};

@@ -2,11 +2,11 @@
 ghost use Rattle.std.specs.Prelude.{◌≡◌, ◌≤◌, ◌<◌, ℕ, length, [], None, option_map, IfOk, IsErrOf, false};
 ghost use Rattle.std.specs.Option.{ForSome};
 ghost use Rattle.tsa_base.specs.declared.limits.TheConstants.{INPUT_LIMIT};
-ghost use Rattle.tsa_tree.specs.AttributeRefusals as reason;
-ghost use Rattle.tsa_tree.specs.DeclarationAnswers.{an_item, a_head_alone, some_locals, IsLongest, IsBroken, IsRefused, IsTooDeep};
-ghost use Rattle.tsa_tree.specs.ItemShapes.{decl_shapes, head_shape};
-ghost use Rattle.tsa_tree.specs.UnitShapes.{item_shapes};
-ghost use Rattle.tsa_tree.specs.Signs.{lexemes};
+ghost use Rattle.tsa_tree.specs.attributes.Refusals as reason;
+ghost use Rattle.tsa_tree.specs.declarations.Answers.{an_item, a_head_alone, some_locals, IsLongest, IsBroken, IsRefused, IsTooDeep};
+ghost use Rattle.tsa_tree.specs.declarations.Shapes.{decl_shapes, head_shape};
+ghost use Rattle.tsa_tree.specs.units.Shapes.{item_shapes};
+ghost use Rattle.tsa_tree.specs.tokens.Signs.{lexemes};
 ghost use Rattle.tsa_tree.specs.Reads.{read};
 ghost use Rattle.tsa_tree.specs.Rows.{some_items, item as item_call};
 ghost use Rattle.tsa_expr.specs.Gives.{Gives};

@@ -1,9 +1,9 @@
 //! Types are read, up to before their declarator (C11 6.7.2, 6.7.3).
 ghost use Rattle.std.specs.Prelude.{◌≡◌, ◌≢◌, ◌≤◌, ◌<◌, length, Ok, IfOk, IsOkAnd};
-ghost use Rattle.tsa_tree.specs.ItemShapes.{base_shape};
+ghost use Rattle.tsa_tree.specs.declarations.Shapes.{base_shape};
 ghost use Rattle.tsa_tree.specs.Reads.{read};
 ghost use Rattle.tsa_tree.specs.Rows.{a_specifier, specifier as specifier_call, a_keyword, sees};
-ghost use Rattle.tsa_tree.specs.Signs.{sign_at as spec_sign};
+ghost use Rattle.tsa_tree.specs.tokens.Signs.{sign_at as spec_sign};
 ghost use Rattle.tsa_tree.specs.declared.sign.Keyword.TheVariants as key;
 ghost use Rattle.tsa_expr.specs.Source.{input, named};
 ghost use Rattle.tsa_expr.specs.Gives.{Gives};

@@ -2,7 +2,7 @@
 ghost use Rattle.std.specs.Prelude.{◌≡◌, ◌≢◌, ◌+◌, ◌≤◌, ◌<◌, ◌&&◌, true, length, IfOk};
 ghost use Rattle.tsa_base.specs.declared.limits.TheConstants.{NESTING_LIMIT};
 ghost use Rattle.tsa_tree.specs.Rows.{a_keyword, is_keyword, a_semicolon, a_close_brace, sees};
-ghost use Rattle.tsa_tree.specs.Signs.{sign_at as spec_sign, is_void, is_close};
+ghost use Rattle.tsa_tree.specs.tokens.Signs.{sign_at as spec_sign, is_void, is_close};
 ghost use Rattle.tsa_tree.specs.declared.sign.Keyword.TheVariants as key;
 ghost use Rattle.tsa_expr.specs.Source.{input, named};
 ghost use Rattle.tsa_expr.specs.Gives.{Gives};

@@ -7,11 +7,11 @@ use Rattle.tsa_forms.specs.Reading.{Outcome, refuse, syntax, deep, then, choose,
 use Rattle.tsa_tree.proofs.RowsRead.{read_steps}
 use Rattle.tsa_tree.specs.declared.sign.Sign.{Sign}
 use Rattle.tsa_tree.specs.declared.sign.Sign.TheVariants as sign
-use Rattle.tsa_tree.specs.Answers.{below_limit}
-use Rattle.tsa_tree.specs.Expressions.{Expression, field, index, height}
+use Rattle.tsa_tree.specs.expressions.Answers.{below_limit}
+use Rattle.tsa_tree.specs.expressions.Syntax.{Expression, field, index, height}
 use Rattle.tsa_tree.specs.Reads.{read, read_behind}
 use Rattle.tsa_tree.specs.Rows.{an_expression, expression, postfix, sees, mark, is_postfix, Row, a_name, a_close_bracket, postfix_row, post}
-use Rattle.tsa_tree.specs.Signs.{Aliases, sign_at, span_over, identifier_at, access}
+use Rattle.tsa_tree.specs.tokens.Signs.{Aliases, sign_at, span_over, identifier_at, access}
 use Rattle.tsa_expr.specs.declared.refusal.SyntaxRefusal.{SyntaxRefusal}
 use Rattle.tsa_expr.specs.Gives.{Fails}
 use Rattle.tsa_expr.proofs.Answering.{fails_then, fails_same, gives_same, then_done, in_limit, over_limit, not_name, not_close_bracket, not_postfix}

@@ -8,11 +8,11 @@ use Rattle.tsa_forms.specs.Reading.{Outcome, refuse, deep, then, follow}
 use Rattle.tsa_tree.proofs.RowsRead.{read_steps}
 use Rattle.tsa_tree.specs.declared.expr.BinaryOp.{BinaryOp}
 use Rattle.tsa_tree.specs.declared.sign.Sign.TheVariants as sign
-use Rattle.tsa_tree.specs.Answers.{below_limit}
-use Rattle.tsa_tree.specs.Expressions.{Expression, binary, height}
+use Rattle.tsa_tree.specs.expressions.Answers.{below_limit}
+use Rattle.tsa_tree.specs.expressions.Syntax.{Expression, binary, height}
 use Rattle.tsa_tree.specs.Reads.{read, read_on}
 use Rattle.tsa_tree.specs.Rows.{an_expression, expression, operand, operation, sees, mark, Row, climb, climb_on, operation_row, tightest}
-use Rattle.tsa_tree.specs.Signs.{Aliases, sign_at, span_over, operator, level}
+use Rattle.tsa_tree.specs.tokens.Signs.{Aliases, sign_at, span_over, operator, level}
 use Rattle.tsa_expr.specs.declared.refusal.SyntaxRefusal.{SyntaxRefusal}
 use Rattle.tsa_expr.specs.Gives.{Fails}
 use Rattle.tsa_expr.proofs.Answering.{fails_then, fails_same, gives_same, then_done, in_limit, over_limit}

@@ -1,13 +1,13 @@
 -- What was read by the rows is what the grammar asks for.
 use Rattle.std.proofs.Common.{ℕ, ◌≡◌, subst, List, Ok, Err, Result}
 use Rattle.tsa_base.specs.Tokens.{Lexeme}
-use Rattle.tsa_tree.specs.Signs.{Aliases}
-use Rattle.tsa_tree.specs.Expressions.{Expression}
+use Rattle.tsa_tree.specs.tokens.Signs.{Aliases}
+use Rattle.tsa_tree.specs.expressions.Syntax.{Expression}
 use Rattle.tsa_tree.specs.Rows as rows
 use Rattle.tsa_tree.specs.Rows.{expression, operand}
 use Rattle.tsa_tree.specs.Reads.{read}
-use Rattle.tsa_tree.specs.Answers.{an_expression, a_unary, IsLongest, IsBroken, IsTooDeep, IsAnswer}
-use Rattle.tsa_tree.proofs.AnswerLemmas.{read_answers}
+use Rattle.tsa_tree.specs.expressions.Answers.{an_expression, a_unary, IsLongest, IsBroken, IsTooDeep, IsAnswer}
+use Rattle.tsa_tree.proofs.expressions.Answers.{read_answers}
 use Rattle.tsa_expr.specs.declared.refusal.SyntaxRefusal.{SyntaxRefusal}
 use Rattle.tsa_expr.specs.declared.refusal.SyntaxRefusal.TheVariants.{At, Function, NoMemory}
 use Rattle.tsa_expr.specs.declared.refusal.SyntaxCode.TheVariants.{SY1, AT1, AT2, LM2, LM3, LM5}

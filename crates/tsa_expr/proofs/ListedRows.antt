@@ -6,7 +6,7 @@ use Rattle.std.specs.declared.option.Option.{Option}
 use Rattle.std.specs.Prelude.{◌==◌, filter}
 use Rattle.std.specs.List.{find}
 use Rattle.std.specs.Str.{bytes_eq}
-use Rattle.tsa_tree.specs.Signs.{listed}
+use Rattle.tsa_tree.specs.tokens.Signs.{listed}
 
 -- a text that another equals is as long
 same_length : (text other : List ℕ) → bytes_eq text other ≡ true → (length other == length text) ≡ true

@@ -8,11 +8,11 @@ use Rattle.tsa_tree.proofs.RowsRead.{read_steps}
 use Rattle.tsa_tree.specs.declared.expr.UnaryOp.{UnaryOp}
 use Rattle.tsa_tree.specs.declared.sign.Sign.{Sign}
 use Rattle.tsa_tree.specs.declared.sign.Sign.TheVariants as sign
-use Rattle.tsa_tree.specs.Answers.{below_limit}
-use Rattle.tsa_tree.specs.Expressions.{Expression, Arguments, number, null, named, call, unary, none}
+use Rattle.tsa_tree.specs.expressions.Answers.{below_limit}
+use Rattle.tsa_tree.specs.expressions.Syntax.{Expression, Arguments, number, null, named, call, unary, none}
 use Rattle.tsa_tree.specs.Reads.{read, read_behind}
 use Rattle.tsa_tree.specs.Rows.{an_expression, some_arguments, expression, operand, series, sees, mark, Kind, Row, a_not, a_flip, an_operator, a_close, operand_row, prefix_row, call_row, post}
-use Rattle.tsa_tree.specs.Signs.{Aliases, sign_at, span_at, span_over, identifier_at, value_at, unsigned_at, prefix, prefix_of}
+use Rattle.tsa_tree.specs.tokens.Signs.{Aliases, sign_at, span_at, span_over, identifier_at, value_at, unsigned_at, prefix, prefix_of}
 use Rattle.tsa_expr.specs.declared.refusal.SyntaxRefusal.{SyntaxRefusal}
 use Rattle.tsa_expr.specs.Gives.{Fails}
 use Rattle.tsa_expr.proofs.Answering.{fails_then, fails_same, gives_same, in_limit, over_limit, not_open, not_close}

@@ -10,10 +10,10 @@ use Rattle.tsa_tree.proofs.RowFacts.{First, Ends, Moves, inside}
 use Rattle.tsa_tree.proofs.RowsMeet.{good}
 use Rattle.tsa_tree.specs.declared.sign.Sign.{Sign}
 use Rattle.tsa_tree.specs.declared.sign.Sign.TheVariants as sign
-use Rattle.tsa_tree.specs.Answers.{below_limit}
+use Rattle.tsa_tree.specs.expressions.Answers.{below_limit}
 use Rattle.tsa_tree.specs.Reads.{read}
 use Rattle.tsa_tree.specs.Rows.{Sort, Node, Call, rank, sees, rule}
-use Rattle.tsa_tree.specs.Signs.{Aliases, lexemes, sign_at, sign_in, access}
+use Rattle.tsa_tree.specs.tokens.Signs.{Aliases, lexemes, sign_at, sign_in, access}
 
 -- past the last token the sign is the end's
 past_end : (tokens : List Token) (aliases : Aliases) (m : ℕ) → length tokens ≤ m → sign_at (lexemes tokens) aliases m ≡ sign.End

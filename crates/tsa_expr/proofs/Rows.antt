@@ -6,8 +6,8 @@ use Rattle.tsa_base.specs.declared.token.Span.{Span}
 use Rattle.tsa_tree.specs.declared.expr.Name.{Name}
 use Rattle.tsa_tree.specs.declared.expr.Expr.{Expr}
 use Rattle.tsa_tree.specs.declared.expr.ExprKind.{ExprKind, Call, Call', Row_of-Expr, end_of-Expr, more_of-Expr, items-the_row-Expr, items_hidden-the_row-Expr-0}
-use Rattle.tsa_tree.specs.Expressions.{call, more}
-use Rattle.tsa_tree.specs.Shapes.{name_shape, kind_shape, row_shape, shapes}
+use Rattle.tsa_tree.specs.expressions.Syntax.{call, more}
+use Rattle.tsa_tree.specs.expressions.Shapes.{name_shape, kind_shape, row_shape, shapes}
 
 row-shapes : (n : _) (row : Row_of-Expr n) → row_shape row ≡ shapes (items-the_row-Expr n row)
 row-shapes n end_of-Expr = refl

@@ -1,8 +1,8 @@
 -- What the readers' results are without the arena.
 use Rattle.std.specs.Prelude.{ℕ, Ok}
 use Rattle.tsa_forms.specs.Reading.{Outcome, then}
-use Rattle.tsa_tree.specs.Expressions.{Expression, Arguments, none, more}
-use Rattle.tsa_tree.specs.Shapes.{shape, shapes}
+use Rattle.tsa_tree.specs.expressions.Syntax.{Expression, Arguments, none, more}
+use Rattle.tsa_tree.specs.expressions.Shapes.{shape, shapes}
 use Rattle.tsa_expr.specs.declared.reading.ArgumentList.{ArgumentList}
 use Rattle.tsa_expr.specs.declared.reading.Reading.{Reading}
 

@@ -1,7 +1,7 @@
 -- What a reader reads from, without its references.
 use Rattle.std.specs.Prelude.{List}
 use Rattle.tsa_base.specs.Tokens.{Lexeme}
-use Rattle.tsa_tree.specs.Signs.{Aliases, lexemes}
+use Rattle.tsa_tree.specs.tokens.Signs.{Aliases, lexemes}
 use Rattle.tsa_expr.specs.Known.{known}
 use Rattle.tsa_expr.specs.declared.source.Reader.{Reader}
 

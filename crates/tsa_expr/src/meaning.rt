@@ -1,6 +1,6 @@
 //! What a word means in a list of attributes, by its length.
 ghost use Rattle.std.specs.Prelude.{◌≡◌};
-ghost use Rattle.tsa_tree.specs.Signs.{listed as spec_listed, attribute_names, bare_name as spec_bare, meaning_of as spec_meaning};
+ghost use Rattle.tsa_tree.specs.tokens.Signs.{listed as spec_listed, attribute_names, bare_name as spec_bare, meaning_of as spec_meaning};
 
 use crate::table::look_up;
 use tsa_tree::attr::AttrKind;
@@ -97,7 +97,7 @@ const OF_TWENTY_NINE: [([u8; 29], Meaning); 1] = [(
 )];
 
 /// What a word means in a list of attributes. Two underscores before it and behind it make no difference.
-#[tactic(auto, unfolding(tsa_tree::specs::Signs::meaning_of))]
+#[tactic(auto, unfolding(tsa_tree::specs::tokens::Signs::meaning_of))]
 pub fn meaning_of(text: &[u8]) -> Meaning
     ensures { result ≡ spec_meaning text.now }
 {
@@ -135,7 +135,7 @@ fn named_meaning(text: &[u8]) -> Option<Meaning>
 }
 
 /// The name without the two underscores that it begins and ends with.
-#[tactic(auto, unfolding(tsa_tree::specs::Signs::bare_name))]
+#[tactic(auto, unfolding(tsa_tree::specs::tokens::Signs::bare_name))]
 fn bare_name(text: &[u8]) -> &[u8]
     ensures { result.now ≡ spec_bare text.now }
 {

@@ -1,8 +1,8 @@
 //! Members behind `.` and `->`.
 ghost use Rattle.std.specs.Prelude.{◌≡◌, ◌+◌, ◌≤◌, ◌<◌, length, Some, IfOk};
 ghost use Rattle.tsa_tree.specs.Reads.{read_behind};
-ghost use Rattle.tsa_tree.specs.Shapes.{shape};
-ghost use Rattle.tsa_tree.specs.Signs.{sign_at, access};
+ghost use Rattle.tsa_tree.specs.expressions.Shapes.{shape};
+ghost use Rattle.tsa_tree.specs.tokens.Signs.{sign_at, access};
 ghost use Rattle.tsa_expr.specs.Gives.{Leads};
 ghost use Rattle.tsa_expr.specs.Seen.{seen};
 

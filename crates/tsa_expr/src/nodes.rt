@@ -1,8 +1,8 @@
 //! The nodes of expressions are made, with their heights and places.
 ghost use Rattle.std.specs.Prelude.{◌≡◌, ◌+◌, ◌<◌, ◌++◌, ◌∷◌, [], length, IfOk, OnOk, OnErr, Err};
-ghost use Rattle.tsa_tree.specs.Expressions.{call as a_call, unary as a_unary, binary as a_binary, height as height_of};
-ghost use Rattle.tsa_tree.specs.Shapes.{name_shape, kind_shape, shape, shapes};
-ghost use Rattle.tsa_tree.specs.Signs.{span_at as spec_span, span_over as spec_over};
+ghost use Rattle.tsa_tree.specs.expressions.Syntax.{call as a_call, unary as a_unary, binary as a_binary, height as height_of};
+ghost use Rattle.tsa_tree.specs.expressions.Shapes.{name_shape, kind_shape, shape, shapes};
+ghost use Rattle.tsa_tree.specs.tokens.Signs.{span_at as spec_span, span_over as spec_over};
 
 use crate::reading::{ArgumentList, Reading};
 use crate::refusal::SyntaxRefusal;
@@ -13,7 +13,7 @@ use tsa_tree::expr::{BinaryOp, Expr, ExprKind, Name, UnaryOp};
 use tsa_tree::sign::Sign;
 
 impl<'a, 't> Reader<'a, 't> {
-    ghost use Rattle.tsa_tree.specs.Signs.{sign_at};
+    ghost use Rattle.tsa_tree.specs.tokens.Signs.{sign_at};
     ghost use Rattle.tsa_expr.specs.Source.{input, named};
 
     /// The expression of one token, before one of a sign.

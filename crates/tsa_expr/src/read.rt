@@ -1,9 +1,9 @@
 //! Expressions and unary expressions, as the parts of a unit ask for them.
 ghost use Rattle.std.specs.Prelude.{◌≡◌, ◌≤◌, ◌<◌, ℕ, length, [], IfOk, IsErrOf};
 ghost use Rattle.tsa_base.specs.declared.limits.TheConstants.{INPUT_LIMIT};
-ghost use Rattle.tsa_tree.specs.Answers.{an_expression, a_unary, IsLongest, IsBroken, IsTooDeep};
-ghost use Rattle.tsa_tree.specs.Shapes.{shape};
-ghost use Rattle.tsa_tree.specs.Signs.{lexemes};
+ghost use Rattle.tsa_tree.specs.expressions.Answers.{an_expression, a_unary, IsLongest, IsBroken, IsTooDeep};
+ghost use Rattle.tsa_tree.specs.expressions.Shapes.{shape};
+ghost use Rattle.tsa_tree.specs.tokens.Signs.{lexemes};
 ghost use Rattle.tsa_expr.specs.Gives.{IsOfExpressions};
 
 use crate::refusal::{SyntaxCode, SyntaxRefusal};

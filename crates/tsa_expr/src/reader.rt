@@ -2,11 +2,11 @@
 //! deep as that: operators behind an operand are read by loops.
 ghost use Rattle.std.specs.Prelude.{◌≡◌, ◌+◌, ◌≤◌, ◌<◌, length, max, None, Ok, IfOk};
 ghost use Rattle.tsa_base.specs.declared.limits.TheConstants.{NESTING_LIMIT};
-ghost use Rattle.tsa_tree.specs.Expressions.{heights};
+ghost use Rattle.tsa_tree.specs.expressions.Syntax.{heights};
 ghost use Rattle.tsa_tree.specs.Reads.{read, read_on, read_behind};
 ghost use Rattle.tsa_tree.specs.Rows.{an_expression, some_arguments, expression as expression_call, operand as operand_call, series as series_call};
-ghost use Rattle.tsa_tree.specs.Shapes.{shape, shapes};
-ghost use Rattle.tsa_tree.specs.Signs.{sign_at, prefix as spec_prefix};
+ghost use Rattle.tsa_tree.specs.expressions.Shapes.{shape, shapes};
+ghost use Rattle.tsa_tree.specs.tokens.Signs.{sign_at, prefix as spec_prefix};
 ghost use Rattle.tsa_expr.specs.Gives.{Gives, Leads};
 ghost use Rattle.tsa_expr.specs.Seen.{seen, seen_list, after};
 

@@ -1,7 +1,7 @@
 //! What was read, and how far. An expression is at most as high as it has tokens, so no height is past the greatest number.
 ghost use Rattle.std.specs.Prelude.{◌≡◌, ◌+◌, ◌≤◌};
-ghost use Rattle.tsa_tree.specs.Expressions.{height as height_of, heights};
-ghost use Rattle.tsa_tree.specs.Shapes.{shape, shapes};
+ghost use Rattle.tsa_tree.specs.expressions.Syntax.{height as height_of, heights};
+ghost use Rattle.tsa_tree.specs.expressions.Shapes.{shape, shapes};
 
 use tsa_tree::expr::Expr;
 use tsa_tree::sign::Sign;

@@ -2,7 +2,7 @@
 ghost use Rattle.std.specs.Prelude.{◌≡◌, [], ◌∷◌};
 ghost use Rattle.std.specs.List.{list_any};
 ghost use Rattle.std.specs.Str.{bytes_eq};
-ghost use Rattle.tsa_tree.specs.Signs.{sign_of as spec_sign, word_sign as spec_word, punctuator_sign, prefix as spec_prefix};
+ghost use Rattle.tsa_tree.specs.tokens.Signs.{sign_of as spec_sign, word_sign as spec_word, punctuator_sign, prefix as spec_prefix};
 ghost use Rattle.tsa_expr.specs.Known.{known};
 
 use crate::aliases::Aliases;
@@ -13,7 +13,7 @@ use tsa_tree::expr::{BinaryOp, UnaryOp};
 use tsa_tree::sign::Sign;
 
 /// The sign of a token.
-#[tactic(auto, unfolding(tsa_tree::specs::Signs::sign_of))]
+#[tactic(auto, unfolding(tsa_tree::specs::tokens::Signs::sign_of))]
 pub fn sign_of(token: &Token<'_>, aliases: Option<&Aliases>) -> Sign
     ensures { result ≡ spec_sign (known aliases.entry) token.now.kind token.now.text.now }
 {
@@ -37,7 +37,7 @@ fn is_type(text: &[u8], aliases: Option<&Aliases>) -> bool
 
 /// The sign of a word. Most words are names. It stands apart, so that the sign of a punctuator is found with few registers.
 #[inline(never)]
-#[tactic(auto, unfolding(tsa_tree::specs::Signs::word_sign), using(tsa_tree::proofs::ReservedWords::not_listed))]
+#[tactic(auto, unfolding(tsa_tree::specs::tokens::Signs::word_sign), using(tsa_tree::proofs::tokens::ReservedWords::not_listed))]
 fn word_sign(text: &[u8], aliases: Option<&Aliases>) -> Sign
     ensures { result ≡ spec_word (known aliases.entry) text.now }
 {
@@ -54,7 +54,7 @@ fn word_sign(text: &[u8], aliases: Option<&Aliases>) -> Sign
 }
 
 /// The sign of a punctuator.
-#[tactic(auto, unfolding(tsa_tree::specs::Signs::punctuator_sign, tsa_tree::specs::Signs::punctuator_signs))]
+#[tactic(auto, unfolding(tsa_tree::specs::tokens::Signs::punctuator_sign, tsa_tree::specs::tokens::Signs::punctuator_signs))]
 fn punct_sign(text: &[u8]) -> Sign
     ensures { result ≡ punctuator_sign text.now }
 {
@@ -66,7 +66,7 @@ fn punct_sign(text: &[u8]) -> Sign
 }
 
 /// The sign of a punctuator of one byte.
-#[tactic(auto, unfolding(tsa_tree::specs::Signs::punctuator_sign, tsa_tree::specs::Signs::punctuator_signs))]
+#[tactic(auto, unfolding(tsa_tree::specs::tokens::Signs::punctuator_sign, tsa_tree::specs::tokens::Signs::punctuator_signs))]
 fn single_sign(first: u8) -> Sign
     ensures { result ≡ punctuator_sign (first ∷ []) }
 {
@@ -99,7 +99,7 @@ fn single_sign(first: u8) -> Sign
 }
 
 /// The sign of a punctuator of two bytes.
-#[tactic(auto, unfolding(tsa_tree::specs::Signs::punctuator_sign, tsa_tree::specs::Signs::punctuator_signs))]
+#[tactic(auto, unfolding(tsa_tree::specs::tokens::Signs::punctuator_sign, tsa_tree::specs::tokens::Signs::punctuator_signs))]
 fn pair_sign(first: u8, second: u8) -> Sign
     ensures { result ≡ punctuator_sign (first ∷ second ∷ []) }
 {

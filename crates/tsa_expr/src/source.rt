@@ -1,7 +1,7 @@
 //! What is read, what the reading needs, and what stands at a place of the tokens.
 ghost use Rattle.std.specs.Prelude.{◌≡◌, ◌≤◌, length, slice_get};
 ghost use Rattle.tsa_base.specs.declared.limits.TheConstants.{INPUT_LIMIT};
-ghost use Rattle.tsa_tree.specs.Signs.{lexemes, kind_in};
+ghost use Rattle.tsa_tree.specs.tokens.Signs.{lexemes, kind_in};
 
 use crate::aliases::Aliases;
 use crate::meaning::meaning_of;
@@ -23,12 +23,12 @@ pub struct Reader<'a, 't> {
 
 impl<'a, 't> Reader<'a, 't> {
     ghost use Rattle.std.specs.Prelude.{◌≢◌, ◌<◌, IfOk};
-    ghost use Rattle.tsa_tree.specs.Shapes.{name_shape};
-    ghost use Rattle.tsa_tree.specs.Signs.{sign_at, span_at, span_over, identifier_at, value_at, unsigned_at, meaning_at, is_word_at};
+    ghost use Rattle.tsa_tree.specs.expressions.Shapes.{name_shape};
+    ghost use Rattle.tsa_tree.specs.tokens.Signs.{sign_at, span_at, span_over, identifier_at, value_at, unsigned_at, meaning_at, is_word_at};
     ghost use Rattle.tsa_expr.specs.Source.{input, named};
 
     /// The sign at a place, past the last token the end's.
-    #[tactic(auto, unfolding(tsa_tree::specs::Signs::sign_at))]
+    #[tactic(auto, unfolding(tsa_tree::specs::tokens::Signs::sign_at))]
     pub fn sign(self, at: u32) -> Sign
         ensures is { result ≡ sign_at (input self.entry) (named self.entry) at }
         ensures seen { result ≢ Sign.End → at < length self.entry.tokens.now }
@@ -40,7 +40,7 @@ impl<'a, 't> Reader<'a, 't> {
     }
 
     /// The span of a token.
-    #[tactic(auto, unfolding(tsa_tree::specs::Signs::span_at))]
+    #[tactic(auto, unfolding(tsa_tree::specs::tokens::Signs::span_at))]
     pub fn span(self, at: u32) -> Span
         ensures { result ≡ span_at (input self.entry) at }
     {
@@ -51,7 +51,7 @@ impl<'a, 't> Reader<'a, 't> {
     }
 
     /// From the first of some tokens to the last one before `to`.
-    #[tactic(auto, unfolding(tsa_tree::specs::Signs::span_over))]
+    #[tactic(auto, unfolding(tsa_tree::specs::tokens::Signs::span_over))]
     pub fn over(self, from: u32, to: u32) -> Span
         ensures { result ≡ span_over (input self.entry) from to }
     {
@@ -62,7 +62,7 @@ impl<'a, 't> Reader<'a, 't> {
     }
 
     /// The name at a place, kept in the arena.
-    #[tactic(auto, unfolding(tsa_tree::specs::Signs::identifier_at))]
+    #[tactic(auto, unfolding(tsa_tree::specs::tokens::Signs::identifier_at))]
     pub fn name(self, at: u32) -> Result<Name<'a>, AllocError>
         ensures { IfOk result (λ name. name_shape name ≡ identifier_at (input self.entry) at) }
     {
@@ -82,7 +82,7 @@ impl<'a, 't> Reader<'a, 't> {
     }
 
     /// Whether the token at a place is a word, whatever it means.
-    #[tactic(auto, unfolding(tsa_tree::specs::Signs::is_word_at))]
+    #[tactic(auto, unfolding(tsa_tree::specs::tokens::Signs::is_word_at))]
     pub fn is_word(self, at: u32) -> bool
         ensures { result ≡ is_word_at (input self.entry) at }
     {
@@ -93,7 +93,7 @@ impl<'a, 't> Reader<'a, 't> {
     }
 
     /// What the text at a place means in a list of attributes.
-    #[tactic(auto, unfolding(tsa_tree::specs::Signs::meaning_at))]
+    #[tactic(auto, unfolding(tsa_tree::specs::tokens::Signs::meaning_at))]
     pub fn meaning(self, at: u32) -> Meaning
         ensures { result ≡ meaning_at (input self.entry) at }
     {
@@ -104,7 +104,7 @@ impl<'a, 't> Reader<'a, 't> {
     }
 
     /// What the number at a place is worth, and whether it is unsigned.
-    #[tactic(auto, unfolding(tsa_tree::specs::Signs::value_at, tsa_tree::specs::Signs::unsigned_at))]
+    #[tactic(auto, unfolding(tsa_tree::specs::tokens::Signs::value_at, tsa_tree::specs::tokens::Signs::unsigned_at))]
     pub fn number(self, at: u32) -> (u32, bool)
         ensures value { result.0 ≡ value_at (input self.entry) at }
         ensures unsigned { result.1 ≡ unsigned_at (input self.entry) at }

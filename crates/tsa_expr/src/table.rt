@@ -3,7 +3,7 @@ ghost use Rattle.std.specs.Prelude.{◌≡◌};
 ghost use Rattle.std.specs.List.{find};
 ghost use Rattle.std.specs.Option.{option_copied};
 ghost use Rattle.std.specs.Str.{bytes_eq};
-ghost use Rattle.tsa_tree.specs.Signs.{listed};
+ghost use Rattle.tsa_tree.specs.tokens.Signs.{listed};
 
 /// What stands beside a text, where it is listed.
 #[tactic(auto, using(crate::proofs::ListedRows::found))]

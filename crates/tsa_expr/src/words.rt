@@ -1,6 +1,6 @@
 //! Words that are no names and have a meaning, by their lengths.
 ghost use Rattle.std.specs.Prelude.{◌≡◌};
-ghost use Rattle.tsa_tree.specs.Signs.{listed as spec_listed, word_signs};
+ghost use Rattle.tsa_tree.specs.tokens.Signs.{listed as spec_listed, word_signs};
 
 use crate::table::look_up;
 use tsa_tree::attr::AttrKind;

@@ -7,10 +7,10 @@ use Rattle.tsa_forms.proofs.Cases.{goes, chosen, other}
 use Rattle.tsa_forms.specs.Reading.{Outcome, then}
 use Rattle.tsa_tree.specs.declared.stmt.StmtKind.{StmtKind}
 use Rattle.tsa_tree.specs.Rows.{an_expression, expression, a_semicolon, mark}
-use Rattle.tsa_tree.specs.Signs.{Aliases, sign_at, span_over}
-use Rattle.tsa_tree.specs.Statements.{simple, spanning, Statement}
-use Rattle.tsa_tree.specs.Statements.{goto, return}
-use Rattle.tsa_tree.specs.StatementShapes.{stmt_shape}
+use Rattle.tsa_tree.specs.tokens.Signs.{Aliases, sign_at, span_over}
+use Rattle.tsa_tree.specs.statements.Syntax.{simple, spanning, Statement}
+use Rattle.tsa_tree.specs.statements.Syntax.{goto, return}
+use Rattle.tsa_tree.specs.statements.Shapes.{stmt_shape}
 use Rattle.tsa_expr.specs.declared.refusal.SyntaxRefusal.{SyntaxRefusal}
 use Rattle.tsa_expr.specs.declared.refusal.SyntaxRefusal.TheVariants.{NoMemory}
 use Rattle.tsa_expr.specs.Gives.{Fails, Gives}
@@ -23,7 +23,7 @@ use Rattle.tsa_tree.specs.declared.expr.Expr.{Expr}
 use Rattle.tsa_tree.specs.declared.expr.Name.{Name}
 use Rattle.tsa_tree.specs.declared.sign.Sign.TheVariants as sign
 use Rattle.tsa_tree.specs.Reads.{read}
-use Rattle.tsa_tree.specs.Shapes.{name_shape, shape}
+use Rattle.tsa_tree.specs.expressions.Shapes.{name_shape, shape}
 use Rattle.tsa_leaf.specs.declared.simple.Simple as read_simple
 use Rattle.tsa_leaf.specs.declared.simple.SimpleKind.{SimpleKind}
 use Rattle.tsa_leaf.specs.declared.simple.SimpleKind.TheVariants.{Eval, Assign}

@@ -12,15 +12,15 @@ use Rattle.tsa_tree.specs.declared.stmt.Point.{Point}
 use Rattle.tsa_tree.specs.declared.stmt.Stmt.{Stmt}
 use Rattle.tsa_tree.specs.declared.stmt.StmtKind.{StmtKind, None', Some'}
 use Rattle.tsa_tree.specs.declared.stmt.StmtKind.TheVariants.{Local, Eval, Assign, If'}
-use Rattle.tsa_tree.specs.Declarations.{Declaration}
-use Rattle.tsa_tree.specs.ItemShapes.{decl_shape, decl_shapes}
-use Rattle.tsa_tree.specs.Points.{points_of, points_of_init, points_of_step}
+use Rattle.tsa_tree.specs.declarations.Syntax.{Declaration}
+use Rattle.tsa_tree.specs.declarations.Shapes.{decl_shape, decl_shapes}
+use Rattle.tsa_tree.specs.points.Syntax.{points_of, points_of_init, points_of_step}
 use Rattle.tsa_tree.specs.Reads.{read}
 use Rattle.tsa_tree.specs.Rows.{a_for_init, some_declarations, for_init, locals, a_close, a_semicolon, mark}
-use Rattle.tsa_tree.specs.Signs.{Aliases, sign_at, begins_type}
-use Rattle.tsa_tree.specs.Statements.{Simple, ForInit, no_init, simple_init, local_init, Statement}
-use Rattle.tsa_tree.specs.Statements as plain
-use Rattle.tsa_tree.specs.StatementShapes.{stmt_shape, point_shape, init_of, step_of, IsNumbered}
+use Rattle.tsa_tree.specs.tokens.Signs.{Aliases, sign_at, begins_type}
+use Rattle.tsa_tree.specs.statements.Syntax.{Simple, ForInit, no_init, simple_init, local_init, Statement}
+use Rattle.tsa_tree.specs.statements.Syntax as plain
+use Rattle.tsa_tree.specs.statements.Shapes.{stmt_shape, point_shape, init_of, step_of, IsNumbered}
 use Rattle.tsa_expr.specs.declared.refusal.SyntaxRefusal.{SyntaxRefusal}
 use Rattle.tsa_expr.specs.declared.refusal.SyntaxRefusal.TheVariants.{At, Function, NoMemory}
 use Rattle.tsa_expr.specs.declared.refusal.SyntaxCode.TheVariants.{SY1, AT1, AT2, LM2, LM3, LM5}

@@ -4,7 +4,7 @@ use Rattle.tsa_base.specs.declared.token.Span.{Span}
 use Rattle.tsa_tree.specs.declared.stmt.Action.{Action}
 use Rattle.tsa_tree.specs.declared.stmt.Point.{Point}
 use Rattle.tsa_tree.specs.declared.stmt.StmtKind.{StmtKind}
-use Rattle.tsa_tree.specs.StatementShapes.{point_shape, IsNumbered}
+use Rattle.tsa_tree.specs.statements.Shapes.{point_shape, IsNumbered}
 use Rattle.tsa_decl.proofs.ListLaws.{map-push}
 use Rattle.tsa_leaf.specs.Pointed.{IsPointed, IsAlone}
 

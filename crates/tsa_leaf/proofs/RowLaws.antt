@@ -8,13 +8,13 @@ use Rattle.tsa_tree.specs.declared.sign.Keyword.{Keyword}
 use Rattle.tsa_tree.specs.declared.sign.Keyword.TheVariants as key
 use Rattle.tsa_tree.specs.declared.sign.Sign.{Sign}
 use Rattle.tsa_tree.specs.declared.sign.Sign.TheVariants as sign
-use Rattle.tsa_tree.specs.Answers.{below_limit}
-use Rattle.tsa_tree.specs.Expressions.{Expression}
+use Rattle.tsa_tree.specs.expressions.Answers.{below_limit}
+use Rattle.tsa_tree.specs.expressions.Syntax.{Expression}
 use Rattle.tsa_tree.specs.Reads.{read}
 use Rattle.tsa_tree.specs.Rows.{an_expression, a_simple, a_for_init, a_statement, some_statements, Kind, expression, simple, for_init, statement, statements, a_keyword, an_open, a_close, a_semicolon, a_colon, sees, is_keyword, Row, body, test, value_or_none, statement_row, for_end}
 use Rattle.tsa_forms.specs.Form.{done, token}
-use Rattle.tsa_tree.specs.Signs.{Aliases, sign_at, span_over, begins_statement}
-use Rattle.tsa_tree.specs.Statements.{ForInit, Statement, Statements, while_loop, do_loop, for_loop, switch, case, otherwise}
+use Rattle.tsa_tree.specs.tokens.Signs.{Aliases, sign_at, span_over, begins_statement}
+use Rattle.tsa_tree.specs.statements.Syntax.{ForInit, Statement, Statements, while_loop, do_loop, for_loop, switch, case, otherwise}
 use Rattle.tsa_attr.proofs.Joining.{then-then, then-same, then-ok}
 use Rattle.tsa_decl.specs.Outcomes.{one_token, opening}
 use Rattle.tsa_leaf.specs.Outcomes.{simple_at, test_at, value_or_none_at, body_at, step_at}

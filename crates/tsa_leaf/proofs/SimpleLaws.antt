@@ -8,14 +8,14 @@ use Rattle.tsa_tree.proofs.RowsRead.{read_steps}
 use Rattle.tsa_tree.specs.declared.expr.BinaryOp.{BinaryOp}
 use Rattle.tsa_tree.specs.declared.sign.Sign.{Sign}
 use Rattle.tsa_tree.specs.declared.sign.Sign.TheVariants as sign
-use Rattle.tsa_tree.specs.Answers.{below_limit}
-use Rattle.tsa_tree.specs.Expressions.{Expression}
+use Rattle.tsa_tree.specs.expressions.Answers.{below_limit}
+use Rattle.tsa_tree.specs.expressions.Syntax.{Expression}
 use Rattle.tsa_tree.specs.Reads.{read}
-use Rattle.tsa_tree.specs.Signs.{level}
+use Rattle.tsa_tree.specs.tokens.Signs.{level}
 use Rattle.tsa_tree.specs.Rows.{an_expression, a_simple, Row, expression, operand, operation, simple, mark, sees, tightest, climb, climb_on, an_assignment, is_assignment, simple_row, simple_behind}
-use Rattle.tsa_tree.specs.Signs.{Aliases, sign_at, span_over, assigns, operator}
-use Rattle.tsa_tree.specs.StatementSpelling.{one_at}
-use Rattle.tsa_tree.specs.Statements.{Simple, SimplePart, evaluation, assignment, by_expression}
+use Rattle.tsa_tree.specs.tokens.Signs.{Aliases, sign_at, span_over, assigns, operator}
+use Rattle.tsa_tree.specs.statements.Spelling.{one_at}
+use Rattle.tsa_tree.specs.statements.Syntax.{Simple, SimplePart, evaluation, assignment, by_expression}
 use Rattle.tsa_expr.specs.declared.refusal.SyntaxRefusal.{SyntaxRefusal}
 use Rattle.tsa_expr.specs.Gives.{Fails}
 use Rattle.tsa_expr.proofs.Answering.{fails_then, fails_same}

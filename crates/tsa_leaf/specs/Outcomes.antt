@@ -7,12 +7,12 @@ use Rattle.tsa_tree.specs.declared.expr.BinaryOp.{BinaryOp}
 use Rattle.tsa_tree.specs.declared.sign.Sign.{Sign}
 use Rattle.tsa_tree.specs.declared.sign.Sign.TheVariants as sign
 use Rattle.tsa_tree.specs.Reads.{read}
-use Rattle.tsa_tree.specs.Expressions.{Expression}
+use Rattle.tsa_tree.specs.expressions.Syntax.{Expression}
 use Rattle.tsa_tree.specs.Rows.{an_expression, a_simple, a_statement, expression, simple, statement, a_close, a_semicolon, mark, sees}
-use Rattle.tsa_tree.specs.Answers.{below_limit}
-use Rattle.tsa_tree.specs.Signs.{Aliases, sign_at, span_over, begins_statement}
-use Rattle.tsa_tree.specs.Statements as plain
-use Rattle.tsa_tree.specs.Statements.{Simple, Statement, Statements, none, more, spanning}
+use Rattle.tsa_tree.specs.expressions.Answers.{below_limit}
+use Rattle.tsa_tree.specs.tokens.Signs.{Aliases, sign_at, span_over, begins_statement}
+use Rattle.tsa_tree.specs.statements.Syntax as plain
+use Rattle.tsa_tree.specs.statements.Syntax.{Simple, Statement, Statements, none, more, spanning}
 use Rattle.tsa_decl.specs.Outcomes.{one_token, name_at, opening}
 use Rattle.tsa_forms.specs.Reading.{Outcome, refuse, syntax, deep, then, choose}
 

@@ -8,8 +8,8 @@ use Rattle.tsa_tree.specs.declared.stmt.Point.{Point}
 use Rattle.tsa_tree.specs.declared.stmt.Stmt.{Stmt}
 use Rattle.tsa_tree.specs.declared.stmt.StmtKind.{StmtKind}
 use Rattle.tsa_tree.specs.declared.stmt.StmtKind.TheVariants.{Local, Eval, Assign}
-use Rattle.tsa_tree.specs.Points.{points_of, points_of_all, points_of_init, points_of_step}
-use Rattle.tsa_tree.specs.StatementShapes.{stmt_shape, stmt_shapes, point_shape, action_shape, IsNumbered, AreNumbered}
+use Rattle.tsa_tree.specs.points.Syntax.{points_of, points_of_all, points_of_init, points_of_step}
+use Rattle.tsa_tree.specs.statements.Shapes.{stmt_shape, stmt_shapes, point_shape, action_shape, IsNumbered, AreNumbered}
 use Rattle.tsa_leaf.specs.Seen.{init_seen, step_seen}
 
 abbrev pub IsPointed : (old new : List Point) → Stmt → Type 0

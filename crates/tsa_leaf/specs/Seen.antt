@@ -3,11 +3,11 @@ use Rattle.std.specs.Prelude.{ℕ, option_map, Some, None}
 use Rattle.std.specs.Borrow.{Bor}
 use Rattle.std.specs.declared.option.Option.{Option}
 use Rattle.tsa_base.specs.declared.token.Span.{Span}
-use Rattle.tsa_tree.specs.Shapes.{shape}
-use Rattle.tsa_tree.specs.StatementShapes.{stmt_shape, init_of, step_of}
+use Rattle.tsa_tree.specs.expressions.Shapes.{shape}
+use Rattle.tsa_tree.specs.statements.Shapes.{stmt_shape, init_of, step_of}
 use Rattle.tsa_tree.specs.declared.stmt.Stmt.{Stmt}
-use Rattle.tsa_tree.specs.Statements.{Simple, evaluation, assignment, ForInit, no_init, Statement}
-use Rattle.tsa_tree.specs.Expressions.{Expression}
+use Rattle.tsa_tree.specs.statements.Syntax.{Simple, evaluation, assignment, ForInit, no_init, Statement}
+use Rattle.tsa_tree.specs.expressions.Syntax.{Expression}
 use Rattle.tsa_leaf.specs.declared.conditions.Tested.{Tested}
 use Rattle.tsa_leaf.specs.declared.conditions.Value.{Value}
 use Rattle.tsa_leaf.specs.declared.parts.Body.{Body}

@@ -1,9 +1,9 @@
 //! Statements that hold no other one are read (C11 6.8.3, 6.8.6).
 ghost use Rattle.std.specs.Prelude.{◌≡◌, ◌+◌, ◌≤◌, ◌<◌, length, IfOk, OnErr, Err};
 ghost use Rattle.tsa_base.specs.declared.token.Span.{Span as span_type};
-ghost use Rattle.tsa_tree.specs.Signs.{sign_at as spec_sign};
-ghost use Rattle.tsa_tree.specs.Statements.{simple as simple_statement_of, empty as nothing_done};
-ghost use Rattle.tsa_tree.specs.StatementShapes.{stmt_shape};
+ghost use Rattle.tsa_tree.specs.tokens.Signs.{sign_at as spec_sign};
+ghost use Rattle.tsa_tree.specs.statements.Syntax.{simple as simple_statement_of, empty as nothing_done};
+ghost use Rattle.tsa_tree.specs.statements.Shapes.{stmt_shape};
 ghost use Rattle.tsa_expr.specs.Source.{input, named};
 ghost use Rattle.tsa_expr.specs.Gives.{Gives};
 ghost use Rattle.tsa_leaf.specs.Outcomes.{simple_statement_at, closed_at, goto_at, return_at};

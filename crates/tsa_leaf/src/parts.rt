@@ -1,12 +1,12 @@
 //! What stands in the parentheses of a `for`, and locals in a block, with their points (C11 6.8.2, 6.8.5.3).
 ghost use Rattle.std.specs.Prelude.{◌≡◌, ◌+◌, ◌≤◌, ◌<◌, List, length, true, Err, IfOk, OnOk, OnErr};
 ghost use Rattle.tsa_tree.specs.declared.stmt.Point.{Point as point_type};
-ghost use Rattle.tsa_tree.specs.ItemShapes.{decl_shapes};
+ghost use Rattle.tsa_tree.specs.declarations.Shapes.{decl_shapes};
 ghost use Rattle.tsa_tree.specs.Reads.{read};
 ghost use Rattle.tsa_tree.specs.Rows.{a_for_init, some_statements, for_init as for_init_call, statements as statements_call};
-ghost use Rattle.tsa_tree.specs.Signs.{begins_type as spec_begins_type, sign_at as spec_sign};
-ghost use Rattle.tsa_tree.specs.Statements.{locals_before, none};
-ghost use Rattle.tsa_tree.specs.StatementShapes.{stmt_shapes};
+ghost use Rattle.tsa_tree.specs.tokens.Signs.{begins_type as spec_begins_type, sign_at as spec_sign};
+ghost use Rattle.tsa_tree.specs.statements.Syntax.{locals_before, none};
+ghost use Rattle.tsa_tree.specs.statements.Shapes.{stmt_shapes};
 ghost use Rattle.tsa_expr.specs.Source.{input, named};
 ghost use Rattle.tsa_expr.specs.Gives.{Gives, Leads};
 ghost use Rattle.tsa_decl.specs.Seen.{passed};

@@ -1,6 +1,6 @@
 //! What statements see of a sign.
 ghost use Rattle.std.specs.Prelude.{◌≡◌, ◌≢◌, None, true};
-ghost use Rattle.tsa_tree.specs.Signs.{assigns as spec_assigns, begins_type as spec_begins_type, begins_statement as spec_begins_statement};
+ghost use Rattle.tsa_tree.specs.tokens.Signs.{assigns as spec_assigns, begins_type as spec_begins_type, begins_statement as spec_begins_statement};
 ghost use Rattle.tsa_leaf.specs.Outcomes.{step_in, closes_block as spec_closes_block};
 
 use tsa_tree::expr::BinaryOp;

@@ -2,9 +2,9 @@
 ghost use Rattle.std.specs.Prelude.{◌≡◌, ◌≤◌, ◌<◌, length, None, Ok, IfOk};
 ghost use Rattle.tsa_tree.specs.Reads.{read};
 ghost use Rattle.tsa_tree.specs.Rows.{an_expression, operand};
-ghost use Rattle.tsa_tree.specs.Shapes.{shape};
-ghost use Rattle.tsa_tree.specs.Signs.{sign_at as spec_sign, span_over as spec_over};
-ghost use Rattle.tsa_tree.specs.StatementSpelling.{one_at};
+ghost use Rattle.tsa_tree.specs.expressions.Shapes.{shape};
+ghost use Rattle.tsa_tree.specs.tokens.Signs.{sign_at as spec_sign, span_over as spec_over};
+ghost use Rattle.tsa_tree.specs.statements.Spelling.{one_at};
 ghost use Rattle.tsa_expr.specs.Gives.{Gives};
 ghost use Rattle.tsa_expr.specs.Source.{input, named};
 ghost use Rattle.tsa_leaf.specs.Outcomes.{simple_at, step_in};

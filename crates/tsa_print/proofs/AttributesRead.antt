@@ -2,11 +2,11 @@
 use Rattle.std.proofs.Common.{ℕ, ◌+◌, sym, subst, List, [], ◌∷◌, ◌++◌, Bool, Some, None}
 use Rattle.tsa_base.specs.Tokens.{Lexeme}
 use Rattle.tsa_tree.specs.declared.attr.AttrKind.{AttrKind}
-use Rattle.tsa_tree.specs.Attributes.{Attribute, expressions, a_try, unquoted}
-use Rattle.tsa_tree.specs.AttributeSpelling.{IsAttribute, of_text, of_one, of_expressions, of_try, IsEntry, of_known, of_ignored, of_ignored_list, IsEntries, of_entry, of_entries, IsGroup, of_macro, of_no_entries, of_list, IsAttributes, of_no_group, of_group}
-use Rattle.tsa_tree.specs.Expressions.{Arguments, none, more}
-use Rattle.tsa_tree.specs.Signs.{Aliases, identifier_at}
-use Rattle.tsa_tree.specs.Spelling.{IsSeries, of_last, of_further}
+use Rattle.tsa_tree.specs.attributes.Syntax.{Attribute, expressions, a_try, unquoted}
+use Rattle.tsa_tree.specs.attributes.Spelling.{IsAttribute, of_text, of_one, of_expressions, of_try, IsEntry, of_known, of_ignored, of_ignored_list, IsEntries, of_entry, of_entries, IsGroup, of_macro, of_no_entries, of_list, IsAttributes, of_no_group, of_group}
+use Rattle.tsa_tree.specs.expressions.Syntax.{Arguments, none, more}
+use Rattle.tsa_tree.specs.tokens.Signs.{Aliases, identifier_at}
+use Rattle.tsa_tree.specs.expressions.Spelling.{IsSeries, of_last, of_further}
 use Rattle.tsa_forms.specs.Reading.{all}
 use Rattle.tsa_print.specs.SoundDeclarations.{SoundTaken, SoundAttribute, SoundAttributes}
 use Rattle.tsa_print.proofs.ReadSound.{AreTokensOfKinds, expression_sound, series_sound}

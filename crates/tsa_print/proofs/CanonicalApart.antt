@@ -7,8 +7,8 @@ use Rattle.std.specs.Prelude.{codes}
 use Rattle.tsa_tree.specs.declared.expr.UnaryOp.{UnaryOp}
 use Rattle.tsa_tree.specs.declared.expr.BinaryOp.{BinaryOp}
 use Rattle.tsa_tree.specs.declared.expr.BinaryOp.TheVariants as op
-use Rattle.tsa_tree.specs.Signs.{Aliases, level}
-use Rattle.tsa_tree.specs.Expressions.{Expression, Arguments, number, null, named, call, unary, binary, field, index, none, more}
+use Rattle.tsa_tree.specs.tokens.Signs.{Aliases, level}
+use Rattle.tsa_tree.specs.expressions.Syntax.{Expression, Arguments, number, null, named, call, unary, binary, field, index, none, more}
 use Rattle.tsa_print.specs.declared.mark.Mark.TheVariants as marks
 use Rattle.tsa_print.specs.Canonical.{Piece, word, numeral, quoted, operator, prefix, assigned, access, mark, binds_left, pieces, wrapped, arguments, further}
 use Rattle.tsa_print.specs.Writable.{is_name, is_number, is_sound, are_sound, has_plain_bases, have_plain_bases, is_writable}

@@ -7,9 +7,9 @@ use Rattle.std.specs.Str.{bytes_eq}
 use Rattle.std.proofs.lemmas.Bool.{and_parts}
 use Rattle.std.proofs.lemmas.List.{append_assoc}
 use Rattle.tsa_tree.specs.declared.expr.BinaryOp.{BinaryOp}
-use Rattle.tsa_tree.specs.Declarations.{Base, int, unsigned, void, structure, enumerated, alias, DeclaredType, Initialiser, value, list, Initialisers, no_more, one_more, Declaration}
-use Rattle.tsa_tree.specs.Expressions.{Expression}
-use Rattle.tsa_tree.specs.Signs.{Aliases}
+use Rattle.tsa_tree.specs.declarations.Syntax.{Base, int, unsigned, void, structure, enumerated, alias, DeclaredType, Initialiser, value, list, Initialisers, no_more, one_more, Declaration}
+use Rattle.tsa_tree.specs.expressions.Syntax.{Expression}
+use Rattle.tsa_tree.specs.tokens.Signs.{Aliases}
 use Rattle.tsa_print.specs.declared.mark.Mark.TheVariants as marks
 use Rattle.tsa_print.specs.Canonical.{Piece, word, assigned, mark, pieces}
 use Rattle.tsa_print.specs.DeclarationPieces.{attributes_pieces, base_pieces, const_pieces, star_pieces, specifier_pieces, type_pieces, length_pieces, initialiser_pieces, initialisers_pieces, further_pieces, init_pieces, declaration_pieces, members_pieces}

@@ -3,9 +3,9 @@ use Rattle.std.proofs.Common.{◌≡◌, List, [], ◌∷◌, ◌++◌, true, So
 use Rattle.std.specs.Prelude.{codes}
 use Rattle.std.specs.declared.option.Option.{Option}
 use Rattle.std.proofs.lemmas.List.{append_assoc}
-use Rattle.tsa_tree.specs.Declarations.{DeclaredType, Parameter, EnumConstant, Head}
-use Rattle.tsa_tree.specs.Expressions.{Expression, Identifier}
-use Rattle.tsa_tree.specs.Signs.{Aliases}
+use Rattle.tsa_tree.specs.declarations.Syntax.{DeclaredType, Parameter, EnumConstant, Head}
+use Rattle.tsa_tree.specs.expressions.Syntax.{Expression, Identifier}
+use Rattle.tsa_tree.specs.tokens.Signs.{Aliases}
 use Rattle.tsa_print.specs.declared.mark.Mark.TheVariants as marks
 use Rattle.tsa_print.specs.Canonical.{Piece, word, mark}
 use Rattle.tsa_print.specs.DeclarationPieces.{name_pieces, attributes_pieces, type_pieces, parameter_pieces, further_parameters, parameters_pieces, head_pieces, value_pieces, constant_pieces, further_constants, constants_pieces}

@@ -2,11 +2,11 @@
 -- their spans have one text.
 use Rattle.std.proofs.Common.{◌≡◌, ap, sym, ◌∙◌, refl, List, [], ◌∷◌, ◌++◌, Some, None, map, option_map}
 use Rattle.std.specs.declared.option.Option.{Option}
-use Rattle.tsa_tree.specs.Expressions.{Expression, plain}
-use Rattle.tsa_tree.specs.PlainItems.{plain_item}
-use Rattle.tsa_tree.specs.PlainStatements.{plain_simple, plain_for_init, plain_statement, plain_statements}
-use Rattle.tsa_tree.specs.Statements.{Simple, evaluation, assignment, ForInit, no_init, simple_init, local_init, Statement, block, empty, local, simple, if_alone, if_else, while_loop, do_loop, for_loop, switch, case, otherwise, label, break, continue, goto, return, Statements, none, more}
-use Rattle.tsa_tree.specs.UnitItems.{UnitItem, structure_item, alias_item, enumeration_item, global_item, function_item, body_item}
+use Rattle.tsa_tree.specs.expressions.Syntax.{Expression, plain}
+use Rattle.tsa_tree.specs.units.Plain.{plain_item}
+use Rattle.tsa_tree.specs.statements.Plain.{plain_simple, plain_for_init, plain_statement, plain_statements}
+use Rattle.tsa_tree.specs.statements.Syntax.{Simple, evaluation, assignment, ForInit, no_init, simple_init, local_init, Statement, block, empty, local, simple, if_alone, if_else, while_loop, do_loop, for_loop, switch, case, otherwise, label, break, continue, goto, return, Statements, none, more}
+use Rattle.tsa_tree.specs.units.Syntax.{UnitItem, structure_item, alias_item, enumeration_item, global_item, function_item, body_item}
 use Rattle.tsa_print.specs.declared.mark.Mark.{Mark}
 use Rattle.tsa_print.specs.declared.mark.Mark.TheVariants as marks
 use Rattle.tsa_print.specs.declared.sheet.Behind.TheVariants.{LineStart}

@@ -1,8 +1,8 @@
 -- Canonical text is read again, and what was read from a text can be written so.
 use Rattle.std.proofs.Common.{length}
 use Rattle.std.proofs.lemmas.Bool.{and_parts, and_from}
-use Rattle.tsa_tree.specs.Answers.{an_expression}
-use Rattle.tsa_tree.proofs.OneTree.{one_tree}
+use Rattle.tsa_tree.specs.expressions.Answers.{an_expression}
+use Rattle.tsa_tree.proofs.expressions.OneTree.{one_tree}
 use Rattle.tsa_print.specs.Canonical.{pieces, canonical}
 use Rattle.tsa_print.specs.Writable.{is_sound, has_plain_bases}
 use Rattle.tsa_print.specs.PrintLaws.{WritableIsReadAgain, ReadIsWritable}

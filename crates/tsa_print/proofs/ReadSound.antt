@@ -16,10 +16,10 @@ use Rattle.tsa_base.specs.Words.{is_reserved}
 use Rattle.tsa_base.proofs.TokenPlaces.{texts_fall_into_pieces}
 use Rattle.tsa_tree.specs.declared.sign.Sign.{Sign}
 use Rattle.tsa_tree.specs.declared.sign.Sign.TheVariants as sign
-use Rattle.tsa_tree.specs.Expressions.{Expression, Arguments}
-use Rattle.tsa_tree.specs.Signs.{Aliases, punctuator_signs, punctuator_sign, word_signs, word_sign, listed, sign_or, sign_of, sign_in, sign_at, identifier_in, identifier_at, value_of, unsigned_of, kind_in, value_at, unsigned_at}
-use Rattle.tsa_tree.specs.Spelling.{IsExpression, of_unary, of_binary, IsUnary, of_postfix, of_prefix, IsPostfix, of_primary, of_field, of_index, IsPrimary, of_number, of_null, of_name, of_call, of_parentheses, IsArguments, of_none, of_some, IsSeries, of_last, of_further}
-use Rattle.tsa_tree.specs.Answers.{Part, an_expression, a_unary, Spells}
+use Rattle.tsa_tree.specs.expressions.Syntax.{Expression, Arguments}
+use Rattle.tsa_tree.specs.tokens.Signs.{Aliases, punctuator_signs, punctuator_sign, word_signs, word_sign, listed, sign_or, sign_of, sign_in, sign_at, identifier_in, identifier_at, value_of, unsigned_of, kind_in, value_at, unsigned_at}
+use Rattle.tsa_tree.specs.expressions.Spelling.{IsExpression, of_unary, of_binary, IsUnary, of_postfix, of_prefix, IsPostfix, of_primary, of_field, of_index, IsPrimary, of_number, of_null, of_name, of_call, of_parentheses, IsArguments, of_none, of_some, IsSeries, of_last, of_further}
+use Rattle.tsa_tree.specs.expressions.Answers.{Part, an_expression, a_unary, Spells}
 use Rattle.tsa_forms.specs.Reading.{all}
 use Rattle.tsa_print.specs.Writable.{is_name, is_value, is_sound, are_sound}
 

@@ -3,11 +3,11 @@ use Rattle.std.proofs.Common.{ℕ, ◌+◌, ◌≡◌, ap, subst, refl, List, []
 use Rattle.std.specs.declared.option.Option.{Option}
 use Rattle.tsa_base.specs.Tokens.{Lexeme}
 use Rattle.tsa_tree.specs.declared.attr.AttrKind.{AttrKind}
-use Rattle.tsa_tree.specs.Attributes.{Attribute, plain_attribute, Taking, a_text, one_expression, expressions, a_try, taking, unquoted}
-use Rattle.tsa_tree.specs.AttributeSpelling.{attribute, IsAttribute, of_text, of_one, of_expressions, of_try, of_macro, IsAttributes, of_no_group, of_group}
-use Rattle.tsa_tree.specs.Expressions.{Arguments, none, more, nowhere, plain_arguments}
-use Rattle.tsa_tree.specs.Signs.{Aliases, identifier_at}
-use Rattle.tsa_tree.specs.Spelling.{IsExpression}
+use Rattle.tsa_tree.specs.attributes.Syntax.{Attribute, plain_attribute, Taking, a_text, one_expression, expressions, a_try, taking, unquoted}
+use Rattle.tsa_tree.specs.attributes.Spelling.{attribute, IsAttribute, of_text, of_one, of_expressions, of_try, of_macro, IsAttributes, of_no_group, of_group}
+use Rattle.tsa_tree.specs.expressions.Syntax.{Arguments, none, more, nowhere, plain_arguments}
+use Rattle.tsa_tree.specs.tokens.Signs.{Aliases, identifier_at}
+use Rattle.tsa_tree.specs.expressions.Spelling.{IsExpression}
 use Rattle.tsa_forms.specs.Reading.{all}
 use Rattle.tsa_print.specs.declared.mark.Mark.TheVariants as marks
 use Rattle.tsa_print.specs.Canonical.{quoted, mark, pieces, arguments, further}

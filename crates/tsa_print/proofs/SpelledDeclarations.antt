@@ -2,12 +2,12 @@
 use Rattle.std.proofs.Common.{ℕ, ◌+◌, ◌≡◌, ◌∙◌, ap, subst, refl, sym, List, [], ◌∷◌, ◌++◌, map, Some, None, option_map}
 use Rattle.std.specs.declared.option.Option.{Option}
 use Rattle.tsa_base.specs.Tokens.{Lexeme}
-use Rattle.tsa_tree.specs.Attributes.{Attribute, plain_attribute}
-use Rattle.tsa_tree.specs.Declarations.{Specified, Initialiser, value, list, Declaration, declaration, Declarator, made_of}
-use Rattle.tsa_tree.specs.DeclarationSpelling.{Role, a_member, a_global, IsSpecifier, IsDeclarator, of_declarator, IsLength, of_rest, IsDeclarators, of_last_declarator, IsMembers, no_member, of_members, IsVariable, of_unset, of_set}
-use Rattle.tsa_tree.specs.Expressions.{Expression, plain_name}
-use Rattle.tsa_tree.specs.PlainDeclarations.{plain_type, plain_initialiser, plain_declaration}
-use Rattle.tsa_tree.specs.Signs.{Aliases, identifier_at, span_over}
+use Rattle.tsa_tree.specs.attributes.Syntax.{Attribute, plain_attribute}
+use Rattle.tsa_tree.specs.declarations.Syntax.{Specified, Initialiser, value, list, Declaration, declaration, Declarator, made_of}
+use Rattle.tsa_tree.specs.declarations.Spelling.{Role, a_member, a_global, IsSpecifier, IsDeclarator, of_declarator, IsLength, of_rest, IsDeclarators, of_last_declarator, IsMembers, no_member, of_members, IsVariable, of_unset, of_set}
+use Rattle.tsa_tree.specs.expressions.Syntax.{Expression, plain_name}
+use Rattle.tsa_tree.specs.declarations.Plain.{plain_type, plain_initialiser, plain_declaration}
+use Rattle.tsa_tree.specs.tokens.Signs.{Aliases, identifier_at, span_over}
 use Rattle.tsa_forms.specs.Reading.{all}
 use Rattle.tsa_print.specs.declared.mark.Mark.TheVariants as marks
 use Rattle.tsa_print.specs.Canonical.{word, mark}

@@ -2,13 +2,13 @@
 use Rattle.std.proofs.Common.{ℕ, ◌+◌, ◌≡◌, ◌∙◌, ap, subst, sym, refl, List, [], ◌∷◌, ◌++◌, map, true, Some, None, option_map}
 use Rattle.std.specs.declared.option.Option.{Option}
 use Rattle.tsa_base.specs.Tokens.{Lexeme}
-use Rattle.tsa_tree.specs.Attributes.{plain_attribute}
-use Rattle.tsa_tree.specs.Declarations.{Declarator, Head, head_of, EnumConstant}
-use Rattle.tsa_tree.specs.DeclarationSpelling.{of_declarator}
-use Rattle.tsa_tree.specs.Expressions.{Identifier, Expression, plain, plain_name}
-use Rattle.tsa_tree.specs.ItemSpelling.{no_storage, of_signature, IsHead, of_head, IsConstant, of_name_alone, of_name_and_value, IsConstants, of_last_constant, of_further_constant}
-use Rattle.tsa_tree.specs.PlainDeclarations.{plain_type, plain_parameter, plain_constant, plain_head}
-use Rattle.tsa_tree.specs.Signs.{Aliases, identifier_at}
+use Rattle.tsa_tree.specs.attributes.Syntax.{plain_attribute}
+use Rattle.tsa_tree.specs.declarations.Syntax.{Declarator, Head, head_of, EnumConstant}
+use Rattle.tsa_tree.specs.declarations.Spelling.{of_declarator}
+use Rattle.tsa_tree.specs.expressions.Syntax.{Identifier, Expression, plain, plain_name}
+use Rattle.tsa_tree.specs.declarations.ItemSpelling.{no_storage, of_signature, IsHead, of_head, IsConstant, of_name_alone, of_name_and_value, IsConstants, of_last_constant, of_further_constant}
+use Rattle.tsa_tree.specs.declarations.Plain.{plain_type, plain_parameter, plain_constant, plain_head}
+use Rattle.tsa_tree.specs.tokens.Signs.{Aliases, identifier_at}
 use Rattle.tsa_forms.specs.Reading.{all}
 use Rattle.tsa_print.specs.declared.mark.Mark.TheVariants as marks
 use Rattle.tsa_print.specs.Canonical.{word, mark}

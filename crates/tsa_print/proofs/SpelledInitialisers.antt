@@ -4,10 +4,10 @@ use Rattle.std.specs.declared.option.Option.{Option}
 use Rattle.tsa_base.specs.Tokens.{Lexeme}
 use Rattle.tsa_base.specs.declared.token.Span.{Span}
 use Rattle.tsa_tree.specs.declared.sign.Sign.TheVariants as sign
-use Rattle.tsa_tree.specs.Declarations.{Initialiser, value, list, Initialisers, no_more, one_more}
-use Rattle.tsa_tree.specs.DeclarationSpelling.{Role, a_member, a_global, IsInitialiser, of_value, of_no_values, of_values, IsInitialisers, of_last_value, of_further_value, IsInit, no_init, of_init}
-use Rattle.tsa_tree.specs.PlainDeclarations.{plain_initialiser, plain_initialisers}
-use Rattle.tsa_tree.specs.Signs.{Aliases, punctuator_signs, punctuator_sign, sign_at, span_over}
+use Rattle.tsa_tree.specs.declarations.Syntax.{Initialiser, value, list, Initialisers, no_more, one_more}
+use Rattle.tsa_tree.specs.declarations.Spelling.{Role, a_member, a_global, IsInitialiser, of_value, of_no_values, of_values, IsInitialisers, of_last_value, of_further_value, IsInit, no_init, of_init}
+use Rattle.tsa_tree.specs.declarations.Plain.{plain_initialiser, plain_initialisers}
+use Rattle.tsa_tree.specs.tokens.Signs.{Aliases, punctuator_signs, punctuator_sign, sign_at, span_over}
 use Rattle.tsa_forms.specs.Reading.{all}
 use Rattle.tsa_print.specs.declared.mark.Mark.TheVariants as marks
 use Rattle.tsa_print.specs.Canonical.{assigned, mark}

@@ -5,18 +5,18 @@ use Rattle.std.specs.declared.option.Option.{Option}
 use Rattle.tsa_base.specs.Tokens.{Lexeme}
 use Rattle.tsa_base.specs.declared.token.Span.{Span}
 use Rattle.tsa_tree.specs.declared.sign.Keyword.TheVariants as key
-use Rattle.tsa_tree.specs.Attributes.{Attribute, plain_attribute}
-use Rattle.tsa_tree.specs.AttributeSpelling.{of_no_group}
-use Rattle.tsa_tree.specs.Declarations.{DeclaredType, Declaration, EnumConstant, Head, StructBody, made_of}
-use Rattle.tsa_tree.specs.DeclarationSpelling.{of_declarator}
-use Rattle.tsa_tree.specs.Expressions.{Identifier, plain, plain_name, nowhere}
-use Rattle.tsa_tree.specs.ItemSpelling.{no_storage, IsTag, no_tag, of_tag, IsStructBody, of_struct_body, IsEnumBody, of_enum_body, IsItem, of_structure, of_structure_alias, of_enumeration, of_enumeration_alias, of_alias_item, of_globals, of_function, of_body_item}
-use Rattle.tsa_tree.specs.PlainDeclarations.{plain_type, plain_declaration, plain_constant, plain_head}
-use Rattle.tsa_tree.specs.PlainItems.{plain_item}
-use Rattle.tsa_tree.specs.PlainStatements.{plain_statements}
-use Rattle.tsa_tree.specs.Signs.{Aliases, span_at, span_over, identifier_at}
-use Rattle.tsa_tree.specs.Statements.{Statements}
-use Rattle.tsa_tree.specs.UnitItems.{UnitItem, structure_item, alias_item, enumeration_item, global_item, function_item, body_item}
+use Rattle.tsa_tree.specs.attributes.Syntax.{Attribute, plain_attribute}
+use Rattle.tsa_tree.specs.attributes.Spelling.{of_no_group}
+use Rattle.tsa_tree.specs.declarations.Syntax.{DeclaredType, Declaration, EnumConstant, Head, StructBody, made_of}
+use Rattle.tsa_tree.specs.declarations.Spelling.{of_declarator}
+use Rattle.tsa_tree.specs.expressions.Syntax.{Identifier, plain, plain_name, nowhere}
+use Rattle.tsa_tree.specs.declarations.ItemSpelling.{no_storage, IsTag, no_tag, of_tag, IsStructBody, of_struct_body, IsEnumBody, of_enum_body, IsItem, of_structure, of_structure_alias, of_enumeration, of_enumeration_alias, of_alias_item, of_globals, of_function, of_body_item}
+use Rattle.tsa_tree.specs.declarations.Plain.{plain_type, plain_declaration, plain_constant, plain_head}
+use Rattle.tsa_tree.specs.units.Plain.{plain_item}
+use Rattle.tsa_tree.specs.statements.Plain.{plain_statements}
+use Rattle.tsa_tree.specs.tokens.Signs.{Aliases, span_at, span_over, identifier_at}
+use Rattle.tsa_tree.specs.statements.Syntax.{Statements}
+use Rattle.tsa_tree.specs.units.Syntax.{UnitItem, structure_item, alias_item, enumeration_item, global_item, function_item, body_item}
 use Rattle.tsa_forms.specs.Reading.{all}
 use Rattle.tsa_print.specs.declared.mark.Mark.TheVariants as marks
 use Rattle.tsa_print.specs.Canonical.{Piece, word, mark}

@@ -4,11 +4,11 @@ use Rattle.std.specs.declared.option.Option.{Option}
 use Rattle.tsa_base.specs.Tokens.{Lexeme}
 use Rattle.tsa_tree.specs.declared.sign.Keyword.TheVariants as key
 use Rattle.tsa_tree.specs.declared.sign.Sign.TheVariants as sign
-use Rattle.tsa_tree.specs.Declarations.{Base, int, unsigned, void, structure, enumerated, alias, DeclaredType, Parameter}
-use Rattle.tsa_tree.specs.Expressions.{Identifier, plain, plain_name, nowhere}
-use Rattle.tsa_tree.specs.ItemSpelling.{parameter_start, parameter, IsParameter, of_named, of_unnamed, IsParameterList, of_last_parameter, of_further_parameter, IsParameters, of_lone_void, of_parameters}
-use Rattle.tsa_tree.specs.PlainDeclarations.{plain_type, plain_parameter}
-use Rattle.tsa_tree.specs.Signs.{Aliases, sign_at, identifier_at, is_void, is_close, is_lone_void}
+use Rattle.tsa_tree.specs.declarations.Syntax.{Base, int, unsigned, void, structure, enumerated, alias, DeclaredType, Parameter}
+use Rattle.tsa_tree.specs.expressions.Syntax.{Identifier, plain, plain_name, nowhere}
+use Rattle.tsa_tree.specs.declarations.ItemSpelling.{parameter_start, parameter, IsParameter, of_named, of_unnamed, IsParameterList, of_last_parameter, of_further_parameter, IsParameters, of_lone_void, of_parameters}
+use Rattle.tsa_tree.specs.declarations.Plain.{plain_type, plain_parameter}
+use Rattle.tsa_tree.specs.tokens.Signs.{Aliases, sign_at, identifier_at, is_void, is_close, is_lone_void}
 use Rattle.tsa_print.specs.declared.mark.Mark.TheVariants as marks
 use Rattle.tsa_print.specs.Canonical.{mark}
 use Rattle.tsa_print.specs.DeclarationPieces.{name_pieces, base_pieces, const_pieces, star_pieces, type_pieces, parameter_pieces, further_parameters, parameters_pieces}

@@ -4,11 +4,11 @@ use Rattle.std.specs.declared.option.Option.{Option}
 use Rattle.tsa_base.specs.Tokens.{Lexeme}
 use Rattle.tsa_tree.specs.declared.sign.Keyword.{Keyword}
 use Rattle.tsa_tree.specs.declared.sign.Sign.TheVariants as sign
-use Rattle.tsa_tree.specs.Expressions.{Expression, plain, nowhere}
-use Rattle.tsa_tree.specs.PlainStatements.{plain_simple, plain_for_init}
-use Rattle.tsa_tree.specs.Signs.{Aliases, sign_at, span_over}
-use Rattle.tsa_tree.specs.Statements.{Simple, evaluation, assignment, ForInit, no_init, simple_init, local_init}
-use Rattle.tsa_tree.specs.StatementSpelling.{IsSimple, of_evaluation, of_assignment, IsOptional, no_expression, an_expression, IsTest, of_test, IsForInit, of_no_init, of_simple_init, of_local_init, IsForStep, of_no_step, of_step}
+use Rattle.tsa_tree.specs.expressions.Syntax.{Expression, plain, nowhere}
+use Rattle.tsa_tree.specs.statements.Plain.{plain_simple, plain_for_init}
+use Rattle.tsa_tree.specs.tokens.Signs.{Aliases, sign_at, span_over}
+use Rattle.tsa_tree.specs.statements.Syntax.{Simple, evaluation, assignment, ForInit, no_init, simple_init, local_init}
+use Rattle.tsa_tree.specs.statements.Spelling.{IsSimple, of_evaluation, of_assignment, IsOptional, no_expression, an_expression, IsTest, of_test, IsForInit, of_no_init, of_simple_init, of_local_init, IsForStep, of_no_step, of_step}
 use Rattle.tsa_forms.specs.Reading.{all}
 use Rattle.tsa_print.specs.declared.mark.Mark.TheVariants as marks
 use Rattle.tsa_print.specs.Canonical.{Piece, word, assigned, mark, pieces}

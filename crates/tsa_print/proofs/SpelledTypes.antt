@@ -3,11 +3,11 @@ use Rattle.std.proofs.Common.{ℕ, ◌+◌, ◌≡◌, ap, subst, refl, List, []
 use Rattle.std.specs.declared.option.Option.{Option}
 use Rattle.tsa_base.specs.Tokens.{Lexeme}
 use Rattle.tsa_tree.specs.declared.sign.Keyword.TheVariants as key
-use Rattle.tsa_tree.specs.Declarations.{Base, int, unsigned, void, structure, enumerated, alias, Specified, DeclaredType, made_of}
-use Rattle.tsa_tree.specs.DeclarationSpelling.{no_const, of_const, IsBase, of_int, of_unsigned, of_void, of_struct, of_enum, of_alias, IsSpecifier, of_specifier, IsStar, no_star, of_star, of_const_star, IsLength, no_length, of_length}
-use Rattle.tsa_tree.specs.Expressions.{Expression, plain}
-use Rattle.tsa_tree.specs.PlainDeclarations.{plain_base, plain_type}
-use Rattle.tsa_tree.specs.Signs.{Aliases, identifier_at}
+use Rattle.tsa_tree.specs.declarations.Syntax.{Base, int, unsigned, void, structure, enumerated, alias, Specified, DeclaredType, made_of}
+use Rattle.tsa_tree.specs.declarations.Spelling.{no_const, of_const, IsBase, of_int, of_unsigned, of_void, of_struct, of_enum, of_alias, IsSpecifier, of_specifier, IsStar, no_star, of_star, of_const_star, IsLength, no_length, of_length}
+use Rattle.tsa_tree.specs.expressions.Syntax.{Expression, plain}
+use Rattle.tsa_tree.specs.declarations.Plain.{plain_base, plain_type}
+use Rattle.tsa_tree.specs.tokens.Signs.{Aliases, identifier_at}
 use Rattle.tsa_forms.specs.Reading.{all}
 use Rattle.tsa_print.specs.declared.mark.Mark.TheVariants as marks
 use Rattle.tsa_print.specs.Canonical.{mark, pieces}

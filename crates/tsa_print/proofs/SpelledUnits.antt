@@ -2,11 +2,11 @@
 use Rattle.std.proofs.Common.{ℕ, ◌≡◌, ◌∙◌, ap, subst, sym, refl, List, [], ◌∷◌, ◌++◌, map, Some, None, length}
 use Rattle.std.proofs.lemmas.List.{append-nil}
 use Rattle.tsa_base.specs.Tokens.{Lexeme}
-use Rattle.tsa_tree.specs.PlainItems.{plain_item}
-use Rattle.tsa_tree.specs.Signs.{Aliases}
-use Rattle.tsa_tree.specs.UnitAnswers.{Spells}
-use Rattle.tsa_tree.specs.UnitItems.{UnitItem, structure_item, alias_item, enumeration_item, global_item, function_item, body_item, names_of_item, names_of}
-use Rattle.tsa_tree.specs.UnitSpelling.{IsItems, no_items, of_items}
+use Rattle.tsa_tree.specs.units.Plain.{plain_item}
+use Rattle.tsa_tree.specs.tokens.Signs.{Aliases}
+use Rattle.tsa_tree.specs.units.Answers.{Spells}
+use Rattle.tsa_tree.specs.units.Syntax.{UnitItem, structure_item, alias_item, enumeration_item, global_item, function_item, body_item, names_of_item, names_of}
+use Rattle.tsa_tree.specs.units.Spelling.{IsItems, no_items, of_items}
 use Rattle.tsa_forms.specs.Reading.{all}
 use Rattle.tsa_print.specs.SoundUnits.{SoundItems}
 use Rattle.tsa_print.specs.UnitPieces.{item_pieces, unit_pieces}

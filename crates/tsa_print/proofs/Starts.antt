@@ -2,8 +2,8 @@
 use Rattle.std.proofs.Common.{ℕ, ◌≡◌, ◌+◌, List, [], ◌∷◌, ◌++◌, Bool, true, false, nat_lt, refl}
 use Rattle.tsa_tree.specs.declared.expr.BinaryOp.{BinaryOp}
 use Rattle.tsa_tree.specs.declared.expr.BinaryOp.TheVariants as op
-use Rattle.tsa_tree.specs.Signs.{level}
-use Rattle.tsa_tree.specs.Expressions.{Expression, number, null, named, call, unary, binary, field, index}
+use Rattle.tsa_tree.specs.tokens.Signs.{level}
+use Rattle.tsa_tree.specs.expressions.Syntax.{Expression, number, null, named, call, unary, binary, field, index}
 use Rattle.tsa_print.specs.declared.mark.Mark.TheVariants as marks
 use Rattle.tsa_print.specs.Canonical.{Piece, word, numeral, operator, prefix, access, mark, pieces, wrapped}
 use Rattle.tsa_print.proofs.Apart.{is_tight}

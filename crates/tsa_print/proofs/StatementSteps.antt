@@ -5,13 +5,13 @@ use Rattle.tsa_base.specs.Tokens.{Lexeme}
 use Rattle.tsa_tree.specs.declared.sign.Keyword.TheVariants as key
 use Rattle.tsa_tree.specs.declared.sign.Sign.TheVariants as sign
 use Rattle.tsa_base.specs.declared.token.Span.{Span}
-use Rattle.tsa_tree.specs.Declarations.{Declaration}
-use Rattle.tsa_tree.specs.DeclarationSpelling.{of_last_variable, of_locals}
-use Rattle.tsa_tree.specs.Expressions.{Identifier, Expression, plain_name, nowhere}
-use Rattle.tsa_tree.specs.PlainStatements.{plain_simple, plain_statement, plain_statements}
-use Rattle.tsa_tree.specs.Signs.{Aliases, sign_at, span_over, identifier_at}
-use Rattle.tsa_tree.specs.Statements.{Simple, evaluation, assignment, ForInit, Statement, block, empty, local, simple, if_alone, if_else, while_loop, do_loop, for_loop, switch, case, otherwise, label, break, continue, goto, return, Statements, more, ends_short, spanning}
-use Rattle.tsa_tree.specs.StatementSpelling.{IsStatement, of_block, of_empty, of_simple, of_if, of_if_else, of_while, of_do, of_for, of_switch, of_case, of_default, of_label, of_break, of_continue, of_goto, of_return, of_body, IsStatements, of_locals_first, of_statement_first}
+use Rattle.tsa_tree.specs.declarations.Syntax.{Declaration}
+use Rattle.tsa_tree.specs.declarations.Spelling.{of_last_variable, of_locals}
+use Rattle.tsa_tree.specs.expressions.Syntax.{Identifier, Expression, plain_name, nowhere}
+use Rattle.tsa_tree.specs.statements.Plain.{plain_simple, plain_statement, plain_statements}
+use Rattle.tsa_tree.specs.tokens.Signs.{Aliases, sign_at, span_over, identifier_at}
+use Rattle.tsa_tree.specs.statements.Syntax.{Simple, evaluation, assignment, ForInit, Statement, block, empty, local, simple, if_alone, if_else, while_loop, do_loop, for_loop, switch, case, otherwise, label, break, continue, goto, return, Statements, more, ends_short, spanning}
+use Rattle.tsa_tree.specs.statements.Spelling.{IsStatement, of_block, of_empty, of_simple, of_if, of_if_else, of_while, of_do, of_for, of_switch, of_case, of_default, of_label, of_break, of_continue, of_goto, of_return, of_body, IsStatements, of_locals_first, of_statement_first}
 use Rattle.tsa_forms.specs.Reading.{all}
 use Rattle.tsa_print.specs.declared.mark.Mark.TheVariants as marks
 use Rattle.tsa_print.specs.Canonical.{word, mark}

@@ -2,10 +2,10 @@
 use Rattle.std.proofs.Common.{ℕ, ◌≡◌, List, [], ◌∷◌, ◌++◌, Bool, true, false, Some, None, refl}
 use Rattle.std.specs.Prelude.{codes}
 use Rattle.std.specs.declared.option.Option.{Option}
-use Rattle.tsa_tree.specs.Declarations.{Declaration}
-use Rattle.tsa_tree.specs.Expressions.{Expression}
-use Rattle.tsa_tree.specs.Signs.{Aliases}
-use Rattle.tsa_tree.specs.Statements.{Simple, evaluation, assignment, ForInit, no_init, simple_init, local_init, Statement, block, empty, local, simple, if_alone, if_else, while_loop, do_loop, for_loop, switch, case, otherwise, label, break, continue, goto, return, Statements, none, more}
+use Rattle.tsa_tree.specs.declarations.Syntax.{Declaration}
+use Rattle.tsa_tree.specs.expressions.Syntax.{Expression}
+use Rattle.tsa_tree.specs.tokens.Signs.{Aliases}
+use Rattle.tsa_tree.specs.statements.Syntax.{Simple, evaluation, assignment, ForInit, no_init, simple_init, local_init, Statement, block, empty, local, simple, if_alone, if_else, while_loop, do_loop, for_loop, switch, case, otherwise, label, break, continue, goto, return, Statements, none, more}
 use Rattle.tsa_print.specs.declared.mark.Mark.{Mark}
 use Rattle.tsa_print.specs.declared.mark.Mark.TheVariants as marks
 use Rattle.tsa_print.specs.Canonical.{Piece, word, assigned, mark, pieces}

@@ -1,5 +1,5 @@
 -- The tokens of a unit's canonical text spell the same unit, up to spans, and no other.
-use Rattle.tsa_tree.proofs.UnitLaws.{one_unit}
+use Rattle.tsa_tree.proofs.units.Laws.{one_unit}
 use Rattle.tsa_print.specs.UnitPrintLaws.{SoundUnitIsReadAgain}
 use Rattle.tsa_print.proofs.PlainPieces.{same_text}
 use Rattle.tsa_print.proofs.SpelledUnits.{unit_spelled}

@@ -4,11 +4,11 @@ use Rattle.std.specs.Prelude.{codes}
 use Rattle.std.specs.declared.option.Option.{Option}
 use Rattle.tsa_base.specs.declared.token.Span.{Span}
 use Rattle.tsa_base.specs.Tokens.{Lexeme, tokens_of}
-use Rattle.tsa_tree.specs.Attributes.{Attribute}
-use Rattle.tsa_tree.specs.Declarations.{Declaration, EnumConstant}
-use Rattle.tsa_tree.specs.Expressions.{Identifier}
-use Rattle.tsa_tree.specs.Signs.{Aliases}
-use Rattle.tsa_tree.specs.UnitItems.{UnitItem, structure_item, alias_item, enumeration_item, global_item, function_item, body_item, names_of_item}
+use Rattle.tsa_tree.specs.attributes.Syntax.{Attribute}
+use Rattle.tsa_tree.specs.declarations.Syntax.{Declaration, EnumConstant}
+use Rattle.tsa_tree.specs.expressions.Syntax.{Identifier}
+use Rattle.tsa_tree.specs.tokens.Signs.{Aliases}
+use Rattle.tsa_tree.specs.units.Syntax.{UnitItem, structure_item, alias_item, enumeration_item, global_item, function_item, body_item, names_of_item}
 use Rattle.tsa_print.specs.declared.mark.Mark.TheVariants as marks
 use Rattle.tsa_print.specs.declared.sheet.Behind.TheVariants.{LineStart}
 use Rattle.tsa_print.specs.Canonical.{word, mark}

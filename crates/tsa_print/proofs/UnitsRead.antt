@@ -2,11 +2,11 @@
 use Rattle.std.proofs.Common.{ℕ, sym, subst, refl, List, [], ◌∷◌, ◌++◌, Bool, map}
 use Rattle.std.proofs.lemmas.List.{append_assoc, append-nil}
 use Rattle.tsa_base.specs.Tokens.{Lexeme}
-use Rattle.tsa_tree.specs.Declarations.{Declaration}
-use Rattle.tsa_tree.specs.ItemSpelling.{of_struct_body, IsItem, of_structure, of_tag_alone, of_structure_alias, of_enumeration, of_enumeration_alias, of_alias_item, of_globals, of_function, of_body_item}
-use Rattle.tsa_tree.specs.Signs.{Aliases, identifier_at}
-use Rattle.tsa_tree.specs.UnitItems.{UnitItem, global_item, names_of_item, names_of}
-use Rattle.tsa_tree.specs.UnitSpelling.{IsItems, no_items, of_items}
+use Rattle.tsa_tree.specs.declarations.Syntax.{Declaration}
+use Rattle.tsa_tree.specs.declarations.ItemSpelling.{of_struct_body, IsItem, of_structure, of_tag_alone, of_structure_alias, of_enumeration, of_enumeration_alias, of_alias_item, of_globals, of_function, of_body_item}
+use Rattle.tsa_tree.specs.tokens.Signs.{Aliases, identifier_at}
+use Rattle.tsa_tree.specs.units.Syntax.{UnitItem, global_item, names_of_item, names_of}
+use Rattle.tsa_tree.specs.units.Spelling.{IsItems, no_items, of_items}
 use Rattle.tsa_forms.specs.Reading.{all}
 use Rattle.tsa_print.specs.SoundUnits.{SoundItems}
 use Rattle.tsa_print.specs.UnitPrintLaws.{ReadUnitIsSound}

@@ -15,9 +15,9 @@ use Rattle.tsa_tree.specs.declared.sign.Keyword.{Keyword}
 use Rattle.tsa_tree.specs.declared.sign.Keyword.TheVariants as key
 use Rattle.tsa_tree.specs.declared.sign.Sign.{Sign}
 use Rattle.tsa_tree.specs.declared.sign.Sign.TheVariants as sign
-use Rattle.tsa_tree.specs.Attributes.{unquoted, try_value}
-use Rattle.tsa_tree.specs.Signs.{Aliases, word_signs, word_sign, sign_at, identifier_in, identifier_at, is_tag}
-use Rattle.tsa_tree.proofs.ReservedWords.{not_listed}
+use Rattle.tsa_tree.specs.attributes.Syntax.{unquoted, try_value}
+use Rattle.tsa_tree.specs.tokens.Signs.{Aliases, word_signs, word_sign, sign_at, identifier_in, identifier_at, is_tag}
+use Rattle.tsa_tree.proofs.tokens.ReservedWords.{not_listed}
 use Rattle.tsa_print.specs.Canonical.{Piece, word, numeral, quoted, piece_text}
 use Rattle.tsa_print.specs.DeclarationPieces.{macro_word}
 use Rattle.tsa_print.specs.SoundDeclarations.{is_tag_name, is_alias_name}

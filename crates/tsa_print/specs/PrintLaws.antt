@@ -1,9 +1,9 @@
 -- Laws of canonical text.
 use Rattle.std.specs.Prelude.{ℕ, ◌≡◌, List, true, Ok, length}
 use Rattle.tsa_base.specs.Tokens.{Lexeme, tokens_of}
-use Rattle.tsa_tree.specs.Expressions.{Expression, plain}
-use Rattle.tsa_tree.specs.Signs.{Aliases}
-use Rattle.tsa_tree.specs.Answers.{Part, an_expression, Spells}
+use Rattle.tsa_tree.specs.expressions.Syntax.{Expression, plain}
+use Rattle.tsa_tree.specs.tokens.Signs.{Aliases}
+use Rattle.tsa_tree.specs.expressions.Answers.{Part, an_expression, Spells}
 use Rattle.tsa_forms.specs.Reading.{all}
 use Rattle.tsa_print.specs.Canonical.{canonical}
 use Rattle.tsa_print.specs.Writable.{is_writable, has_plain_bases}

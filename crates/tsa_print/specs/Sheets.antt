@@ -3,9 +3,9 @@ use Rattle.std.specs.Prelude.{ℕ, ◌-◌, List, [], ◌∷◌, ◌++◌, Bool,
 use Rattle.std.specs.Borrow.{Bor}
 use Rattle.std.specs.declared.option.Option.{Option}
 use Rattle.tsa_tree.specs.declared.stmt.Stmt.{Stmt}
-use Rattle.tsa_tree.specs.Expressions.{Expression, nowhere}
-use Rattle.tsa_tree.specs.Statements.{Simple, ForInit, Statement, if_alone, if_else}
-use Rattle.tsa_tree.specs.StatementShapes.{stmt_shape}
+use Rattle.tsa_tree.specs.expressions.Syntax.{Expression, nowhere}
+use Rattle.tsa_tree.specs.statements.Syntax.{Simple, ForInit, Statement, if_alone, if_else}
+use Rattle.tsa_tree.specs.statements.Shapes.{stmt_shape}
 use Rattle.tsa_print.specs.declared.sheet.Behind.{Behind}
 use Rattle.tsa_print.specs.declared.sheet.Behind.TheVariants.{LineStart, Tight, Loose}
 use Rattle.tsa_print.specs.declared.sheet.Sheet.{Sheet}

@@ -5,10 +5,10 @@ use Rattle.std.specs.List.{list_all, list_any}
 use Rattle.std.specs.Str.{bytes_eq}
 use Rattle.std.specs.declared.option.Option.{Option}
 use Rattle.tsa_base.specs.Bytes.{is_text_byte}
-use Rattle.tsa_tree.specs.Attributes.{Attribute, Taking, taking, a_text, one_expression, expressions, a_try}
-use Rattle.tsa_tree.specs.Declarations.{Base, int, unsigned, void, structure, enumerated, alias, DeclaredType, Initialiser, value, list, Initialisers, no_more, one_more, Declaration, Parameter, EnumConstant, Head}
-use Rattle.tsa_tree.specs.Expressions.{Identifier, Expression, Arguments, none, more}
-use Rattle.tsa_tree.specs.Signs.{Aliases}
+use Rattle.tsa_tree.specs.attributes.Syntax.{Attribute, Taking, taking, a_text, one_expression, expressions, a_try}
+use Rattle.tsa_tree.specs.declarations.Syntax.{Base, int, unsigned, void, structure, enumerated, alias, DeclaredType, Initialiser, value, list, Initialisers, no_more, one_more, Declaration, Parameter, EnumConstant, Head}
+use Rattle.tsa_tree.specs.expressions.Syntax.{Identifier, Expression, Arguments, none, more}
+use Rattle.tsa_tree.specs.tokens.Signs.{Aliases}
 use Rattle.tsa_print.specs.Writable.{is_name, is_sound, are_sound}
 
 -- the name of a type can be a tag too

@@ -3,11 +3,11 @@ use Rattle.std.specs.Prelude.{◌≡◌, List, [], ◌∷◌, ◌++◌, Bool, tr
 use Rattle.std.specs.declared.option.Option.{Option}
 use Rattle.tsa_tree.specs.declared.expr.BinaryOp.{BinaryOp}
 use Rattle.tsa_tree.specs.declared.expr.BinaryOp.TheVariants as op
-use Rattle.tsa_tree.specs.Declarations.{Declaration}
-use Rattle.tsa_tree.specs.Expressions.{Identifier}
-use Rattle.tsa_tree.specs.Signs.{Aliases}
-use Rattle.tsa_tree.specs.Statements.{Simple, evaluation, assignment, ForInit, no_init, simple_init, local_init, Statement, block, empty, local, simple, if_alone, if_else, while_loop, do_loop, for_loop, switch, case, otherwise, label, break, continue, goto, return, Statements, none, more, ends_short}
-use Rattle.tsa_tree.specs.UnitItems.{UnitItem, structure_item, alias_item, enumeration_item, global_item, function_item, body_item, names_of_item}
+use Rattle.tsa_tree.specs.declarations.Syntax.{Declaration}
+use Rattle.tsa_tree.specs.expressions.Syntax.{Identifier}
+use Rattle.tsa_tree.specs.tokens.Signs.{Aliases}
+use Rattle.tsa_tree.specs.statements.Syntax.{Simple, evaluation, assignment, ForInit, no_init, simple_init, local_init, Statement, block, empty, local, simple, if_alone, if_else, while_loop, do_loop, for_loop, switch, case, otherwise, label, break, continue, goto, return, Statements, none, more, ends_short}
+use Rattle.tsa_tree.specs.units.Syntax.{UnitItem, structure_item, alias_item, enumeration_item, global_item, function_item, body_item, names_of_item}
 use Rattle.tsa_print.specs.Writable.{is_name}
 use Rattle.tsa_print.specs.SoundDeclarations.{is_tag_name, SoundExpression, SoundOptional, SoundAttributes, SoundType, SoundMembers, SoundGlobal, SoundLocal, SoundName, SoundHead, SoundConstants}
 

@@ -1,9 +1,9 @@
 -- Laws of the canonical text of units.
 use Rattle.std.specs.Prelude.{ℕ, ◌≡◌, List, [], Ok, map}
 use Rattle.tsa_base.specs.Tokens.{Lexeme, tokens_of}
-use Rattle.tsa_tree.specs.PlainItems.{plain_item}
-use Rattle.tsa_tree.specs.UnitAnswers.{Spells}
-use Rattle.tsa_tree.specs.UnitItems.{UnitItem}
+use Rattle.tsa_tree.specs.units.Plain.{plain_item}
+use Rattle.tsa_tree.specs.units.Answers.{Spells}
+use Rattle.tsa_tree.specs.units.Syntax.{UnitItem}
 use Rattle.tsa_forms.specs.Reading.{all}
 use Rattle.tsa_print.specs.SoundUnits.{SoundItems}
 use Rattle.tsa_print.specs.UnitBases.{HasPlainBases}

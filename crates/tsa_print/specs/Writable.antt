@@ -4,8 +4,8 @@ use Rattle.std.specs.List.{list_all, list_any}
 use Rattle.std.specs.Str.{bytes_eq}
 use Rattle.tsa_base.specs.Bytes.{is_letter, is_word_byte}
 use Rattle.tsa_base.specs.Words.{is_reserved}
-use Rattle.tsa_tree.specs.Expressions.{Expression, Arguments, number, null, named, call, unary, binary, field, index, none, more}
-use Rattle.tsa_tree.specs.Signs.{Aliases}
+use Rattle.tsa_tree.specs.expressions.Syntax.{Expression, Arguments, number, null, named, call, unary, binary, field, index, none, more}
+use Rattle.tsa_tree.specs.tokens.Signs.{Aliases}
 
 -- one word that is neither reserved nor the name of a type
 abbrev pub is_name : Aliases → List ℕ → Bool

@@ -1,8 +1,8 @@
 //! Arguments, names and attributes are put on a sheet.
 ghost use Rattle.std.specs.Prelude.{◌≡◌, OnOk};
 ghost use Rattle.std.specs.Option.{option_map};
-ghost use Rattle.tsa_tree.specs.Attributes.{attr_shape, attr_shapes};
-ghost use Rattle.tsa_tree.specs.Shapes.{name_shape, shapes};
+ghost use Rattle.tsa_tree.specs.attributes.Syntax.{attr_shape, attr_shapes};
+ghost use Rattle.tsa_tree.specs.expressions.Shapes.{name_shape, shapes};
 ghost use Rattle.tsa_print.specs.Canonical.{arguments, further};
 ghost use Rattle.tsa_print.specs.DeclarationPieces.{name_pieces, macro_word as spec_macro_word, taken, attribute_pieces, attributes_pieces};
 ghost use Rattle.tsa_print.specs.Sheets.{page_of, put};

@@ -1,12 +1,12 @@
 //! Items and whole units are written as canonical text.
 ghost use Rattle.std.specs.Prelude.{◌≡◌, ◌++◌, ◌∷◌, [], OnOk, IfOk};
 ghost use Rattle.std.specs.Option.{option_map};
-ghost use Rattle.tsa_tree.specs.Attributes.{attr_shapes};
-ghost use Rattle.tsa_tree.specs.Expressions.{nowhere};
-ghost use Rattle.tsa_tree.specs.ItemShapes.{type_shape, decl_shape, decl_shapes, param_shape, param_shapes, enumerator_shape, enumerator_shapes, head_shape};
-ghost use Rattle.tsa_tree.specs.Shapes.{name_shape, shape};
-ghost use Rattle.tsa_tree.specs.UnitShapes.{function_shape, item_shape, item_shapes};
-ghost use Rattle.tsa_tree.specs.UnitItems.{structure_item, alias_item, enumeration_item, global_item};
+ghost use Rattle.tsa_tree.specs.attributes.Syntax.{attr_shapes};
+ghost use Rattle.tsa_tree.specs.expressions.Syntax.{nowhere};
+ghost use Rattle.tsa_tree.specs.declarations.Shapes.{type_shape, decl_shape, decl_shapes, param_shape, param_shapes, enumerator_shape, enumerator_shapes, head_shape};
+ghost use Rattle.tsa_tree.specs.expressions.Shapes.{name_shape, shape};
+ghost use Rattle.tsa_tree.specs.units.Shapes.{function_shape, item_shape, item_shapes};
+ghost use Rattle.tsa_tree.specs.units.Syntax.{structure_item, alias_item, enumeration_item, global_item};
 ghost use Rattle.tsa_print.specs.Canonical.{mark};
 ghost use Rattle.tsa_print.specs.declared.mark.Mark.TheVariants as marks;
 ghost use Rattle.tsa_print.specs.DeclarationPieces.{name_pieces, parameter_pieces, further_parameters, parameters_pieces, head_pieces, value_pieces, constant_pieces, further_constants, constants_pieces, typedef_pieces};

@@ -1,7 +1,7 @@
 //! Expressions are written as canonical text.
 ghost use Rattle.std.specs.Prelude.{◌≡◌, ◌++◌, [], if◌then◌else◌, IfOk, OnOk};
-ghost use Rattle.tsa_tree.specs.Expressions.{call, unary, binary, field, index, nowhere};
-ghost use Rattle.tsa_tree.specs.Shapes.{name_shape, shape, shapes};
+ghost use Rattle.tsa_tree.specs.expressions.Syntax.{call, unary, binary, field, index, nowhere};
+ghost use Rattle.tsa_tree.specs.expressions.Shapes.{name_shape, shape, shapes};
 ghost use Rattle.tsa_print.specs.Canonical.{numeral, piece_text, operator_text as spec_operator_text, prefix_text as spec_prefix_text, pieces, arguments, written, canonical};
 
 use itoa::Buffer;

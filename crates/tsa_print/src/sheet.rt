@@ -1,7 +1,7 @@
 //! The sheet on which canonical text is written, token by token.
 ghost use Rattle.std.specs.Prelude.{◌≡◌, ◌++◌, [], OnOk, IfOk, false};
 ghost use Rattle.tsa_print.specs.declared.sheet.Behind.TheVariants.{LineStart};
-ghost use Rattle.tsa_tree.specs.Shapes.{shape};
+ghost use Rattle.tsa_tree.specs.expressions.Shapes.{shape};
 ghost use Rattle.tsa_print.specs.Canonical.{word, numeral, quoted, assigned, assign_text, mark, pieces};
 ghost use Rattle.tsa_print.specs.Layout.{indentation, levels_behind, behind_of};
 ghost use Rattle.tsa_print.specs.Sheets.{page_of, put, put_one, lead_by};

@@ -1,11 +1,11 @@
 //! Statements are put on a sheet.
 ghost use Rattle.std.specs.Prelude.{◌≡◌, ◌++◌, ◌∷◌, [], OnOk, codes};
 ghost use Rattle.std.specs.Option.{option_map};
-ghost use Rattle.tsa_tree.specs.Expressions.{nowhere};
-ghost use Rattle.tsa_tree.specs.ItemShapes.{decl_shape};
-ghost use Rattle.tsa_tree.specs.Shapes.{shape};
-ghost use Rattle.tsa_tree.specs.Statements.{assignment, do_loop};
-ghost use Rattle.tsa_tree.specs.StatementShapes.{init_given, step_given, stmt_shape, stmt_shapes};
+ghost use Rattle.tsa_tree.specs.expressions.Syntax.{nowhere};
+ghost use Rattle.tsa_tree.specs.declarations.Shapes.{decl_shape};
+ghost use Rattle.tsa_tree.specs.expressions.Shapes.{shape};
+ghost use Rattle.tsa_tree.specs.statements.Syntax.{assignment, do_loop};
+ghost use Rattle.tsa_tree.specs.statements.Shapes.{init_given, step_given, stmt_shape, stmt_shapes};
 ghost use Rattle.tsa_print.specs.Canonical.{word, pieces, mark};
 ghost use Rattle.tsa_print.specs.declared.mark.Mark.TheVariants as marks;
 ghost use Rattle.tsa_print.specs.UnitPieces.{simple_pieces, optional_pieces, test_pieces, for_init_pieces, for_step_pieces, statement_pieces, statements_pieces};

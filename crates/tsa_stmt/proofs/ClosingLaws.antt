@@ -13,13 +13,13 @@ use Rattle.tsa_tree.specs.declared.stmt.Stmt.{Stmt}
 use Rattle.tsa_tree.specs.declared.stmt.StmtKind.{StmtKind, Row_of-Stmt, end_of-Stmt, more_of-Stmt, items-the_row-Stmt, items_hidden-the_row-Stmt-0}
 use Rattle.tsa_tree.specs.declared.stmt.StmtKind.TheVariants as kind
 use Rattle.tsa_tree.specs.declared.stmt.StmtKind.TheVariants.{Local, Eval, Assign, Block'}
-use Rattle.tsa_tree.specs.Expressions.{Expression}
-use Rattle.tsa_tree.specs.Points.{PlacedDeed, tests, points_of, points_of_init, points_of_step, point_of_test, point_of_for}
+use Rattle.tsa_tree.specs.expressions.Syntax.{Expression}
+use Rattle.tsa_tree.specs.points.Syntax.{PlacedDeed, tests, points_of, points_of_init, points_of_step, point_of_test, point_of_for}
 use Rattle.tsa_tree.specs.Rows.{a_keyword, a_semicolon}
-use Rattle.tsa_tree.specs.Shapes.{shape}
-use Rattle.tsa_tree.specs.Signs.{Aliases, span_at, span_over}
-use Rattle.tsa_tree.specs.Statements.{Statement, do_loop, block, more}
-use Rattle.tsa_tree.specs.StatementShapes.{stmt_shape, stmt_shapes, stmt_row_shape, point_shape, IsNumbered, AreNumbered, AreNumberedInRow, init_of, step_of, counted, is_part}
+use Rattle.tsa_tree.specs.expressions.Shapes.{shape}
+use Rattle.tsa_tree.specs.tokens.Signs.{Aliases, span_at, span_over}
+use Rattle.tsa_tree.specs.statements.Syntax.{Statement, do_loop, block, more}
+use Rattle.tsa_tree.specs.statements.Shapes.{stmt_shape, stmt_shapes, stmt_row_shape, point_shape, IsNumbered, AreNumbered, AreNumberedInRow, init_of, step_of, counted, is_part}
 use Rattle.tsa_expr.specs.declared.refusal.SyntaxRefusal.{SyntaxRefusal}
 use Rattle.tsa_expr.specs.Gives.{Fails}
 use Rattle.tsa_expr.proofs.Answering.{fails_then, fails_same}

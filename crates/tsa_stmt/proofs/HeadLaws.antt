@@ -13,14 +13,14 @@ use Rattle.tsa_tree.specs.declared.sign.Sign.TheVariants as sign
 use Rattle.tsa_tree.specs.declared.stmt.Action.TheVariants.{Test, Switch}
 use Rattle.tsa_tree.specs.declared.stmt.Point.{Point}
 use Rattle.tsa_tree.specs.declared.stmt.Stmt.{Stmt}
-use Rattle.tsa_tree.specs.Expressions.{Expression}
-use Rattle.tsa_tree.specs.Points.{switches, point_of_test, point_of_for, points_of_init, points_of_step, expression_span}
+use Rattle.tsa_tree.specs.expressions.Syntax.{Expression}
+use Rattle.tsa_tree.specs.points.Syntax.{switches, point_of_test, point_of_for, points_of_init, points_of_step, expression_span}
 use Rattle.tsa_tree.specs.Reads.{read}
 use Rattle.tsa_tree.specs.Rows.{an_expression, a_for_init, a_statement, expression, for_init, statement, a_colon, sees}
-use Rattle.tsa_tree.specs.Shapes.{name_shape, shape}
-use Rattle.tsa_tree.specs.Signs.{Aliases, sign_at, identifier_at, span_over}
-use Rattle.tsa_tree.specs.Statements.{ForInit, label}
-use Rattle.tsa_tree.specs.StatementShapes.{point_shape}
+use Rattle.tsa_tree.specs.expressions.Shapes.{name_shape, shape}
+use Rattle.tsa_tree.specs.tokens.Signs.{Aliases, sign_at, identifier_at, span_over}
+use Rattle.tsa_tree.specs.statements.Syntax.{ForInit, label}
+use Rattle.tsa_tree.specs.statements.Shapes.{point_shape}
 use Rattle.tsa_expr.specs.declared.refusal.SyntaxRefusal.{SyntaxRefusal}
 use Rattle.tsa_expr.specs.Gives.{Fails}
 use Rattle.tsa_expr.proofs.Answering.{fails_then, fails_same}

@@ -5,10 +5,10 @@ use Rattle.tsa_forms.specs.Form.{done}
 use Rattle.tsa_forms.specs.Reading.{then, choose}
 use Rattle.tsa_tree.specs.declared.sign.Keyword.TheVariants as key
 use Rattle.tsa_tree.specs.declared.sign.Sign.TheVariants as sign
-use Rattle.tsa_tree.specs.Expressions.{Expression}
+use Rattle.tsa_tree.specs.expressions.Syntax.{Expression}
 use Rattle.tsa_tree.specs.Rows.{a_keyword, sees, body, if_end}
-use Rattle.tsa_tree.specs.Signs.{Aliases, sign_at, span_over}
-use Rattle.tsa_tree.specs.Statements.{Statement, if_alone, if_else}
+use Rattle.tsa_tree.specs.tokens.Signs.{Aliases, sign_at, span_over}
+use Rattle.tsa_tree.specs.statements.Syntax.{Statement, if_alone, if_else}
 use Rattle.tsa_attr.proofs.Joining.{then-same}
 use Rattle.tsa_leaf.specs.Outcomes.{test_at, body_at}
 use Rattle.tsa_leaf.proofs.RowLaws.{going, stmt, again, row_is, word_is, test_is as test_row, body_is as body_row}

@@ -8,12 +8,12 @@ use Rattle.tsa_tree.specs.declared.sign.Keyword.{Keyword}
 use Rattle.tsa_tree.specs.declared.sign.Keyword.TheVariants as key
 use Rattle.tsa_tree.specs.declared.sign.Sign.{Sign}
 use Rattle.tsa_tree.specs.declared.sign.Sign.TheVariants as sign
-use Rattle.tsa_tree.specs.Expressions.{Identifier}
+use Rattle.tsa_tree.specs.expressions.Syntax.{Identifier}
 use Rattle.tsa_tree.specs.Reads.{read}
 use Rattle.tsa_tree.specs.Rows.{an_expression, a_simple, expression, simple, a_name, a_semicolon, a_colon, sees, mark, simple_statement}
-use Rattle.tsa_tree.specs.Signs.{Aliases, sign_at, span_over, identifier_at, begins_statement}
-use Rattle.tsa_tree.specs.Statements.{Statement, empty, break, continue, goto, return, spanning, label}
-use Rattle.tsa_tree.specs.Statements as plain
+use Rattle.tsa_tree.specs.tokens.Signs.{Aliases, sign_at, span_over, identifier_at, begins_statement}
+use Rattle.tsa_tree.specs.statements.Syntax.{Statement, empty, break, continue, goto, return, spanning, label}
+use Rattle.tsa_tree.specs.statements.Syntax as plain
 use Rattle.tsa_attr.proofs.Joining.{then-then, then-same, then-choose, then-ok}
 use Rattle.tsa_decl.specs.Outcomes.{one_token, name_at}
 use Rattle.tsa_leaf.specs.Outcomes.{simple_at, simple_statement_at, closed_at, goto_at, return_at, value_or_none_at, body_at}

@@ -11,13 +11,13 @@ use Rattle.tsa_tree.specs.declared.sign.Sign.{Sign}
 use Rattle.tsa_tree.specs.declared.sign.Sign.TheVariants as sign
 use Rattle.tsa_tree.specs.declared.stmt.Point.{Point}
 use Rattle.tsa_tree.specs.declared.stmt.StmtKind.TheVariants.{Break, Continue}
-use Rattle.tsa_tree.specs.Expressions.{Expression}
+use Rattle.tsa_tree.specs.expressions.Syntax.{Expression}
 use Rattle.tsa_tree.specs.Reads.{read}
 use Rattle.tsa_tree.specs.Rows.{a_statement, statement, mark}
-use Rattle.tsa_tree.specs.Shapes.{name_shape}
-use Rattle.tsa_tree.specs.Signs.{Aliases, sign_at, identifier_at}
-use Rattle.tsa_tree.specs.Statements as plain
-use Rattle.tsa_tree.specs.StatementShapes.{stmt_shape}
+use Rattle.tsa_tree.specs.expressions.Shapes.{name_shape}
+use Rattle.tsa_tree.specs.tokens.Signs.{Aliases, sign_at, identifier_at}
+use Rattle.tsa_tree.specs.statements.Syntax as plain
+use Rattle.tsa_tree.specs.statements.Shapes.{stmt_shape}
 use Rattle.tsa_expr.specs.declared.refusal.SyntaxRefusal.{SyntaxRefusal}
 use Rattle.tsa_expr.specs.Gives.{Fails, Gives}
 use Rattle.tsa_expr.proofs.Answering.{fails_then, fails_same, gives_same}

@@ -8,12 +8,12 @@ use Rattle.tsa_tree.specs.declared.sign.Keyword.TheVariants as key
 use Rattle.tsa_tree.specs.declared.sign.Sign.TheVariants as sign
 use Rattle.tsa_tree.specs.declared.stmt.Point.{Point}
 use Rattle.tsa_tree.specs.declared.stmt.Stmt.{Stmt}
-use Rattle.tsa_tree.specs.Expressions.{Expression}
+use Rattle.tsa_tree.specs.expressions.Syntax.{Expression}
 use Rattle.tsa_tree.specs.Reads.{read}
 use Rattle.tsa_tree.specs.Rows.{a_statement, some_statements, statement, statements, a_keyword, a_close_brace, sees}
-use Rattle.tsa_tree.specs.Signs.{Aliases, sign_at, span_over, begins_statement, begins_type}
-use Rattle.tsa_tree.specs.Statements.{Statement, Statements, block}
-use Rattle.tsa_tree.specs.StatementShapes.{stmt_shape, stmt_shapes, point_shape}
+use Rattle.tsa_tree.specs.tokens.Signs.{Aliases, sign_at, span_over, begins_statement, begins_type}
+use Rattle.tsa_tree.specs.statements.Syntax.{Statement, Statements, block}
+use Rattle.tsa_tree.specs.statements.Shapes.{stmt_shape, stmt_shapes, point_shape}
 use Rattle.tsa_expr.specs.declared.refusal.SyntaxRefusal.{SyntaxRefusal}
 use Rattle.tsa_expr.specs.Gives.{Fails, Gives}
 use Rattle.tsa_expr.proofs.Answering.{fails_then, fails_same, gives_same, in_limit, over_limit}

@@ -8,13 +8,13 @@ use Rattle.tsa_tree.specs.declared.sign.Keyword.TheVariants as key
 use Rattle.tsa_tree.specs.declared.stmt.Point.{Point}
 use Rattle.tsa_tree.specs.declared.stmt.Stmt.{Stmt}
 use Rattle.tsa_tree.specs.declared.stmt.StmtKind.TheVariants as kind
-use Rattle.tsa_tree.specs.Expressions.{Expression}
-use Rattle.tsa_tree.specs.Points.{switches, point_of_test, point_of_for, points_of_init, points_of_step, expression_span}
+use Rattle.tsa_tree.specs.expressions.Syntax.{Expression}
+use Rattle.tsa_tree.specs.points.Syntax.{switches, point_of_test, point_of_for, points_of_init, points_of_step, expression_span}
 use Rattle.tsa_tree.specs.Rows.{a_keyword, a_semicolon, sees}
-use Rattle.tsa_tree.specs.Shapes.{name_shape, shape}
-use Rattle.tsa_tree.specs.Signs.{Aliases, span_over}
-use Rattle.tsa_tree.specs.Statements.{Statement, while_loop, do_loop, for_loop, switch, case, otherwise, label, if_alone, if_else}
-use Rattle.tsa_tree.specs.StatementShapes.{stmt_shape, point_shape}
+use Rattle.tsa_tree.specs.expressions.Shapes.{name_shape, shape}
+use Rattle.tsa_tree.specs.tokens.Signs.{Aliases, span_over}
+use Rattle.tsa_tree.specs.statements.Syntax.{Statement, while_loop, do_loop, for_loop, switch, case, otherwise, label, if_alone, if_else}
+use Rattle.tsa_tree.specs.statements.Shapes.{stmt_shape, point_shape}
 use Rattle.tsa_forms.specs.Reading.{Outcome, then, choose}
 use Rattle.tsa_decl.specs.Outcomes.{one_token}
 use Rattle.tsa_stmt.specs.declared.heads.Head.{Head}

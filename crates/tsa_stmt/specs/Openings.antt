@@ -5,8 +5,8 @@ use Rattle.tsa_tree.specs.declared.sign.Keyword.{Keyword}
 use Rattle.tsa_tree.specs.declared.sign.Keyword.TheVariants as key
 use Rattle.tsa_tree.specs.Reads.{read}
 use Rattle.tsa_tree.specs.Rows.{some_statements, statements}
-use Rattle.tsa_tree.specs.Signs.{Aliases, span_over}
-use Rattle.tsa_tree.specs.Statements.{Statement, block}
+use Rattle.tsa_tree.specs.tokens.Signs.{Aliases, span_over}
+use Rattle.tsa_tree.specs.statements.Syntax.{Statement, block}
 use Rattle.tsa_forms.specs.Reading.{Outcome, then}
 use Rattle.tsa_decl.specs.Outcomes.{opening_brace}
 use Rattle.tsa_stmt.specs.Heads.{do_end_at}

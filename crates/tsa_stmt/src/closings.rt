@@ -2,10 +2,10 @@
 ghost use Rattle.std.specs.Prelude.{◌≡◌, ◌≤◌, ◌<◌, List, length, IfOk};
 ghost use Rattle.tsa_tree.specs.declared.stmt.Point.{Point as point_type};
 ghost use Rattle.tsa_base.specs.declared.token.Span.{Span as span_type};
-ghost use Rattle.tsa_tree.specs.Shapes.{shape};
-ghost use Rattle.tsa_tree.specs.Signs.{span_at as spec_span, span_over as spec_over};
-ghost use Rattle.tsa_tree.specs.Statements.{block};
-ghost use Rattle.tsa_tree.specs.StatementShapes.{stmt_shape, stmt_shapes};
+ghost use Rattle.tsa_tree.specs.expressions.Shapes.{shape};
+ghost use Rattle.tsa_tree.specs.tokens.Signs.{span_at as spec_span, span_over as spec_over};
+ghost use Rattle.tsa_tree.specs.statements.Syntax.{block};
+ghost use Rattle.tsa_tree.specs.statements.Shapes.{stmt_shape, stmt_shapes};
 ghost use Rattle.tsa_expr.specs.Source.{input, named};
 ghost use Rattle.tsa_expr.specs.Gives.{Gives};
 ghost use Rattle.tsa_stmt.specs.Heads.{IsMarked, IsOpened, do_end_at, ended as spec_ended, ended_with, if_with};

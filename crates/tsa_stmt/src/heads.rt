@@ -1,11 +1,11 @@
 //! What stands before the body of a statement is read, with its points (C11 6.8.1, 6.8.4, 6.8.5).
 ghost use Rattle.std.specs.Prelude.{◌≡◌, ◌+◌, ◌≤◌, ◌<◌, ◌++◌, ◌∷◌, [], length, map, IfOk};
-ghost use Rattle.tsa_tree.specs.Points.{point_of_test};
+ghost use Rattle.tsa_tree.specs.points.Syntax.{point_of_test};
 ghost use Rattle.tsa_tree.specs.Reads.{read};
 ghost use Rattle.tsa_tree.specs.Rows.{a_statement, statement as statement_call};
-ghost use Rattle.tsa_tree.specs.Shapes.{shape};
-ghost use Rattle.tsa_tree.specs.Signs.{sign_at as spec_sign, span_at as spec_span};
-ghost use Rattle.tsa_tree.specs.StatementShapes.{point_shape};
+ghost use Rattle.tsa_tree.specs.expressions.Shapes.{shape};
+ghost use Rattle.tsa_tree.specs.tokens.Signs.{sign_at as spec_sign, span_at as spec_span};
+ghost use Rattle.tsa_tree.specs.statements.Shapes.{point_shape};
 ghost use Rattle.tsa_expr.specs.Source.{input, named};
 ghost use Rattle.tsa_expr.specs.Gives.{Gives, Leads};
 ghost use Rattle.tsa_leaf.specs.Outcomes.{test_at};

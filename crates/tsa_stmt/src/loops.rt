@@ -1,9 +1,9 @@
 //! The point of a `for`, which it has without a test too.
 ghost use Rattle.std.specs.Prelude.{◌≡◌, ◌++◌, ◌∷◌, [], length, map, option_map, Err, IfOk, OnOk, OnErr};
-ghost use Rattle.tsa_tree.specs.Points.{point_of_for};
-ghost use Rattle.tsa_tree.specs.Shapes.{shape};
-ghost use Rattle.tsa_tree.specs.Signs.{span_at as spec_span};
-ghost use Rattle.tsa_tree.specs.StatementShapes.{point_shape};
+ghost use Rattle.tsa_tree.specs.points.Syntax.{point_of_for};
+ghost use Rattle.tsa_tree.specs.expressions.Shapes.{shape};
+ghost use Rattle.tsa_tree.specs.tokens.Signs.{span_at as spec_span};
+ghost use Rattle.tsa_tree.specs.statements.Shapes.{point_shape};
 ghost use Rattle.tsa_expr.specs.Source.{input};
 
 use crate::text::TextReader;

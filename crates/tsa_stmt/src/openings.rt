@@ -2,7 +2,7 @@
 ghost use Rattle.std.specs.Prelude.{◌≡◌, ◌≤◌, ◌<◌, length, true, IfOk};
 ghost use Rattle.tsa_tree.specs.Reads.{read};
 ghost use Rattle.tsa_tree.specs.Rows.{a_statement, statement as statement_call};
-ghost use Rattle.tsa_tree.specs.Signs.{sign_at as spec_sign, span_at as spec_span};
+ghost use Rattle.tsa_tree.specs.tokens.Signs.{sign_at as spec_sign, span_at as spec_span};
 ghost use Rattle.tsa_expr.specs.Source.{input, named};
 ghost use Rattle.tsa_expr.specs.Gives.{Gives, Leads};
 ghost use Rattle.tsa_stmt.specs.Heads.{IsOpened, ended_at, seen_head};

@@ -1,12 +1,12 @@
 -- Each item of a unit has a token of its own at least, so a unit has no more items than tokens.
 use Rattle.std.proofs.Common.{ℕ, ◌+◌, ◌<◌, ◌≤◌, Bool, List, length, Option, arith}
 use Rattle.tsa_base.specs.Tokens.{Lexeme}
-use Rattle.tsa_tree.specs.Declarations.{Base, Specified, Initialiser, Initialisers, Declaration, Declarator}
-use Rattle.tsa_tree.specs.DeclarationSpelling.{Role, IsConsts, no_const, of_const, IsBase, of_int, of_unsigned, of_unsigned_int, of_signed, of_signed_int, of_void, of_struct, of_enum, of_alias, IsSpecifier, of_specifier, IsStar, no_star, of_star, of_const_star, IsDeclarator, of_declarator, IsLength, no_length, of_length, IsInitialiser, of_value, of_no_values, of_values, IsInitialisers, of_last_value, of_value_and_comma, of_further_value, IsInit, no_init, of_init, IsRest, of_rest, IsDeclarators, of_last_declarator, of_further_declarator, IsMembers, no_member, of_members, IsVariable, of_unset, of_set, IsVariables, of_last_variable, of_further_variable, IsLocals, of_locals, of_one_local}
-use Rattle.tsa_tree.specs.Expressions.{Expression}
-use Rattle.tsa_tree.specs.Signs.{Aliases}
-use Rattle.tsa_tree.proofs.Ahead.{ahead-expression}
-use Rattle.tsa_tree.proofs.AttributesAhead.{ahead-attributes}
+use Rattle.tsa_tree.specs.declarations.Syntax.{Base, Specified, Initialiser, Initialisers, Declaration, Declarator}
+use Rattle.tsa_tree.specs.declarations.Spelling.{Role, IsConsts, no_const, of_const, IsBase, of_int, of_unsigned, of_unsigned_int, of_signed, of_signed_int, of_void, of_struct, of_enum, of_alias, IsSpecifier, of_specifier, IsStar, no_star, of_star, of_const_star, IsDeclarator, of_declarator, IsLength, no_length, of_length, IsInitialiser, of_value, of_no_values, of_values, IsInitialisers, of_last_value, of_value_and_comma, of_further_value, IsInit, no_init, of_init, IsRest, of_rest, IsDeclarators, of_last_declarator, of_further_declarator, IsMembers, no_member, of_members, IsVariable, of_unset, of_set, IsVariables, of_last_variable, of_further_variable, IsLocals, of_locals, of_one_local}
+use Rattle.tsa_tree.specs.expressions.Syntax.{Expression}
+use Rattle.tsa_tree.specs.tokens.Signs.{Aliases}
+use Rattle.tsa_tree.proofs.expressions.Ahead.{ahead-expression}
+use Rattle.tsa_tree.proofs.attributes.Ahead.{ahead-attributes}
 
 module _ {tokens : List Lexeme} {aliases : Aliases} where
   ahead-consts : {c : Bool} {a b : ℕ} → IsConsts tokens aliases c a b → a ≤ b

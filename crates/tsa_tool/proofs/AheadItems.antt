@@ -4,18 +4,18 @@ use Rattle.std.proofs.lemmas.List.{length-map, length-append}
 use Rattle.tsa_base.specs.declared.limits.TheConstants.{INPUT_LIMIT}
 use Rattle.tsa_base.specs.Tokens.{Lexeme}
 use Rattle.tsa_tree.specs.declared.item.Item.{Item}
-use Rattle.tsa_tree.specs.Declarations.{Parameter, EnumConstant, Signature, StructBody, Head}
-use Rattle.tsa_tree.specs.Expressions.{Identifier, Expression}
-use Rattle.tsa_tree.specs.ItemSpelling.{IsParameter, of_named, of_unnamed, IsParameterList, of_last_parameter, of_further_parameter, IsParameters, no_parameter, of_lone_void, of_parameters, IsStorage, no_storage, of_storage, IsTag, no_tag, of_tag, IsSignature, of_signature, IsHead, of_head, IsStructBody, of_struct_body, IsConstant, of_name_alone, of_name_and_value, IsConstants, of_last_constant, of_constant_and_comma, of_further_constant, IsEnumBody, of_enum_body, IsItem, of_structure, of_tag_alone, of_structure_alias, of_enumeration, of_enumeration_alias, of_alias_item, of_globals, of_function, of_body_item}
-use Rattle.tsa_tree.specs.Signs.{Aliases}
-use Rattle.tsa_tree.specs.Statements.{Simple, ForInit, Statement, Statements}
-use Rattle.tsa_tree.specs.StatementSpelling.{IsSimple, of_evaluation, of_assignment, of_step_behind, of_step_before, IsOptional, no_expression, an_expression, IsTest, of_test, IsForInit, of_no_init, of_simple_init, of_local_init, IsForStep, of_no_step, of_step, IsStatement, of_block, of_empty, of_simple, of_if, of_if_else, of_while, of_do, of_for, of_switch, of_case, of_default, of_label, of_break, of_continue, of_goto, of_return, IsBody, of_body, IsStatements, no_statement, of_locals_first, of_statement_first}
-use Rattle.tsa_tree.specs.UnitItems.{UnitItem, global_item}
-use Rattle.tsa_tree.specs.UnitShapes.{item_shape}
-use Rattle.tsa_tree.specs.UnitSpelling.{IsItems, no_items, of_items}
-use Rattle.tsa_tree.specs.WellRead.{IsWellRead}
-use Rattle.tsa_tree.proofs.Ahead.{ahead-expression, ahead-unary}
-use Rattle.tsa_tree.proofs.AttributesAhead.{ahead-attributes}
+use Rattle.tsa_tree.specs.declarations.Syntax.{Parameter, EnumConstant, Signature, StructBody, Head}
+use Rattle.tsa_tree.specs.expressions.Syntax.{Identifier, Expression}
+use Rattle.tsa_tree.specs.declarations.ItemSpelling.{IsParameter, of_named, of_unnamed, IsParameterList, of_last_parameter, of_further_parameter, IsParameters, no_parameter, of_lone_void, of_parameters, IsStorage, no_storage, of_storage, IsTag, no_tag, of_tag, IsSignature, of_signature, IsHead, of_head, IsStructBody, of_struct_body, IsConstant, of_name_alone, of_name_and_value, IsConstants, of_last_constant, of_constant_and_comma, of_further_constant, IsEnumBody, of_enum_body, IsItem, of_structure, of_tag_alone, of_structure_alias, of_enumeration, of_enumeration_alias, of_alias_item, of_globals, of_function, of_body_item}
+use Rattle.tsa_tree.specs.tokens.Signs.{Aliases}
+use Rattle.tsa_tree.specs.statements.Syntax.{Simple, ForInit, Statement, Statements}
+use Rattle.tsa_tree.specs.statements.Spelling.{IsSimple, of_evaluation, of_assignment, of_step_behind, of_step_before, IsOptional, no_expression, an_expression, IsTest, of_test, IsForInit, of_no_init, of_simple_init, of_local_init, IsForStep, of_no_step, of_step, IsStatement, of_block, of_empty, of_simple, of_if, of_if_else, of_while, of_do, of_for, of_switch, of_case, of_default, of_label, of_break, of_continue, of_goto, of_return, IsBody, of_body, IsStatements, no_statement, of_locals_first, of_statement_first}
+use Rattle.tsa_tree.specs.units.Syntax.{UnitItem, global_item}
+use Rattle.tsa_tree.specs.units.Shapes.{item_shape}
+use Rattle.tsa_tree.specs.units.Spelling.{IsItems, no_items, of_items}
+use Rattle.tsa_tree.specs.units.WellRead.{IsWellRead}
+use Rattle.tsa_tree.proofs.expressions.Ahead.{ahead-expression, ahead-unary}
+use Rattle.tsa_tree.proofs.attributes.Ahead.{ahead-attributes}
 use Rattle.tsa_tool.proofs.Ahead.{ahead-specifier, ahead-star, ahead-declarator, ahead-declarators, ahead-members, ahead-variable, ahead-locals}
 
 module _ {tokens : List Lexeme} {aliases : Aliases} {fits : ℕ → Bool} where

@@ -5,11 +5,11 @@ use Rattle.tsa_base.specs.Numbers.{number_of}
 use Rattle.tsa_base.specs.Words.{keywords, macro_words, reserved, is_reserved}
 use Rattle.tsa_base.specs.Places.{line_at, column_at}
 use Rattle.tsa_base.specs.Spans.{span_text}
-use Rattle.tsa_tree.specs.Signs.{meaning_at, meaning_of, attribute_names, bare_name, is_word_at, punctuator_signs, word_signs, word_sign, punctuator_sign, sign_of, sign_at, span_at, span_over, identifier_at, value_at, unsigned_at}
+use Rattle.tsa_tree.specs.tokens.Signs.{meaning_at, meaning_of, attribute_names, bare_name, is_word_at, punctuator_signs, word_signs, word_sign, punctuator_sign, sign_of, sign_at, span_at, span_over, identifier_at, value_at, unsigned_at}
 use Rattle.tsa_tree.specs.Reads.{read}
-use Rattle.tsa_tree.specs.UnitAnswers.{read_unit}
+use Rattle.tsa_tree.specs.units.Answers.{read_unit}
 use Rattle.tsa_forms.specs.Reading.{then, choose, measure, run_in, run}
-use Rattle.tsa_tree.specs.Attributes.{try_value}
+use Rattle.tsa_tree.specs.attributes.Syntax.{try_value}
 use Rattle.tsa_unit.specs.Parsing.{unit_of}
 use Rattle.tsa_tool.specs.Checks.{tree_in, items_in, judged_items, warned_in}
 use Rattle.tsa_tool.specs.CheckExamples.{ChecksAreAsWritten}

@@ -4,11 +4,11 @@ use Rattle.std.specs.Prelude.{is_none, option_map, option_and_then}
 use Rattle.tsa_base.specs.declared.token.Span.{Span}
 use Rattle.tsa_tree.specs.declared.expr.BinaryOp.{BinaryOp}
 use Rattle.tsa_tree.specs.declared.expr.UnaryOp.TheVariants.{Address}
-use Rattle.tsa_tree.specs.Attributes.{Attribute}
-use Rattle.tsa_tree.specs.Declarations.{Base, int, void, structure, DeclaredType, Declaration, Parameter, Head}
-use Rattle.tsa_tree.specs.Expressions.{Identifier, Expression, named, call, unary, none as no_arguments, more as and_argument}
-use Rattle.tsa_tree.specs.Statements.{Statement, Statements, Simple, simple, evaluation, assignment, none, more}
-use Rattle.tsa_tree.specs.UnitItems.{UnitItem, structure_item, global_item, function_item, body_item}
+use Rattle.tsa_tree.specs.attributes.Syntax.{Attribute}
+use Rattle.tsa_tree.specs.declarations.Syntax.{Base, int, void, structure, DeclaredType, Declaration, Parameter, Head}
+use Rattle.tsa_tree.specs.expressions.Syntax.{Identifier, Expression, named, call, unary, none as no_arguments, more as and_argument}
+use Rattle.tsa_tree.specs.statements.Syntax.{Statement, Statements, Simple, simple, evaluation, assignment, none, more}
+use Rattle.tsa_tree.specs.units.Syntax.{UnitItem, structure_item, global_item, function_item, body_item}
 use Rattle.tsa_tool.specs.declared.thin.ThinStep.{ThinStep}
 use Rattle.tsa_tool.specs.declared.thin.ThinStep.TheVariants.{Call, Assign}
 use Rattle.tsa_tool.specs.Items.{Item, lock, lock_function, mutex, number, body}

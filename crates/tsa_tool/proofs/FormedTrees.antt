@@ -5,9 +5,9 @@ use Rattle.tsa_base.specs.declared.token.Span.{Span}
 use Rattle.tsa_tree.specs.declared.attr.AttrKind.{AttrKind}
 use Rattle.tsa_tree.specs.declared.attr.AttrKind.TheVariants.{Capability, GuardedBy, Acquire, Release}
 use Rattle.tsa_tree.specs.declared.expr.UnaryOp.TheVariants.{Address}
-use Rattle.tsa_tree.specs.Attributes.{Attribute}
-use Rattle.tsa_tree.specs.Declarations.{Base, int, void, structure, DeclaredType}
-use Rattle.tsa_tree.specs.Expressions.{Identifier, Expression, Arguments, number as numeral, named, unary, none as no_arguments, more as and_argument}
+use Rattle.tsa_tree.specs.attributes.Syntax.{Attribute}
+use Rattle.tsa_tree.specs.declarations.Syntax.{Base, int, void, structure, DeclaredType}
+use Rattle.tsa_tree.specs.expressions.Syntax.{Identifier, Expression, Arguments, number as numeral, named, unary, none as no_arguments, more as and_argument}
 use Rattle.tsa_tool.specs.Trees as tree
 use Rattle.tsa_tool.specs.Trees.{◌>>=◌}
 use Rattle.tsa_tool.specs.ThinTrees.{bare, pointer_to, naming, lock_kind, IsGuard, no_guard, of_guard}

@@ -2,12 +2,12 @@
 use Rattle.std.proofs.Common.{ℕ, ◌≡◌, ◌∙◌, ap, sym, subst, refl, List, [], Option, Some, None, Result, Ok, Err, length}
 use Rattle.tsa_base.specs.Tokens.{BadByte, Lexeme, tokens_of}
 use Rattle.tsa_forms.specs.Reading.{Outcome, all}
-use Rattle.tsa_tree.specs.Expressions.{Identifier}
-use Rattle.tsa_tree.specs.UnitAnswers.{Spells, IsAnswer, read_unit}
-use Rattle.tsa_tree.specs.UnitItems.{UnitItem}
-use Rattle.tsa_tree.specs.UnitLimits.{past_functions, past_points}
-use Rattle.tsa_tree.specs.UnitSpelling.{IsItems}
-use Rattle.tsa_tree.proofs.UnitLaws.{an_answer}
+use Rattle.tsa_tree.specs.expressions.Syntax.{Identifier}
+use Rattle.tsa_tree.specs.units.Answers.{Spells, IsAnswer, read_unit}
+use Rattle.tsa_tree.specs.units.Syntax.{UnitItem}
+use Rattle.tsa_tree.specs.units.Limits.{past_functions, past_points}
+use Rattle.tsa_tree.specs.units.Spelling.{IsItems}
+use Rattle.tsa_tree.proofs.units.Laws.{an_answer}
 use Rattle.tsa_expr.specs.declared.refusal.SyntaxRefusal.{SyntaxRefusal}
 use Rattle.tsa_unit.specs.Parsing.{within_points, within_limits, parsed_of, unit_of}
 use Rattle.tsa_unit.proofs.ParsedLaws.{Unlimited, unlimited}

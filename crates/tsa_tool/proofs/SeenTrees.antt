@@ -1,9 +1,9 @@
 -- A tree of the thin language is seen as what its forms say.
 use Rattle.std.proofs.Common.{◌≡◌, true, false, List, Option, Some, refl}
 use Rattle.tsa_base.specs.declared.token.Span.{Span}
-use Rattle.tsa_tree.specs.Attributes.{Attribute}
-use Rattle.tsa_tree.specs.Statements.{Statement, Statements}
-use Rattle.tsa_tree.specs.UnitItems.{UnitItem}
+use Rattle.tsa_tree.specs.attributes.Syntax.{Attribute}
+use Rattle.tsa_tree.specs.statements.Syntax.{Statement, Statements}
+use Rattle.tsa_tree.specs.units.Syntax.{UnitItem}
 use Rattle.tsa_tool.specs.declared.thin.ThinStep.{ThinStep}
 use Rattle.tsa_tool.specs.Items.{Item}
 use Rattle.tsa_tool.specs.Trees.{step_in, steps_in, guard_in, item_in, thin_of}

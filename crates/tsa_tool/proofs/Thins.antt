@@ -6,9 +6,9 @@ use Rattle.tsa_tree.specs.declared.item.Item.{Item as ItemTree}
 use Rattle.tsa_tree.specs.declared.stmt.Stmt.{Stmt}
 use Rattle.tsa_tree.specs.declared.stmt.Point.{Point}
 use Rattle.tsa_tree.specs.declared.expr.Expr.{Expr}
-use Rattle.tsa_tree.specs.Shapes.{shapes}
-use Rattle.tsa_tree.specs.StatementShapes.{stmt_shape, stmt_shapes}
-use Rattle.tsa_tree.specs.UnitShapes.{end_of, item_shape, item_shapes}
+use Rattle.tsa_tree.specs.expressions.Shapes.{shapes}
+use Rattle.tsa_tree.specs.statements.Shapes.{stmt_shape, stmt_shapes}
+use Rattle.tsa_tree.specs.units.Shapes.{end_of, item_shape, item_shapes}
 use Rattle.tsa_tool.specs.declared.thin.ThinStep.{ThinStep}
 use Rattle.tsa_tool.specs.Items.{Item}
 use Rattle.tsa_tool.specs.Trees.{argument_in, has_none, step_in, steps_in, item_in, thin_of}

@@ -4,7 +4,7 @@ use Rattle.std.specs.declared.option.Option.{Option}
 use Rattle.std.specs.declared.result.Result.{Result}
 use Rattle.std.specs.Option.{option_map_or}
 use Rattle.tsa_base.specs.Tokens.{BadByte, Lexeme, tokens_of}
-use Rattle.tsa_tree.specs.UnitItems.{UnitItem}
+use Rattle.tsa_tree.specs.units.Syntax.{UnitItem}
 use Rattle.tsa_expr.specs.declared.refusal.SyntaxRefusal.{SyntaxRefusal}
 use Rattle.tsa_expr.specs.declared.refusal.SyntaxRefusal.TheVariants.{At, Function, NoMemory}
 use Rattle.tsa_unit.specs.Parsing.{unit_of}

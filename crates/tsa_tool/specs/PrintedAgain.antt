@@ -1,6 +1,6 @@
 -- What is printed is printed again.
 use Rattle.std.specs.Prelude.{ℕ, ◌≡◌, List, Ok}
-use Rattle.tsa_tree.specs.UnitItems.{UnitItem}
+use Rattle.tsa_tree.specs.units.Syntax.{UnitItem}
 use Rattle.tsa_print.specs.UnitBases.{HasPlainBases}
 use Rattle.tsa_print.specs.UnitPieces.{canonical_unit}
 use Rattle.tsa_tool.specs.Checks.{tree_in}

@@ -5,11 +5,11 @@ use Rattle.tsa_base.specs.declared.token.Span.{Span}
 use Rattle.tsa_tree.specs.declared.attr.AttrKind.{AttrKind}
 use Rattle.tsa_tree.specs.declared.attr.AttrKind.TheVariants.{Capability, GuardedBy, Acquire, Release}
 use Rattle.tsa_tree.specs.declared.expr.UnaryOp.TheVariants.{Address}
-use Rattle.tsa_tree.specs.Attributes.{Attribute}
-use Rattle.tsa_tree.specs.Declarations.{Base, int, void, structure, DeclaredType, Declaration}
-use Rattle.tsa_tree.specs.Expressions.{Identifier, number as numeral, named, call, unary, none as no_arguments, more as and_argument}
-use Rattle.tsa_tree.specs.Statements.{Statement, Statements, simple, evaluation, assignment, none, more}
-use Rattle.tsa_tree.specs.UnitItems.{UnitItem, structure_item, global_item, function_item, body_item}
+use Rattle.tsa_tree.specs.attributes.Syntax.{Attribute}
+use Rattle.tsa_tree.specs.declarations.Syntax.{Base, int, void, structure, DeclaredType, Declaration}
+use Rattle.tsa_tree.specs.expressions.Syntax.{Identifier, number as numeral, named, call, unary, none as no_arguments, more as and_argument}
+use Rattle.tsa_tree.specs.statements.Syntax.{Statement, Statements, simple, evaluation, assignment, none, more}
+use Rattle.tsa_tree.specs.units.Syntax.{UnitItem, structure_item, global_item, function_item, body_item}
 use Rattle.tsa_tool.specs.declared.thin.ThinStep.{ThinStep}
 use Rattle.tsa_tool.specs.declared.thin.ThinStep.TheVariants.{Call, Assign}
 use Rattle.tsa_tool.specs.Items.{Item, lock, lock_function, mutex, number, body}

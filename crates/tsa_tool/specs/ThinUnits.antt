@@ -3,7 +3,7 @@ use Rattle.std.specs.Prelude.{ℕ, ◌≡◌, true, List, ◌∷◌, ◌++◌, O
 use Rattle.std.specs.List.{list_all}
 use Rattle.tsa_base.specs.declared.token.Span.{Span}
 use Rattle.tsa_base.specs.Tokens.{BadByte, Lexeme, tokens_of}
-use Rattle.tsa_tree.specs.UnitItems.{UnitItem}
+use Rattle.tsa_tree.specs.units.Syntax.{UnitItem}
 use Rattle.tsa_expr.specs.declared.refusal.SyntaxCode.{SyntaxCode}
 use Rattle.tsa_expr.specs.declared.refusal.SyntaxRefusal.TheVariants.{At, Function, NoMemory}
 use Rattle.tsa_unit.specs.Parsing.{unit_of}

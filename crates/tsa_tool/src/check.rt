@@ -3,8 +3,8 @@ ghost use Rattle.std.specs.Prelude.{◌≡◌, ◌≢◌, ◌≤◌, map, length
 ghost use Rattle.tsa_base.specs.declared.limits.TheConstants.{INPUT_LIMIT};
 ghost use Rattle.tsa_tool.specs.Items.{item_of};
 ghost use Rattle.tsa_base.specs.Tokens.{tokens_of};
-ghost use Rattle.tsa_tree.specs.Signs.{lexemes};
-ghost use Rattle.tsa_tree.specs.UnitShapes.{item_shapes};
+ghost use Rattle.tsa_tree.specs.tokens.Signs.{lexemes};
+ghost use Rattle.tsa_tree.specs.units.Shapes.{item_shapes};
 ghost use Rattle.tsa_stmt.specs.Near.{AreNear};
 ghost use Rattle.tsa_unit.specs.Parsing.{unit_of};
 ghost use Rattle.tsa_tool.specs.Checks.{lexed, byte_of, refusal_of, placed, tree_in, items_in, judged_items, warned_in};

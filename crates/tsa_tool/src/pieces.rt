@@ -1,9 +1,9 @@
 //! Which expressions, types and attributes are of the thin language, and what they name there.
 ghost use Rattle.std.specs.Prelude.{◌≡◌};
 ghost use Rattle.std.specs.Option.{option_map};
-ghost use Rattle.tsa_tree.specs.Attributes.{attr_shape, attr_shapes};
-ghost use Rattle.tsa_tree.specs.ItemShapes.{base_shape, type_shape};
-ghost use Rattle.tsa_tree.specs.Shapes.{shape, shapes};
+ghost use Rattle.tsa_tree.specs.attributes.Syntax.{attr_shape, attr_shapes};
+ghost use Rattle.tsa_tree.specs.declarations.Shapes.{base_shape, type_shape};
+ghost use Rattle.tsa_tree.specs.expressions.Shapes.{shape, shapes};
 ghost use Rattle.tsa_tool.specs.Trees.{name_in, address_in, value_in, argument_in, is_int, is_void, tag_in, is_bare, is_pointer, is_nothing, named_in, is_capability, has_none, lock_word_in, takes_in, is_guard, guard_in};
 
 use tsa_base::Span;

@@ -1,12 +1,12 @@
 //! Which trees are of the thin language, and what their items name there.
 ghost use Rattle.std.specs.Prelude.{◌≡◌, map, length, vec_len, IfOk, IfSome, None};
 ghost use Rattle.std.specs.Option.{option_map};
-ghost use Rattle.tsa_tree.specs.Attributes.{attr_shapes};
-ghost use Rattle.tsa_tree.specs.Expressions.{call, nowhere};
-ghost use Rattle.tsa_tree.specs.ItemShapes.{base_shape, decl_shape, decl_shapes, param_shape, param_shapes, head_shape};
-ghost use Rattle.tsa_tree.specs.Shapes.{name_shape, shape, shapes};
-ghost use Rattle.tsa_tree.specs.StatementShapes.{stmt_shape, stmt_shapes};
-ghost use Rattle.tsa_tree.specs.UnitShapes.{end_of, item_shape, item_shapes};
+ghost use Rattle.tsa_tree.specs.attributes.Syntax.{attr_shapes};
+ghost use Rattle.tsa_tree.specs.expressions.Syntax.{call, nowhere};
+ghost use Rattle.tsa_tree.specs.declarations.Shapes.{base_shape, decl_shape, decl_shapes, param_shape, param_shapes, head_shape};
+ghost use Rattle.tsa_tree.specs.expressions.Shapes.{name_shape, shape, shapes};
+ghost use Rattle.tsa_tree.specs.statements.Shapes.{stmt_shape, stmt_shapes};
+ghost use Rattle.tsa_tree.specs.units.Shapes.{end_of, item_shape, item_shapes};
 ghost use Rattle.tsa_tool.specs.Items.{item_of};
 ghost use Rattle.tsa_tool.specs.Trees.{call_in, assign_in, step_in, steps_in, member_in, lock_in, structure_in, variable_in, global_in, parameter_in, locking_in, prototype_in, function_in, item_in, thin_of};
 

@@ -7,15 +7,15 @@ use Rattle.tsa_tree.specs.declared.expr.BinaryOp.{BinaryOp}
 use Rattle.tsa_tree.specs.declared.sign.Keyword.TheVariants as key
 use Rattle.tsa_tree.specs.declared.sign.Sign.{Sign}
 use Rattle.tsa_tree.specs.declared.sign.Sign.TheVariants as sign
-use Rattle.tsa_tree.specs.Expressions.{Expression, number, null, named, call, unary, binary, field, index}
-use Rattle.tsa_tree.specs.Signs.{Aliases, sign_in, sign_at, is_word_at, identifier_in, identifier_at, is_word, kind_in, is_plain_sign, is_tag, is_storage, is_star, assigns, operator, level}
-pub use Rattle.tsa_tree.specs.Signs.{begins_type, begins_operand, begins_statement, is_prefix}
-use Rattle.tsa_tree.specs.Attributes.{try_value}
-use Rattle.tsa_tree.specs.Declarations.{Initialiser, value, list, Declaration}
-use Rattle.tsa_tree.specs.Statements.{Ending, by_expression, by_operand, by_step, Statement, ends_short}
+use Rattle.tsa_tree.specs.expressions.Syntax.{Expression, number, null, named, call, unary, binary, field, index}
+use Rattle.tsa_tree.specs.tokens.Signs.{Aliases, sign_in, sign_at, is_word_at, identifier_in, identifier_at, is_word, kind_in, is_plain_sign, is_tag, is_storage, is_star, assigns, operator, level}
+pub use Rattle.tsa_tree.specs.tokens.Signs.{begins_type, begins_operand, begins_statement, is_prefix}
+use Rattle.tsa_tree.specs.attributes.Syntax.{try_value}
+use Rattle.tsa_tree.specs.declarations.Syntax.{Initialiser, value, list, Declaration}
+use Rattle.tsa_tree.specs.statements.Syntax.{Ending, by_expression, by_operand, by_step, Statement, ends_short}
 use Rattle.tsa_tree.specs.Rows.{Sort, Node, Call, expression, operation, operand, postfix, series, attributes, group, entries, balanced, consts, storage, specifier, declarator, initialiser, initialisers, declared_rest, declarators, member_line, members, variable, variables, locals, parameter_list, parameters, signature, head, struct_body, constants, enum_body, declared, item, items, simple, for_init, statement, statements, rank, mark, Kind, kind, a_word, a_result, a_plain, a_keyword, a_tag, a_storage_word, a_star, an_assignment, is_assignment, nothing, a_name, an_open, an_open_bracket, an_open_brace, an_equals, a_comma, is_keyword, is_given, sees, is_postfix, is_attribute_sign, is_past, Row}
 use Rattle.tsa_forms.proofs.Good as g
-use Rattle.tsa_tree.proofs.SignFacts.{is_plain, plain_no_postfix, plain_no_operator, plain_no_open}
+use Rattle.tsa_tree.proofs.tokens.Facts.{is_plain, plain_no_postfix, plain_no_operator, plain_no_open}
 
 pub begins_no_close : (s : Sign) → begins_operand s ≡ true → nat_eq (mark s) 7 ≡ false
 begins_no_close sign.Close e = cc

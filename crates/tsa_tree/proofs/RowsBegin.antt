@@ -5,17 +5,17 @@ use Rattle.tsa_tree.specs.declared.expr.UnaryOp.{UnaryOp}
 use Rattle.tsa_tree.specs.declared.expr.BinaryOp.{BinaryOp}
 use Rattle.tsa_tree.specs.declared.sign.Sign.{Sign}
 use Rattle.tsa_tree.specs.declared.sign.Sign.TheVariants as sign
-use Rattle.tsa_tree.specs.Expressions.{Expression}
-use Rattle.tsa_tree.specs.Signs.{Aliases, sign_at, operator, prefix_of, entry_meaning}
+use Rattle.tsa_tree.specs.expressions.Syntax.{Expression}
+use Rattle.tsa_tree.specs.tokens.Signs.{Aliases, sign_at, operator, prefix_of, entry_meaning}
 use Rattle.tsa_tree.specs.Rows.{Sort, an_expression, Call, expression, operation, operand, postfix, series, attributes, group, entries, consts, storage, specifier, declarator, initialiser, initialisers, declared_rest, declarators, member_line, variable, variables, locals, parameter_list, signature, struct_body, constants, enum_body, declared, item, items, simple, statement, statements, Kind, an_operator, is_postfix, operation_row, postfix_row, prefix_row, operand_row, rule}
 use Rattle.tsa_tree.proofs.RowFacts.{is_prefix, begins_operand, First, Start, never}
-use Rattle.tsa_tree.proofs.AttributesMeet.{first_group, first_entry}
-use Rattle.tsa_tree.proofs.DeclarationsMeet.{first_specifier, first_declarator, first_initialiser}
-use Rattle.tsa_tree.proofs.DeclaratorsMeet.{first_rest}
-use Rattle.tsa_tree.proofs.StatementsMeet.{first_simple, first_statement}
-use Rattle.tsa_tree.proofs.BlocksMeet.{first_statements}
-use Rattle.tsa_tree.proofs.UnitsMeet.{first_item, first_items}
-use Rattle.tsa_tree.proofs.ItemsMeet.{first_signature, first_struct_body, first_enum_body}
+use Rattle.tsa_tree.proofs.attributes.Meet.{first_group, first_entry}
+use Rattle.tsa_tree.proofs.declarations.Meet.{first_specifier, first_declarator, first_initialiser}
+use Rattle.tsa_tree.proofs.declarations.DeclaratorsMeet.{first_rest}
+use Rattle.tsa_tree.proofs.statements.Meet.{first_simple, first_statement}
+use Rattle.tsa_tree.proofs.statements.BlocksMeet.{first_statements}
+use Rattle.tsa_tree.proofs.units.Meet.{first_item, first_items}
+use Rattle.tsa_tree.proofs.declarations.ItemsMeet.{first_signature, first_struct_body, first_enum_body}
 
 module _ (tokens : List Lexeme) where
   first_prefix : (aliases : Aliases) (d m : ℕ) (q : Kind) (o : Option UnaryOp)

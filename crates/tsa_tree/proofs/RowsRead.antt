@@ -5,10 +5,10 @@ use Rattle.tsa_tree.specs.declared.expr.UnaryOp.{UnaryOp}
 use Rattle.tsa_tree.specs.declared.expr.BinaryOp.{BinaryOp}
 use Rattle.tsa_tree.specs.declared.sign.Sign.{Sign}
 use Rattle.tsa_tree.specs.declared.sign.Sign.TheVariants as sign
-use Rattle.tsa_tree.specs.Expressions.{Expression}
-use Rattle.tsa_tree.specs.Signs.{Aliases, sign_at, operator, prefix, prefix_of}
+use Rattle.tsa_tree.specs.expressions.Syntax.{Expression}
+use Rattle.tsa_tree.specs.tokens.Signs.{Aliases, sign_at, operator, prefix, prefix_of}
 use Rattle.tsa_tree.specs.Rows.{Sort, an_expression, some_arguments, Node, Call, expression, operation, operand, postfix, series, rank, Kind, a_not, a_flip, an_operator, sees, Row, tightest, climb_on, operation_row, postfix_row, prefix_row, operand_row, rule}
-use Rattle.tsa_tree.specs.Answers.{below_limit}
+use Rattle.tsa_tree.specs.expressions.Answers.{below_limit}
 use Rattle.tsa_tree.specs.Reads.{read}
 use Rattle.tsa_forms.specs.Form.{done, bar, token, part, limit, only, either}
 use Rattle.tsa_forms.specs.Reading.{Code, syntax, deep, barred, refuse, Outcome, stop, follow, run, all}
@@ -19,7 +19,7 @@ use Rattle.tsa_forms.proofs.Runs as runs
 use Rattle.tsa_forms.proofs.Complete as pieces
 use Rattle.tsa_forms.proofs.Exactly as answers
 use Rattle.tsa_tree.proofs.RowFacts.{First, Ends, Moves, inside}
-use Rattle.tsa_tree.proofs.BlocksMeet.{moves}
+use Rattle.tsa_tree.proofs.statements.BlocksMeet.{moves}
 use Rattle.tsa_tree.proofs.RowsBegin.{firsts}
 use Rattle.tsa_tree.proofs.RowsMeet.{good, low}
 

@@ -1,10 +1,10 @@
 -- What reading by the rows gives, within the limit.
 use Rattle.std.specs.Prelude.{ℕ, List, length}
 use Rattle.tsa_base.specs.Tokens.{Lexeme}
-use Rattle.tsa_tree.specs.Expressions.{Expression}
-use Rattle.tsa_tree.specs.Signs.{Aliases}
+use Rattle.tsa_tree.specs.expressions.Syntax.{Expression}
+use Rattle.tsa_tree.specs.tokens.Signs.{Aliases}
 use Rattle.tsa_tree.specs.Rows.{Sort, an_expression, Node, Call, rank, sees, rule, climb, post, tightest}
-use Rattle.tsa_tree.specs.Answers.{below_limit}
+use Rattle.tsa_tree.specs.expressions.Answers.{below_limit}
 use Rattle.tsa_forms.specs.Form.{done}
 use Rattle.tsa_forms.specs.Reading.{Outcome, run, follow}
 

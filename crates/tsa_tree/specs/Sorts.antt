@@ -7,13 +7,13 @@ use Rattle.tsa_tree.specs.declared.sign.Keyword.{Keyword}
 use Rattle.tsa_tree.specs.declared.sign.Keyword.TheVariants as key
 use Rattle.tsa_tree.specs.declared.sign.Sign.{Sign}
 use Rattle.tsa_tree.specs.declared.sign.Sign.TheVariants as sign
-use Rattle.tsa_tree.specs.Attributes.{Attribute, try_value}
-use Rattle.tsa_tree.specs.Declarations.{Specified, Declarator, Declared, Declaration, Initialiser, Initialisers, EnumConstant, Parameter, Signature, Head, StructBody}
-use Rattle.tsa_tree.specs.DeclarationSpelling.{Role}
-use Rattle.tsa_tree.specs.Expressions.{Expression, Arguments}
-use Rattle.tsa_tree.specs.Signs.{Aliases, sign_at, identifier_at, is_word_at, is_plain_sign, is_tag, is_storage, is_star, assigns}
-use Rattle.tsa_tree.specs.UnitItems.{UnitItem}
-use Rattle.tsa_tree.specs.Statements.{SimplePart, ForInit, Statement, Statements}
+use Rattle.tsa_tree.specs.attributes.Syntax.{Attribute, try_value}
+use Rattle.tsa_tree.specs.declarations.Syntax.{Specified, Declarator, Declared, Declaration, Initialiser, Initialisers, EnumConstant, Parameter, Signature, Head, StructBody}
+use Rattle.tsa_tree.specs.declarations.Spelling.{Role}
+use Rattle.tsa_tree.specs.expressions.Syntax.{Expression, Arguments}
+use Rattle.tsa_tree.specs.tokens.Signs.{Aliases, sign_at, identifier_at, is_word_at, is_plain_sign, is_tag, is_storage, is_star, assigns}
+use Rattle.tsa_tree.specs.units.Syntax.{UnitItem}
+use Rattle.tsa_tree.specs.statements.Syntax.{SimplePart, ForInit, Statement, Statements}
 use Rattle.tsa_forms.specs.Form.{Form}
 
 -- the parts by what they make

@@ -4,7 +4,7 @@
 -- `Spelled fits x e`: the tokens up to before e spell x. `Begun fits i`: those up to before i begin the part. `Refused fits i q`:
 -- they do, and the token at i is refused for the reason q. `fits` says which depths and heights are taken.
 use Rattle.std.specs.Prelude.{ℕ, ◌≤◌, ◌<◌, Bool, Ok, Err}
-use Rattle.tsa_tree.specs.Answers.{below_limit}
+use Rattle.tsa_tree.specs.expressions.Answers.{below_limit}
 use Rattle.tsa_forms.specs.Reading.{Code, syntax, deep, barred, Outcome, all}
 
 module _ {T : Type 0} (Spelled : (ℕ → Bool) → T → ℕ → Type 0) (Begun : (ℕ → Bool) → ℕ → Type 0) (Refused : (ℕ → Bool) → (i q : ℕ) → Type 0) where

@@ -93,7 +93,7 @@ pub enum BinaryOp {
 
 impl BinaryOp {
     ghost use Rattle.std.specs.Prelude.{◌≡◌};
-    ghost use Rattle.tsa_tree.specs.Signs.{level};
+    ghost use Rattle.tsa_tree.specs.tokens.Signs.{level};
 
     /// How tight the operator binds, from 1 for `||` to 9 for `*`, `/` and `%`.
     pub fn level(self) -> u32

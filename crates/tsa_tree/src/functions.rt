@@ -1,7 +1,7 @@
 //! The functions of a unit by number, and how many points each has.
 ghost use Rattle.std.specs.Prelude.{◌≡◌, ◌<◌, ◌^◌, length, option_copied};
 ghost use Rattle.std.specs.List.{list_any};
-ghost use Rattle.tsa_tree.specs.Functions.{bears, definition_of, first_of, function_of, functions_in};
+ghost use Rattle.tsa_tree.specs.units.Functions.{bears, definition_of, first_of, function_of, functions_in};
 
 use crate::item::{FnTree, Item, UnitTree};
 
@@ -27,7 +27,7 @@ impl<'a> UnitTree<'a> {
 }
 
 /// Whether a function of a name is among some items.
-#[tactic(auto, using(crate::proofs::FunctionLaws::names))]
+#[tactic(auto, using(crate::proofs::units::FunctionLaws::names))]
 fn is_declared(items: &[Item<'_>], name: &[u8]) -> bool
     ensures { result ≡ list_any (bears name.now) (functions_in items.now) }
 {
@@ -42,7 +42,7 @@ fn is_declared(items: &[Item<'_>], name: &[u8]) -> bool
 }
 
 /// The first declaration of the function of a number.
-#[tactic(auto, using(crate::proofs::FunctionLaws::firsts))]
+#[tactic(auto, using(crate::proofs::units::FunctionLaws::firsts))]
 fn first_declaration<'a>(items: &'a [Item<'a>], number: u32) -> Option<&'a FnTree<'a>>
     ensures { option_copied result ≡ first_of items.entry.now number }
 {
@@ -63,7 +63,7 @@ fn first_declaration<'a>(items: &'a [Item<'a>], number: u32) -> Option<&'a FnTre
 }
 
 /// The function with a body that bears the name of a declaration, or the declaration where there is none.
-#[tactic(auto, using(crate::proofs::FunctionLaws::bodies))]
+#[tactic(auto, using(crate::proofs::units::FunctionLaws::bodies))]
 fn definition<'a>(items: &'a [Item<'a>], first: &'a FnTree<'a>) -> &'a FnTree<'a>
     ensures { result.now ≡ definition_of items.entry.now first.entry.now }
 {

@@ -1,16 +1,16 @@
 //! What holds of the grammar.
 
-ghost use Rattle.tsa_tree.specs.SyntaxLaws.{SpellTheSame, BeginTheSame, OneTree, PiecesBegin, OneAnswer};
-ghost use Rattle.tsa_tree.specs.Examples.{ProductionsAreRead};
-ghost use Rattle.tsa_tree.specs.AttributeAnswers as attributes;
-ghost use Rattle.tsa_tree.specs.AttributeExamples.{AttributesAreRead};
-ghost use Rattle.tsa_tree.specs.DeclarationAnswers as declarations;
-ghost use Rattle.tsa_tree.specs.StatementLaws as statements;
-ghost use Rattle.tsa_tree.specs.StatementExamples.{StatementsAreRead};
-ghost use Rattle.tsa_tree.specs.UnitAnswers as units;
-ghost use Rattle.tsa_tree.specs.PointExamples.{PointsAreInOrder};
-ghost use Rattle.tsa_tree.specs.UnitExamples.{UnitsAreRead};
-ghost use Rattle.tsa_tree.specs.DeclarationExamples.{DeclarationsAreRead};
+ghost use Rattle.tsa_tree.specs.expressions.Laws.{SpellTheSame, BeginTheSame, OneTree, PiecesBegin, OneAnswer};
+ghost use Rattle.tsa_tree.specs.expressions.Examples.{ProductionsAreRead};
+ghost use Rattle.tsa_tree.specs.attributes.Answers as attributes;
+ghost use Rattle.tsa_tree.specs.attributes.Examples.{AttributesAreRead};
+ghost use Rattle.tsa_tree.specs.declarations.Answers as declarations;
+ghost use Rattle.tsa_tree.specs.statements.Laws as statements;
+ghost use Rattle.tsa_tree.specs.statements.Examples.{StatementsAreRead};
+ghost use Rattle.tsa_tree.specs.units.Answers as units;
+ghost use Rattle.tsa_tree.specs.points.Examples.{PointsAreInOrder};
+ghost use Rattle.tsa_tree.specs.units.Examples.{UnitsAreRead};
+ghost use Rattle.tsa_tree.specs.declarations.Examples.{DeclarationsAreRead};
 
 /// The rows that readers go by spell the same trees as the productions of the grammar, and the same lists begin them.
 pub fn rows_are_productions()
@@ -41,7 +41,7 @@ pub fn expressions_are_as_written()
 
 /// The rows of attributes spell the same lists as the productions, the same tokens begin them, and the same attributes are
 /// refused where they stand.
-#[tactic(auto, using(crate::proofs::AttributeLaws::spell_the_same, crate::proofs::AttributeLaws::begin_the_same, crate::proofs::AttributeLaws::refuse_the_same))]
+#[tactic(auto, using(crate::proofs::attributes::Laws::spell_the_same, crate::proofs::attributes::Laws::begin_the_same, crate::proofs::attributes::Laws::refuse_the_same))]
 pub fn rows_of_attributes_are_productions()
     ensures spelled { attributes.SpellTheSame }
     ensures begun { attributes.BeginTheSame }
@@ -49,25 +49,25 @@ pub fn rows_of_attributes_are_productions()
 {}
 
 /// Two lists of attributes that the same tokens spell are equal.
-#[tactic(auto, using(crate::proofs::AttributeLaws::one_list))]
+#[tactic(auto, using(crate::proofs::attributes::Laws::one_list))]
 pub fn one_list_of_attributes_is_spelled()
     ensures { attributes.OneList }
 {}
 
 /// Every first piece of the tokens that spell attributes begins them.
-#[tactic(auto, using(crate::proofs::AttributeLaws::pieces_begin))]
+#[tactic(auto, using(crate::proofs::attributes::Laws::pieces_begin))]
 pub fn first_pieces_begin_attributes()
     ensures { attributes.PiecesBegin }
 {}
 
 /// For every list of tokens and place there is a right answer of a reader of attributes.
-#[tactic(auto, using(crate::proofs::AttributeLaws::an_answer))]
+#[tactic(auto, using(crate::proofs::attributes::Laws::an_answer))]
 pub fn attributes_have_an_answer()
     ensures { attributes.AnAnswer }
 {}
 
 /// Attributes are read as they are written: texts of each form, and of each kind of refusal.
-#[tactic(auto, using(crate::proofs::AttributeExamples::attributes_are_read))]
+#[tactic(auto, using(crate::proofs::attributes::Examples::attributes_are_read))]
 pub fn attributes_are_as_written()
     ensures { AttributesAreRead }
 {}
@@ -79,7 +79,7 @@ pub fn rows_of_declarations_are_productions()
 {}
 
 /// Two items, heads or locals that the same tokens spell are equal: items wherever they end, the others to the last token.
-#[tactic(auto, using(crate::proofs::DeclarationLaws::one_spelled, crate::proofs::DeclarationLaws::one_item))]
+#[tactic(auto, using(crate::proofs::declarations::Laws::one_spelled, crate::proofs::declarations::Laws::one_item))]
 pub fn one_declaration_is_spelled()
     ensures one { declarations.OneSpelled }
     ensures items { declarations.OneItem }
@@ -91,13 +91,13 @@ pub fn first_pieces_begin_declarations()
 {}
 
 /// For every list of tokens and place there is a right answer of a reader of an item, a head or locals.
-#[tactic(auto, using(crate::proofs::DeclarationLaws::an_answer))]
+#[tactic(auto, using(crate::proofs::declarations::Laws::an_answer))]
 pub fn declarations_have_an_answer()
     ensures { declarations.AnAnswer }
 {}
 
 /// Items, heads and locals are read as they are written: a text for each production, and one for each kind of refusal.
-#[tactic(auto, using(crate::proofs::DeclarationExamples::declarations_are_read))]
+#[tactic(auto, using(crate::proofs::declarations::Examples::declarations_are_read))]
 pub fn declarations_are_as_written()
     ensures { DeclarationsAreRead }
 {}
@@ -108,7 +108,7 @@ pub fn rows_of_statements_are_productions()
 {}
 
 /// Two statements that the same tokens spell are equal.
-#[tactic(auto, using(crate::proofs::StatementLaws::one_statement))]
+#[tactic(auto, using(crate::proofs::statements::Laws::one_statement))]
 pub fn one_statement_is_spelled()
     ensures { statements.OneStatement }
 {}
@@ -119,37 +119,37 @@ pub fn first_pieces_begin_statements()
 {}
 
 /// Statements are read as they are written: a text for each production, and one for each kind of refusal.
-#[tactic(auto, using(crate::proofs::StatementExamples::statements_are_read))]
+#[tactic(auto, using(crate::proofs::statements::Examples::statements_are_read))]
 pub fn statements_are_as_written()
     ensures { StatementsAreRead }
 {}
 
 /// The rows of whole units spell what the productions spell, to the last token.
-#[tactic(auto, using(crate::proofs::UnitLaws::spell_the_same))]
+#[tactic(auto, using(crate::proofs::units::Laws::spell_the_same))]
 pub fn rows_of_units_are_productions()
     ensures { units.SpellTheSame }
 {}
 
 /// Two units that the same tokens spell are equal.
-#[tactic(auto, using(crate::proofs::UnitLaws::one_unit))]
+#[tactic(auto, using(crate::proofs::units::Laws::one_unit))]
 pub fn one_unit_is_spelled()
     ensures { units.OneUnit }
 {}
 
 /// For every list of tokens there is a right answer of a reader of units.
-#[tactic(auto, using(crate::proofs::UnitLaws::an_answer))]
+#[tactic(auto, using(crate::proofs::units::Laws::an_answer))]
 pub fn units_have_an_answer()
     ensures { units.AnAnswer }
 {}
 
 /// Units are read as they are written: a text for each production, and one for each kind of refusal.
-#[tactic(auto, using(crate::proofs::UnitExamples::units_are_read))]
+#[tactic(auto, using(crate::proofs::units::Examples::units_are_read))]
 pub fn units_are_as_written()
     ensures { UnitsAreRead }
 {}
 
 /// The points of statements come in order of the text, and stand where they are written.
-#[tactic(auto, using(crate::proofs::PointExamples::points_are_in_order))]
+#[tactic(auto, using(crate::proofs::points::Examples::points_are_in_order))]
 pub fn points_are_as_written()
     ensures { PointsAreInOrder }
 {}

@@ -1,6 +1,6 @@
 //! A unit that was read.
 ghost use Rattle.std.specs.Prelude.{◌≡◌};
-ghost use Rattle.tsa_tree.specs.WellRead.{IsWellRead};
+ghost use Rattle.tsa_tree.specs.units.WellRead.{IsWellRead};
 
 use crate::item::UnitTree;
 

@@ -12,16 +12,16 @@ use Rattle.tsa_tree.specs.declared.sign.Sign.TheVariants as sign
 use Rattle.tsa_tree.specs.declared.stmt.Action.TheVariants.{End}
 use Rattle.tsa_tree.specs.declared.stmt.Point.{Point}
 use Rattle.tsa_tree.specs.declared.stmt.Stmt.{Stmt}
-use Rattle.tsa_tree.specs.Answers.{below_limit}
-use Rattle.tsa_tree.specs.Declarations.{Head}
-use Rattle.tsa_tree.specs.ItemShapes.{head_shape}
-use Rattle.tsa_tree.specs.Points.{ends, points_of_all}
+use Rattle.tsa_tree.specs.expressions.Answers.{below_limit}
+use Rattle.tsa_tree.specs.declarations.Syntax.{Head}
+use Rattle.tsa_tree.specs.declarations.Shapes.{head_shape}
+use Rattle.tsa_tree.specs.points.Syntax.{ends, points_of_all}
 use Rattle.tsa_tree.specs.Reads.{read}
 use Rattle.tsa_tree.specs.Rows.{some_statements, statements, an_open_brace, sees, mark, function_end}
-use Rattle.tsa_tree.specs.Signs.{Aliases, sign_at, span_at}
-use Rattle.tsa_tree.specs.StatementShapes.{stmt_shapes, point_shape, AreNumbered}
-use Rattle.tsa_tree.specs.UnitItems.{UnitItem, body_item}
-use Rattle.tsa_tree.specs.UnitShapes.{shape_with, function_shape, item_shape, item_shapes, end_of, HasItsPoints, HaveTheirPoints}
+use Rattle.tsa_tree.specs.tokens.Signs.{Aliases, sign_at, span_at}
+use Rattle.tsa_tree.specs.statements.Shapes.{stmt_shapes, point_shape, AreNumbered}
+use Rattle.tsa_tree.specs.units.Syntax.{UnitItem, body_item}
+use Rattle.tsa_tree.specs.units.Shapes.{shape_with, function_shape, item_shape, item_shapes, end_of, HasItsPoints, HaveTheirPoints}
 use Rattle.tsa_expr.specs.declared.refusal.SyntaxRefusal.{SyntaxRefusal}
 use Rattle.tsa_expr.specs.Gives.{Fails, Gives}
 use Rattle.tsa_expr.proofs.Answering.{fails_then, fails_same, gives_same}

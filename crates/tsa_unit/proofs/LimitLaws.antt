@@ -12,12 +12,12 @@ use Rattle.tsa_tree.specs.declared.item.FnTree.{FnTree}
 use Rattle.tsa_tree.specs.declared.item.Item.{Item}
 use Rattle.tsa_tree.specs.declared.item.Item.TheVariants as item
 use Rattle.tsa_tree.specs.declared.stmt.Stmt.{Stmt}
-use Rattle.tsa_tree.specs.Expressions.{Identifier}
-use Rattle.tsa_tree.specs.Shapes.{name_shape}
-use Rattle.tsa_tree.specs.UnitItems.{UnitItem}
-use Rattle.tsa_tree.specs.UnitLimits.{function_names, past_points}
-use Rattle.tsa_tree.specs.StatementShapes.{point_shape}
-use Rattle.tsa_tree.specs.UnitShapes.{shape_with, function_shape, item_shape, item_shapes, HasItsPoints, HaveTheirPoints}
+use Rattle.tsa_tree.specs.expressions.Syntax.{Identifier}
+use Rattle.tsa_tree.specs.expressions.Shapes.{name_shape}
+use Rattle.tsa_tree.specs.units.Syntax.{UnitItem}
+use Rattle.tsa_tree.specs.units.Limits.{function_names, past_points}
+use Rattle.tsa_tree.specs.statements.Shapes.{point_shape}
+use Rattle.tsa_tree.specs.units.Shapes.{shape_with, function_shape, item_shape, item_shapes, HasItsPoints, HaveTheirPoints}
 use Rattle.tsa_unit.specs.Functions.{function_in}
 
 -- the names of the functions from an item on

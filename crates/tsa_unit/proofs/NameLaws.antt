@@ -4,10 +4,10 @@ use Rattle.std.proofs.Math.Seq.{take-nil}
 use Rattle.std.proofs.lemmas.List.{length-drop}
 use Rattle.tsa_tree.specs.declared.item.Item.{Item}
 use Rattle.tsa_tree.specs.declared.expr.Name.{Name}
-use Rattle.tsa_tree.specs.Shapes.{name_shape}
-use Rattle.tsa_tree.specs.Signs.{Aliases}
-use Rattle.tsa_tree.specs.UnitItems.{name_of, names_of, names_of_item}
-use Rattle.tsa_tree.specs.UnitShapes.{item_shape, item_shapes}
+use Rattle.tsa_tree.specs.expressions.Shapes.{name_shape}
+use Rattle.tsa_tree.specs.tokens.Signs.{Aliases}
+use Rattle.tsa_tree.specs.units.Syntax.{name_of, names_of, names_of_item}
+use Rattle.tsa_tree.specs.units.Shapes.{item_shape, item_shapes}
 use Rattle.tsa_expr.specs.Known.{with_name}
 use Rattle.tsa_unit.specs.Names.{with_names}
 

@@ -10,23 +10,23 @@ use Rattle.tsa_forms.specs.Exact as exact
 use Rattle.tsa_forms.specs.Spelling as forms
 use Rattle.tsa_forms.specs.Spelling.{by_rule, goes_done, goes_token, goes_part, goes_bar, goes_limit, goes_only, goes_left, goes_right}
 use Rattle.tsa_forms.specs.Reading.{Outcome, all}
-use Rattle.tsa_tree.specs.Answers.{below_limit}
-use Rattle.tsa_tree.specs.AttributeRefusals as reason
+use Rattle.tsa_tree.specs.expressions.Answers.{below_limit}
+use Rattle.tsa_tree.specs.attributes.Refusals as reason
 use Rattle.tsa_tree.specs.declared.item.Item.{Item}
 use Rattle.tsa_tree.specs.declared.parsed.Parsed.{Parsed}
-use Rattle.tsa_tree.specs.Expressions.{Identifier}
+use Rattle.tsa_tree.specs.expressions.Syntax.{Identifier}
 use Rattle.tsa_tree.specs.Reads.{read}
 use Rattle.tsa_tree.specs.Rows.{Sort, some_items, items, Node, Call, Row, is_past, sees, rule}
-use Rattle.tsa_tree.specs.Signs.{lexemes}
-use Rattle.tsa_tree.specs.UnitAnswers.{Spells, IsAnswer, read_unit}
-use Rattle.tsa_tree.specs.UnitItems.{UnitItem}
-use Rattle.tsa_tree.specs.UnitLimits.{past_functions, past_points}
-use Rattle.tsa_tree.specs.UnitShapes.{item_shapes, HaveTheirPoints}
-use Rattle.tsa_tree.specs.UnitSpelling.{IsItems, no_items}
-use Rattle.tsa_tree.specs.WellRead.{IsWellRead}
+use Rattle.tsa_tree.specs.tokens.Signs.{lexemes}
+use Rattle.tsa_tree.specs.units.Answers.{Spells, IsAnswer, read_unit}
+use Rattle.tsa_tree.specs.units.Syntax.{UnitItem}
+use Rattle.tsa_tree.specs.units.Limits.{past_functions, past_points}
+use Rattle.tsa_tree.specs.units.Shapes.{item_shapes, HaveTheirPoints}
+use Rattle.tsa_tree.specs.units.Spelling.{IsItems, no_items}
+use Rattle.tsa_tree.specs.units.WellRead.{IsWellRead}
 use Rattle.tsa_tree.proofs.RowsRead.{read_exact}
-use Rattle.tsa_tree.proofs.RowsToDeclarations.{declaration_of}
-use Rattle.tsa_tree.proofs.UnitLaws.{an_answer}
+use Rattle.tsa_tree.proofs.declarations.RowsToProductions.{declaration_of}
+use Rattle.tsa_tree.proofs.units.Laws.{an_answer}
 use Rattle.tsa_expr.specs.declared.refusal.SyntaxCode.{SyntaxCode}
 use Rattle.tsa_expr.specs.declared.refusal.SyntaxCode.TheVariants.{SY1, AT1, AT2, LM2, LM3, LM5}
 use Rattle.tsa_expr.specs.declared.refusal.SyntaxRefusal.{SyntaxRefusal}

@@ -10,16 +10,16 @@ use Rattle.tsa_base.specs.declared.token.TokenKind.TheVariants.{Word, Number, Te
 use Rattle.tsa_forms.specs.Exact as forms
 use Rattle.tsa_tree.specs.declared.sign.Sign.{Sign}
 use Rattle.tsa_tree.specs.declared.sign.Sign.TheVariants as sign
-use Rattle.tsa_tree.specs.Answers.{below_limit}
-use Rattle.tsa_tree.specs.Declarations.{Declaration}
-use Rattle.tsa_tree.specs.DeclarationSpelling.{of_declarator}
-use Rattle.tsa_tree.specs.ItemSpelling.{IsItem, of_structure, of_tag_alone, of_structure_alias, of_enumeration, of_enumeration_alias, of_alias_item, of_globals, of_function, of_body_item}
+use Rattle.tsa_tree.specs.expressions.Answers.{below_limit}
+use Rattle.tsa_tree.specs.declarations.Syntax.{Declaration}
+use Rattle.tsa_tree.specs.declarations.Spelling.{of_declarator}
+use Rattle.tsa_tree.specs.declarations.ItemSpelling.{IsItem, of_structure, of_tag_alone, of_structure_alias, of_enumeration, of_enumeration_alias, of_alias_item, of_globals, of_function, of_body_item}
 use Rattle.tsa_tree.specs.Reads.{read}
 use Rattle.tsa_tree.specs.Rows.{some_items, item, mark, sees, rule}
-use Rattle.tsa_tree.specs.Signs.{Aliases, sign_at, sign_in, sign_of, sign_or, identifier_at, identifier_in, listed, word_signs, punctuator_signs, word_sign, punctuator_sign}
-use Rattle.tsa_tree.specs.UnitItems.{UnitItem, names_of, global_item}
+use Rattle.tsa_tree.specs.tokens.Signs.{Aliases, sign_at, sign_in, sign_of, sign_or, identifier_at, identifier_in, listed, word_signs, punctuator_signs, word_sign, punctuator_sign}
+use Rattle.tsa_tree.specs.units.Syntax.{UnitItem, names_of, global_item}
 use Rattle.tsa_tree.proofs.RowsRead.{read_exact}
-use Rattle.tsa_tree.proofs.RowsToDeclarations.{declaration_of}
+use Rattle.tsa_tree.proofs.declarations.RowsToProductions.{declaration_of}
 use Rattle.tsa_attr.proofs.Joining.{append-nil}
 use Rattle.tsa_unit.specs.Names.{with_names}
 

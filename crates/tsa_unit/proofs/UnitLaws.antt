@@ -9,10 +9,10 @@ use Rattle.tsa_forms.specs.Reading.{Outcome, Refusal, stop, then, choose}
 use Rattle.tsa_tree.specs.declared.item.Item.{Item}
 use Rattle.tsa_tree.specs.Reads.{read}
 use Rattle.tsa_tree.specs.Rows.{some_items, item, items, is_past}
-use Rattle.tsa_tree.specs.Signs.{Aliases, lexemes}
-use Rattle.tsa_tree.specs.UnitAnswers.{read_unit}
-use Rattle.tsa_tree.specs.UnitItems.{UnitItem, names_of}
-use Rattle.tsa_tree.specs.UnitShapes.{item_shape, item_shapes}
+use Rattle.tsa_tree.specs.tokens.Signs.{Aliases, lexemes}
+use Rattle.tsa_tree.specs.units.Answers.{read_unit}
+use Rattle.tsa_tree.specs.units.Syntax.{UnitItem, names_of}
+use Rattle.tsa_tree.specs.units.Shapes.{item_shape, item_shapes}
 use Rattle.tsa_tree.proofs.RowsRead.{read_steps}
 use Rattle.tsa_expr.specs.declared.refusal.SyntaxCode.TheVariants as code
 use Rattle.tsa_expr.specs.declared.refusal.SyntaxRefusal.{SyntaxRefusal}

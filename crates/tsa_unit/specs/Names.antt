@@ -1,6 +1,6 @@
 -- How the names of types that are known grow.
 use Rattle.std.specs.Prelude.{ℕ, List, [], ◌∷◌}
-use Rattle.tsa_tree.specs.Signs.{Aliases}
+use Rattle.tsa_tree.specs.tokens.Signs.{Aliases}
 use Rattle.tsa_expr.specs.Known.{with_name}
 
 -- some names more, one by one, each where it is not yet among them

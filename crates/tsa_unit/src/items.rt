@@ -1,10 +1,10 @@
 //! Items of a unit are read, functions with their bodies (C11 6.9.1).
 ghost use Rattle.std.specs.Prelude.{◌≡◌, ◌≤◌, ◌<◌, [], length, Some, None, IfOk, true};
-ghost use Rattle.tsa_tree.specs.ItemShapes.{head_shape};
+ghost use Rattle.tsa_tree.specs.declarations.Shapes.{head_shape};
 ghost use Rattle.tsa_tree.specs.Reads.{read};
 ghost use Rattle.tsa_tree.specs.Rows.{some_items, function_end, item as item_call};
-ghost use Rattle.tsa_tree.specs.UnitShapes.{item_shapes, HaveTheirPoints};
-ghost use Rattle.tsa_tree.specs.Signs.{lexemes};
+ghost use Rattle.tsa_tree.specs.units.Shapes.{item_shapes, HaveTheirPoints};
+ghost use Rattle.tsa_tree.specs.tokens.Signs.{lexemes};
 ghost use Rattle.tsa_expr.specs.Known.{known};
 ghost use Rattle.tsa_expr.specs.Source.{input, named};
 ghost use Rattle.tsa_expr.specs.Gives.{Gives};

@@ -1,7 +1,7 @@
 //! How many functions a unit may have, and how many points the body of one.
 ghost use Rattle.std.specs.Prelude.{◌≡◌, option_map};
-ghost use Rattle.tsa_tree.specs.UnitLimits.{past_functions as too_many_functions, past_points as too_many_points};
-ghost use Rattle.tsa_tree.specs.UnitShapes.{item_shapes, HaveTheirPoints};
+ghost use Rattle.tsa_tree.specs.units.Limits.{past_functions as too_many_functions, past_points as too_many_points};
+ghost use Rattle.tsa_tree.specs.units.Shapes.{item_shapes, HaveTheirPoints};
 ghost use Rattle.tsa_unit.specs.Functions.{function_in};
 ghost use Rattle.tsa_unit.specs.Parsing.{IsWithin};
 

@@ -1,8 +1,8 @@
 //! The names of types that items give are known from the next item on (C11 6.7.8).
 ghost use Rattle.std.specs.Prelude.{◌≡◌, ◌≤◌, OnOk, OnErr, Err, option_map, length, drop};
-ghost use Rattle.tsa_tree.specs.Shapes.{name_shape};
-ghost use Rattle.tsa_tree.specs.UnitItems.{name_of, names_of_item, names_of};
-ghost use Rattle.tsa_tree.specs.UnitShapes.{item_shape, item_shapes};
+ghost use Rattle.tsa_tree.specs.expressions.Shapes.{name_shape};
+ghost use Rattle.tsa_tree.specs.units.Syntax.{name_of, names_of_item, names_of};
+ghost use Rattle.tsa_tree.specs.units.Shapes.{item_shape, item_shapes};
 ghost use Rattle.tsa_expr.specs.Known.{with_name};
 ghost use Rattle.tsa_unit.specs.Names.{with_names};
 

@@ -2,12 +2,12 @@
 ghost use Rattle.std.specs.Prelude.{◌≡◌, ◌≤◌, ◌<◌, ℕ, None, length, Err, IfOk, OnErr, IsErrOf};
 ghost use Rattle.tsa_base.specs.declared.limits.TheConstants.{INPUT_LIMIT};
 ghost use Rattle.tsa_base.specs.declared.token.Span.{Span as span_type};
-ghost use Rattle.tsa_tree.specs.AttributeRefusals as reason;
-ghost use Rattle.tsa_tree.specs.Signs.{lexemes};
-ghost use Rattle.tsa_tree.specs.UnitAnswers.{read_unit};
-ghost use Rattle.tsa_tree.specs.UnitLimits.{past_functions, past_points};
-ghost use Rattle.tsa_tree.specs.UnitShapes.{item_shapes, HaveTheirPoints};
-ghost use Rattle.tsa_tree.specs.WellRead.{IsWellRead};
+ghost use Rattle.tsa_tree.specs.attributes.Refusals as reason;
+ghost use Rattle.tsa_tree.specs.tokens.Signs.{lexemes};
+ghost use Rattle.tsa_tree.specs.units.Answers.{read_unit};
+ghost use Rattle.tsa_tree.specs.units.Limits.{past_functions, past_points};
+ghost use Rattle.tsa_tree.specs.units.Shapes.{item_shapes, HaveTheirPoints};
+ghost use Rattle.tsa_tree.specs.units.WellRead.{IsWellRead};
 ghost use Rattle.tsa_expr.specs.Gives.{Gives, Leads};
 ghost use Rattle.tsa_stmt.specs.Near.{AreNear};
 ghost use Rattle.tsa_unit.specs.Items.{passed, on_from};

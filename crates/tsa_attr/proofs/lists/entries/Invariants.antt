@@ -1,5 +1,5 @@
 use Rattle.std.proofs.Common.{◌≡◌, ◌≤◌, length, ◌-◌}
-use Rattle.tsa_tree.specs.Attributes.{attr_shapes}
+use Rattle.tsa_tree.specs.attributes.Syntax.{attr_shapes}
 use Rattle.tsa_tree.specs.Reads.{read}
 use Rattle.tsa_tree.specs.Rows.{some_attributes, entries}
 use Rattle.tsa_expr.specs.Source.{input, named}

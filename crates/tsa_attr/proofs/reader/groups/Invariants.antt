@@ -1,6 +1,6 @@
 use Rattle.std.proofs.Common.{◌≡◌, ◌≤◌, length, max, ◌-◌}
-use Rattle.tsa_tree.specs.Attributes.{attr_shapes}
-use Rattle.tsa_tree.specs.AttributeAnswers.{read_any}
+use Rattle.tsa_tree.specs.attributes.Syntax.{attr_shapes}
+use Rattle.tsa_tree.specs.attributes.Answers.{read_any}
 use Rattle.tsa_expr.specs.Source.{input, named}
 use Rattle.tsa_attr.specs.Outcomes.{after}
 use Rattle.tsa_attr.proofs.reader.groups.Given as goal

@@ -1,5 +1,5 @@
 use Rattle.std.proofs.Common.{◌∙◌, sym, ap, refl, Ok}
-use Rattle.tsa_tree.specs.UnitShapes.{item_shapes}
+use Rattle.tsa_tree.specs.units.Shapes.{item_shapes}
 use Rattle.tsa_decl.proofs.BegunLaws.{more_pointed}
 use Rattle.tsa_decl.proofs.BodyLaws.{enumeration_goes}
 use Rattle.tsa_decl.proofs.bodies.enumeration.Goals as goal

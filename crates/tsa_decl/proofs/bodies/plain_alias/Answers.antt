@@ -1,6 +1,6 @@
 use Rattle.std.proofs.Common.{◌∙◌, sym, ap, refl, Ok}
-use Rattle.tsa_tree.specs.ItemShapes.{base_shape}
-use Rattle.tsa_tree.specs.UnitShapes.{item_shapes}
+use Rattle.tsa_tree.specs.declarations.Shapes.{base_shape}
+use Rattle.tsa_tree.specs.units.Shapes.{item_shapes}
 use Rattle.tsa_decl.proofs.BegunLaws.{more_pointed}
 use Rattle.tsa_decl.proofs.BodyLaws.{gives_failed, plain_nameless, plain_endless, plain_goes}
 use Rattle.tsa_decl.proofs.bodies.plain_alias.Goals as goal

@@ -1,5 +1,5 @@
 use Rattle.std.proofs.Common.{ap}
-use Rattle.tsa_tree.specs.ItemShapes.{enumerator_shapes}
+use Rattle.tsa_tree.specs.declarations.Shapes.{enumerator_shapes}
 use Rattle.tsa_decl.proofs.EnumeratorLaws.{body_goes}
 use Rattle.tsa_decl.proofs.constants.enum_body.Goals as goal
 

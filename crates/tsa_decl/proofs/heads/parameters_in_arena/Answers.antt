@@ -1,5 +1,5 @@
 use Rattle.std.proofs.Common.{ap}
-use Rattle.tsa_tree.specs.ItemShapes.{param_shapes}
+use Rattle.tsa_tree.specs.declarations.Shapes.{param_shapes}
 use Rattle.tsa_decl.proofs.ParameterLaws.{new_goes}
 use Rattle.tsa_decl.proofs.heads.parameters_in_arena.Goals as goal
 

@@ -1,5 +1,5 @@
 use Rattle.std.proofs.Common.{◌∙◌, sym, ap, Ok}
-use Rattle.tsa_tree.specs.ItemShapes.{init_shape, init_shapes}
+use Rattle.tsa_tree.specs.declarations.Shapes.{init_shape, init_shapes}
 use Rattle.tsa_decl.proofs.ValueLaws.{braces_go}
 use Rattle.tsa_decl.proofs.initialisers.+initialisers.Goals as goal
 

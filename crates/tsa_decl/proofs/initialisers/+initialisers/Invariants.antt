@@ -1,5 +1,5 @@
 use Rattle.std.proofs.Common.{◌≡◌, ◌+◌, ◌≤◌, length, ◌-◌, ◌*◌}
-use Rattle.tsa_tree.specs.ItemShapes.{init_shapes}
+use Rattle.tsa_tree.specs.declarations.Shapes.{init_shapes}
 use Rattle.tsa_expr.specs.Source.{input, named}
 use Rattle.tsa_decl.specs.Outcomes.{values_after, braced_at}
 use Rattle.tsa_decl.proofs.initialisers.+initialisers.Given as goal

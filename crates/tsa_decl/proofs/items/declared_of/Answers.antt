@@ -1,4 +1,4 @@
-use Rattle.tsa_tree.specs.ItemShapes.{base_shape}
+use Rattle.tsa_tree.specs.declarations.Shapes.{base_shape}
 use Rattle.tsa_decl.specs.Seen.{row_type}
 use Rattle.tsa_decl.proofs.BegunLaws.{leads_same}
 use Rattle.tsa_decl.proofs.ItemLaws.{declared_of_same}

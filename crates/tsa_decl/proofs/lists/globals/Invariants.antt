@@ -1,5 +1,5 @@
 use Rattle.std.proofs.Common.{◌≡◌, ◌≤◌, length, ◌-◌}
-use Rattle.tsa_tree.specs.UnitShapes.{item_shapes, HaveTheirPoints}
+use Rattle.tsa_tree.specs.units.Shapes.{item_shapes, HaveTheirPoints}
 use Rattle.tsa_expr.specs.Source.{input, named}
 use Rattle.tsa_decl.specs.Outcomes.{after, globals_at}
 use Rattle.tsa_decl.specs.Seen.{row_type, row_declarator}

@@ -1,5 +1,5 @@
 use Rattle.std.proofs.Common.{◌≡◌, ◌≤◌, ◌+◌, length, ◌-◌}
-use Rattle.tsa_tree.specs.ItemShapes.{decl_shapes}
+use Rattle.tsa_tree.specs.declarations.Shapes.{decl_shapes}
 use Rattle.tsa_expr.specs.Source.{input, named}
 use Rattle.tsa_decl.specs.Outcomes.{after, variables_at}
 use Rattle.tsa_decl.specs.Seen.{row_type}

@@ -1,4 +1,4 @@
-use Rattle.tsa_tree.specs.DeclarationAnswers.{a_head_alone}
+use Rattle.tsa_tree.specs.declarations.Answers.{a_head_alone}
 use Rattle.tsa_decl.proofs.Exact.{found, broken, refused_out, refused_lacking, too_deep, no_other}
 use Rattle.tsa_decl.proofs.read.read_head.Goals as goal
 

@@ -1,4 +1,4 @@
-use Rattle.tsa_tree.specs.DeclarationAnswers.{some_locals}
+use Rattle.tsa_tree.specs.declarations.Answers.{some_locals}
 use Rattle.tsa_decl.proofs.Exact.{found, broken, refused_out, refused_lacking, too_deep, no_other}
 use Rattle.tsa_decl.proofs.read.read_local.Goals as goal
 

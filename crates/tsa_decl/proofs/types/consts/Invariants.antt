@@ -1,6 +1,6 @@
 use Rattle.std.proofs.Common.{◌≡◌, ◌≢◌, ◌<◌, ◌≤◌, length, ◌-◌}
 use Rattle.tsa_tree.specs.declared.sign.Sign.TheVariants as sign
-use Rattle.tsa_tree.specs.Signs.{sign_at}
+use Rattle.tsa_tree.specs.tokens.Signs.{sign_at}
 use Rattle.tsa_expr.specs.Source.{input, named}
 use Rattle.tsa_decl.specs.Outcomes.{consts_at}
 use Rattle.tsa_decl.proofs.types.consts.Given as goal

@@ -1,5 +1,5 @@
 use Rattle.std.proofs.Common.{ap}
-use Rattle.tsa_tree.specs.Shapes.{shape}
+use Rattle.tsa_tree.specs.expressions.Shapes.{shape}
 use Rattle.tsa_leaf.proofs.ConditionLaws.{test_goes}
 use Rattle.tsa_leaf.proofs.conditions.test.Goals as goal
 

@@ -1,8 +1,8 @@
 use Rattle.std.proofs.Common.{◌≡◌, List, drop}
 use Rattle.tsa_tree.specs.declared.stmt.Point.{Point}
-use Rattle.tsa_tree.specs.ItemShapes.{decl_shapes}
-use Rattle.tsa_tree.specs.Statements.{none, locals_before}
-use Rattle.tsa_tree.specs.StatementShapes.{stmt_shapes}
+use Rattle.tsa_tree.specs.declarations.Shapes.{decl_shapes}
+use Rattle.tsa_tree.specs.statements.Syntax.{none, locals_before}
+use Rattle.tsa_tree.specs.statements.Shapes.{stmt_shapes}
 use Rattle.tsa_leaf.specs.Outcomes.{joined}
 use Rattle.tsa_leaf.specs.Pointed.{ArePointed}
 use Rattle.tsa_leaf.proofs.parts.declare.Given as goal

@@ -1,6 +1,6 @@
 use Rattle.std.proofs.Common.{rules, ◌≢◌, ◌∙◌, subst, ap, sym}
 use Rattle.tsa_tree.specs.declared.sign.Sign.TheVariants as sign
-use Rattle.tsa_tree.specs.Signs.{begins_type}
+use Rattle.tsa_tree.specs.tokens.Signs.{begins_type}
 use Rattle.tsa_leaf.proofs.PartLaws.{init_goes, init_pointed}
 use Rattle.tsa_leaf.proofs.parts.for_init.Goals as goal
 

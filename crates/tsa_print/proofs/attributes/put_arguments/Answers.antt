@@ -1,5 +1,5 @@
 use Rattle.std.proofs.Common.{◌≡◌, OnOk, refl, subst}
-use Rattle.tsa_tree.specs.Shapes.{shape, shapes}
+use Rattle.tsa_tree.specs.expressions.Shapes.{shape, shapes}
 use Rattle.tsa_print.specs.Canonical.{pieces, arguments, further}
 use Rattle.tsa_print.specs.Sheets.{page_of}
 use Rattle.tsa_print.proofs.Steps.{put_first, parted}

@@ -1,6 +1,6 @@
 use Rattle.std.proofs.Common.{◌∙◌, refl}
 use Rattle.std.proofs.lemmas.List.{drop_more}
-use Rattle.tsa_tree.specs.Attributes.{attr_shape, attr_shapes}
+use Rattle.tsa_tree.specs.attributes.Syntax.{attr_shape, attr_shapes}
 use Rattle.tsa_print.specs.DeclarationPieces.{attribute_pieces, attributes_pieces}
 use Rattle.tsa_print.specs.Sheets.{page_of}
 use Rattle.tsa_print.proofs.Steps.{put_element}

@@ -1,5 +1,5 @@
 use Rattle.std.proofs.Common.{◌≡◌, drop}
-use Rattle.tsa_tree.specs.Shapes.{shapes}
+use Rattle.tsa_tree.specs.expressions.Shapes.{shapes}
 use Rattle.tsa_print.specs.Canonical.{further}
 use Rattle.tsa_print.specs.Sheets.{page_of, put}
 use Rattle.tsa_print.proofs.attributes.put_further.Given as goal

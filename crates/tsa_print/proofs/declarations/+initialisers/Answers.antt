@@ -1,11 +1,11 @@
 use Rattle.std.proofs.Common.{◌≡◌, OnOk, refl, sym, ap, subst, ◌∙◌, arith}
-use Rattle.tsa_tree.specs.ItemShapes.{init_shape, init_shapes}
+use Rattle.tsa_tree.specs.declarations.Shapes.{init_shape, init_shapes}
 use Rattle.tsa_print.specs.declared.mark.Mark.TheVariants as marks
 use Rattle.tsa_print.specs.Canonical.{mark}
 use Rattle.tsa_print.specs.DeclarationPieces.{initialiser_pieces, initialisers_pieces, further_pieces}
 use Rattle.tsa_print.specs.Sheets.{page_of, put}
 use Rattle.tsa_print.proofs.Steps.{put_first, put_element_behind, dropped, parted_at}
-use Rattle.tsa_tree.proofs.InitialiserTrees.{tall, talls, list_at}
+use Rattle.tsa_tree.proofs.declarations.Trees.{tall, talls, list_at}
 use Rattle.tsa_print.proofs.declarations.+initialisers.Goals as goal
 
 pub put_further_initialisers-each-preserved : goal.put_further_initialisers-each-preserved

@@ -1,8 +1,8 @@
 use Rattle.std.proofs.Common.{◌≡◌, ◌+◌, ◌*◌, ◌≤◌, drop}
-use Rattle.tsa_tree.specs.ItemShapes.{init_shape, init_shapes}
+use Rattle.tsa_tree.specs.declarations.Shapes.{init_shape, init_shapes}
 use Rattle.tsa_print.specs.DeclarationPieces.{further_pieces}
 use Rattle.tsa_print.specs.Sheets.{page_of, put}
-use Rattle.tsa_tree.proofs.InitialiserTrees.{tall, talls}
+use Rattle.tsa_tree.proofs.declarations.Trees.{tall, talls}
 use Rattle.tsa_print.proofs.declarations.+initialisers.Given as goal
 
 abbrev pub decreases-put_initialiser : goal.decreases-put_initialiser

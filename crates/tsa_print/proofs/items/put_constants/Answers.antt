@@ -1,5 +1,5 @@
 use Rattle.std.proofs.Common.{◌≡◌, OnOk, refl, subst}
-use Rattle.tsa_tree.specs.ItemShapes.{enumerator_shape, enumerator_shapes}
+use Rattle.tsa_tree.specs.declarations.Shapes.{enumerator_shape, enumerator_shapes}
 use Rattle.tsa_print.specs.DeclarationPieces.{constant_pieces, further_constants, constants_pieces}
 use Rattle.tsa_print.specs.Sheets.{page_of}
 use Rattle.tsa_print.proofs.Steps.{put_first, parted}

@@ -1,5 +1,5 @@
 use Rattle.std.proofs.Common.{◌≡◌, drop}
-use Rattle.tsa_tree.specs.ItemShapes.{enumerator_shapes}
+use Rattle.tsa_tree.specs.declarations.Shapes.{enumerator_shapes}
 use Rattle.tsa_print.specs.DeclarationPieces.{further_constants}
 use Rattle.tsa_print.specs.Sheets.{page_of, put}
 use Rattle.tsa_print.proofs.items.put_further_constants.Given as goal

@@ -2,7 +2,7 @@ use Rattle.std.proofs.Common.{◌∙◌, refl}
 use Rattle.std.proofs.lemmas.List.{drop_more}
 use Rattle.tsa_print.specs.declared.mark.Mark.TheVariants as marks
 use Rattle.tsa_print.specs.Canonical.{mark}
-use Rattle.tsa_tree.specs.ItemShapes.{param_shape, param_shapes}
+use Rattle.tsa_tree.specs.declarations.Shapes.{param_shape, param_shapes}
 use Rattle.tsa_print.specs.DeclarationPieces.{parameter_pieces, further_parameters}
 use Rattle.tsa_print.specs.Sheets.{page_of}
 use Rattle.tsa_print.proofs.Steps.{put_element_behind}

@@ -1,5 +1,5 @@
 use Rattle.std.proofs.Common.{◌≡◌, drop}
-use Rattle.tsa_tree.specs.UnitShapes.{item_shapes}
+use Rattle.tsa_tree.specs.units.Shapes.{item_shapes}
 use Rattle.tsa_print.specs.UnitPieces.{unit_pieces}
 use Rattle.tsa_print.specs.Sheets.{page_of, put}
 use Rattle.tsa_print.proofs.items.put_items.Given as goal

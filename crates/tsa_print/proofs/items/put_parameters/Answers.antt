@@ -1,5 +1,5 @@
 use Rattle.std.proofs.Common.{◌≡◌, OnOk, refl, subst}
-use Rattle.tsa_tree.specs.ItemShapes.{param_shape, param_shapes}
+use Rattle.tsa_tree.specs.declarations.Shapes.{param_shape, param_shapes}
 use Rattle.tsa_print.specs.DeclarationPieces.{parameter_pieces, further_parameters, parameters_pieces}
 use Rattle.tsa_print.specs.Sheets.{page_of}
 use Rattle.tsa_print.proofs.Steps.{put_first, parted}

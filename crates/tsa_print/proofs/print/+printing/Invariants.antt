@@ -1,6 +1,6 @@
 use Rattle.std.proofs.Common.{◌≡◌, ◌++◌, ◌+◌, ◌*◌, ◌≤◌, [], max, drop}
-use Rattle.tsa_tree.specs.Expressions.{height, heights}
-use Rattle.tsa_tree.specs.Shapes.{shape, shapes}
+use Rattle.tsa_tree.specs.expressions.Syntax.{height, heights}
+use Rattle.tsa_tree.specs.expressions.Shapes.{shape, shapes}
 use Rattle.tsa_print.proofs.WrittenParts.{listed}
 use Rattle.tsa_print.proofs.print.+printing.Given as goal
 

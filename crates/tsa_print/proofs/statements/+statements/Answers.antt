@@ -1,11 +1,11 @@
 use Rattle.std.proofs.Common.{◌≡◌, OnOk, refl, sym, ap, subst, ◌∙◌, arith}
 use Rattle.std.proofs.lemmas.List.{drop_more}
-use Rattle.tsa_tree.specs.StatementShapes.{stmt_shapes}
+use Rattle.tsa_tree.specs.statements.Shapes.{stmt_shapes}
 use Rattle.tsa_print.specs.declared.mark.Mark.TheVariants as marks
 use Rattle.tsa_print.specs.UnitPieces.{statement_pieces, statements_pieces}
 use Rattle.tsa_print.specs.Sheets.{page_of, put}
 use Rattle.tsa_print.proofs.Steps.{put_element}
-use Rattle.tsa_tree.proofs.StatementTrees.{tall, talls, shape_of, block_at}
+use Rattle.tsa_tree.proofs.statements.Trees.{tall, talls, shape_of, block_at}
 use Rattle.tsa_print.proofs.statements.+statements.Goals as goal
 
 pub put_statement-put_block-requires : goal.put_statement-put_block-requires

@@ -1,8 +1,8 @@
 use Rattle.std.proofs.Common.{◌≡◌, ◌+◌, ◌*◌, ◌≤◌, max, drop}
-use Rattle.tsa_tree.specs.StatementShapes.{stmt_shapes}
+use Rattle.tsa_tree.specs.statements.Shapes.{stmt_shapes}
 use Rattle.tsa_print.specs.UnitPieces.{statements_pieces}
 use Rattle.tsa_print.specs.Sheets.{page_of, put}
-use Rattle.tsa_tree.proofs.StatementTrees.{tall, talls, shape_of, tall_given}
+use Rattle.tsa_tree.proofs.statements.Trees.{tall, talls, shape_of, tall_given}
 use Rattle.tsa_print.proofs.statements.+statements.Given as goal
 
 abbrev pub decreases-put_statement : goal.decreases-put_statement

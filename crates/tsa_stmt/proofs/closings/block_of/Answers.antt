@@ -1,6 +1,6 @@
 use Rattle.std.proofs.Common.{◌∙◌, ap}
-use Rattle.tsa_tree.specs.Statements.{block}
-use Rattle.tsa_tree.specs.StatementShapes.{stmt_shapes}
+use Rattle.tsa_tree.specs.statements.Syntax.{block}
+use Rattle.tsa_tree.specs.statements.Shapes.{stmt_shapes}
 use Rattle.tsa_stmt.proofs.ClosingLaws.{block_shaped, block_pointed}
 use Rattle.tsa_stmt.proofs.closings.block_of.Goals as goal
 

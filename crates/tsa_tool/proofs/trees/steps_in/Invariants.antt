@@ -1,5 +1,5 @@
 use Rattle.std.proofs.Common.{◌≡◌, drop}
-use Rattle.tsa_tree.specs.StatementShapes.{stmt_shapes}
+use Rattle.tsa_tree.specs.statements.Shapes.{stmt_shapes}
 use Rattle.tsa_tool.specs.Trees.{steps_in}
 use Rattle.tsa_tool.proofs.Thins.{after}
 use Rattle.tsa_tool.proofs.trees.steps_in.Given as goal

@@ -1,5 +1,5 @@
 use Rattle.std.proofs.Common.{◌≡◌, drop, map, vec_len}
-use Rattle.tsa_tree.specs.UnitShapes.{item_shapes}
+use Rattle.tsa_tree.specs.units.Shapes.{item_shapes}
 use Rattle.tsa_tool.specs.Items.{item_of}
 use Rattle.tsa_tool.specs.Trees.{thin_of}
 use Rattle.tsa_tool.proofs.Thins.{after}

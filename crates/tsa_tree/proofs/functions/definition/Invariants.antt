@@ -1,5 +1,5 @@
 use Rattle.std.proofs.Common.{◌≡◌, drop}
-use Rattle.tsa_tree.specs.Functions.{defined_among, functions_in}
+use Rattle.tsa_tree.specs.units.Functions.{defined_among, functions_in}
 use Rattle.tsa_tree.proofs.functions.definition.Given as goal
 
 abbrev pub invariant-items : goal.invariant-items

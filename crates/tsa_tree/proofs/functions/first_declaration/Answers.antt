@@ -1,5 +1,5 @@
 use Rattle.std.proofs.Common.{rules, ◌∙◌, sym}
-use Rattle.tsa_tree.proofs.FunctionLaws.{first_other, first_left}
+use Rattle.tsa_tree.proofs.units.FunctionLaws.{first_other, first_left}
 use Rattle.tsa_tree.proofs.functions.first_declaration.Goals as goal
 
 pub items-preserved-in_default : goal.items-preserved-in_default

@@ -1,5 +1,5 @@
 use Rattle.std.proofs.Common.{◌≡◌, slice_get, take, drop}
-use Rattle.tsa_tree.specs.Functions.{firsts_behind, first_of, functions_in}
+use Rattle.tsa_tree.specs.units.Functions.{firsts_behind, first_of, functions_in}
 use Rattle.tsa_tree.proofs.functions.first_declaration.Given as goal
 
 abbrev pub invariant-items : goal.invariant-items

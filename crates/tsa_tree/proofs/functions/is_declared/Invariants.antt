@@ -1,6 +1,6 @@
 use Rattle.std.proofs.Common.{◌≡◌, drop}
 use Rattle.std.specs.List.{list_any}
-use Rattle.tsa_tree.specs.Functions.{bears, functions_in}
+use Rattle.tsa_tree.specs.units.Functions.{bears, functions_in}
 use Rattle.tsa_tree.proofs.functions.is_declared.Given as goal
 
 abbrev pub invariant-items : goal.invariant-items

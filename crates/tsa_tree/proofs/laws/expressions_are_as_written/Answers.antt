@@ -1,4 +1,4 @@
-use Rattle.tsa_tree.proofs.ExpressionExamples.{productions_are_read}
+use Rattle.tsa_tree.proofs.expressions.Examples.{productions_are_read}
 use Rattle.tsa_tree.proofs.laws.expressions_are_as_written.Goals as goal
 
 pub returns : goal.returns

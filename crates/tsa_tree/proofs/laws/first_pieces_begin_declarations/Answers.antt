@@ -1,4 +1,4 @@
-use Rattle.tsa_tree.proofs.DeclarationLaws.{pieces_begin}
+use Rattle.tsa_tree.proofs.declarations.Laws.{pieces_begin}
 use Rattle.tsa_tree.proofs.laws.first_pieces_begin_declarations.Goals as goal
 
 pub returns : goal.returns

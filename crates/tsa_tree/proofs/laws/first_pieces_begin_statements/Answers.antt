@@ -1,4 +1,4 @@
-use Rattle.tsa_tree.proofs.StatementLaws.{pieces_begin}
+use Rattle.tsa_tree.proofs.statements.Laws.{pieces_begin}
 use Rattle.tsa_tree.proofs.laws.first_pieces_begin_statements.Goals as goal
 
 pub returns : goal.returns

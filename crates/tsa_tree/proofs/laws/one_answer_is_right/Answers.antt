@@ -1,7 +1,7 @@
 use Rattle.tsa_tree.specs.Rows as rows
 use Rattle.tsa_tree.specs.Reads.{read}
-use Rattle.tsa_tree.specs.SyntaxLaws.{call_of}
-use Rattle.tsa_tree.proofs.AnswerLemmas.{read_answers, one_answer}
+use Rattle.tsa_tree.specs.expressions.Laws.{call_of}
+use Rattle.tsa_tree.proofs.expressions.Answers.{read_answers, one_answer}
 use Rattle.tsa_tree.proofs.laws.one_answer_is_right.Goals as goal
 
 pub returns : goal.returns

@@ -1,4 +1,4 @@
-use Rattle.tsa_tree.proofs.OneTree.{one_tree}
+use Rattle.tsa_tree.proofs.expressions.OneTree.{one_tree}
 use Rattle.tsa_tree.proofs.laws.one_tree_is_spelled.Goals as goal
 
 pub returns : goal.returns

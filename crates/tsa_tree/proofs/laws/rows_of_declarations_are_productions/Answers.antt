@@ -1,4 +1,4 @@
-use Rattle.tsa_tree.proofs.DeclarationLaws.{spell_the_same, types_spell_the_same}
+use Rattle.tsa_tree.proofs.declarations.Laws.{spell_the_same, types_spell_the_same}
 use Rattle.tsa_tree.proofs.laws.rows_of_declarations_are_productions.Goals as goal
 
 pub returns-clause-spelled : goal.returns-clause-spelled

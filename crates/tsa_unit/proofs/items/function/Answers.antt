@@ -1,5 +1,5 @@
 use Rattle.std.proofs.Common.{rules, ◌∙◌}
-use Rattle.tsa_tree.specs.ItemShapes.{head_shape}
+use Rattle.tsa_tree.specs.declarations.Shapes.{head_shape}
 use Rattle.tsa_expr.specs.Source.{input, named}
 use Rattle.tsa_unit.proofs.FunctionLaws.{unopened_after, bodiless_after}
 use Rattle.tsa_unit.proofs.items.function.Goals as goal

@@ -1,6 +1,6 @@
 use Rattle.std.proofs.Common.{◌≡◌, slice_get}
-use Rattle.tsa_tree.specs.UnitLimits.{past_functions}
-use Rattle.tsa_tree.specs.UnitShapes.{item_shapes}
+use Rattle.tsa_tree.specs.units.Limits.{past_functions}
+use Rattle.tsa_tree.specs.units.Shapes.{item_shapes}
 use Rattle.tsa_unit.proofs.LimitLaws.{functions_from}
 use Rattle.tsa_unit.proofs.limits.past_functions.Given as goal
 

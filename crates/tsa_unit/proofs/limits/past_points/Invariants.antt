@@ -1,6 +1,6 @@
 use Rattle.std.proofs.Common.{◌≡◌}
-use Rattle.tsa_tree.specs.UnitLimits.{past_points}
-use Rattle.tsa_tree.specs.UnitShapes.{item_shapes}
+use Rattle.tsa_tree.specs.units.Limits.{past_points}
+use Rattle.tsa_tree.specs.units.Shapes.{item_shapes}
 use Rattle.tsa_unit.proofs.LimitLaws.{points_from}
 use Rattle.tsa_unit.proofs.limits.past_points.Given as goal
 

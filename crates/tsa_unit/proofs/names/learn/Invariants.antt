@@ -1,6 +1,6 @@
 use Rattle.std.proofs.Common.{◌≡◌}
-use Rattle.tsa_tree.specs.UnitItems.{names_of}
-use Rattle.tsa_tree.specs.UnitShapes.{item_shapes}
+use Rattle.tsa_tree.specs.units.Syntax.{names_of}
+use Rattle.tsa_tree.specs.units.Shapes.{item_shapes}
 use Rattle.tsa_unit.specs.Names.{with_names}
 use Rattle.tsa_unit.proofs.NameLaws.{names_from}
 use Rattle.tsa_unit.proofs.names.learn.Given as goal

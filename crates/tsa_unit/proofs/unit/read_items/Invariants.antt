@@ -1,7 +1,7 @@
 use Rattle.std.proofs.Common.{◌≡◌, ◌≤◌, length, ◌-◌}
-use Rattle.tsa_tree.specs.Signs.{lexemes}
-use Rattle.tsa_tree.specs.UnitAnswers.{read_unit}
-use Rattle.tsa_tree.specs.UnitShapes.{HaveTheirPoints}
+use Rattle.tsa_tree.specs.tokens.Signs.{lexemes}
+use Rattle.tsa_tree.specs.units.Answers.{read_unit}
+use Rattle.tsa_tree.specs.units.Shapes.{HaveTheirPoints}
 use Rattle.tsa_unit.specs.Items.{on_from}
 use Rattle.tsa_unit.proofs.unit.read_items.Given as goal
 

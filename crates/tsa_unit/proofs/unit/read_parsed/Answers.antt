@@ -1,7 +1,7 @@
 use Rattle.std.proofs.Common.{◌∙◌, ap, sym, Ok}
 use Rattle.std.proofs.lemmas.List.{length-map}
 use Rattle.tsa_base.specs.Tokens.{lexeme}
-use Rattle.tsa_tree.specs.UnitShapes.{item_shapes}
+use Rattle.tsa_tree.specs.units.Shapes.{item_shapes}
 use Rattle.tsa_unit.proofs.ParsedLaws.{well_read}
 use Rattle.tsa_unit.proofs.unit.read_parsed.Goals as goal
 

@@ -1,9 +1,9 @@
 use Rattle.std.proofs.Common.{◌≡◌, ◌+◌, ◌≤◌, length, max, ◌-◌, ◌*◌}
-use Rattle.tsa_tree.specs.Expressions.{heights}
+use Rattle.tsa_tree.specs.expressions.Syntax.{heights}
 use Rattle.tsa_tree.specs.Reads.{read, read_on, read_behind}
 use Rattle.tsa_tree.specs.Rows.{some_arguments, series}
-use Rattle.tsa_tree.specs.Shapes.{shape, shapes}
-use Rattle.tsa_tree.specs.Signs.{sign_at}
+use Rattle.tsa_tree.specs.expressions.Shapes.{shape, shapes}
+use Rattle.tsa_tree.specs.tokens.Signs.{sign_at}
 use Rattle.tsa_expr.specs.Source.{input, named}
 use Rattle.tsa_expr.specs.Seen.{after}
 use Rattle.tsa_expr.proofs.source.Reader.+reader.Given as goal

@@ -1,6 +1,6 @@
 use Rattle.std.proofs.Common.{◌∙◌, ap, arith}
-use Rattle.tsa_tree.specs.Expressions.{call, height}
-use Rattle.tsa_tree.specs.Shapes.{name_shape, shapes}
+use Rattle.tsa_tree.specs.expressions.Syntax.{call, height}
+use Rattle.tsa_tree.specs.expressions.Shapes.{name_shape, shapes}
 use Rattle.tsa_expr.proofs.Rows.{shape-call}
 use Rattle.tsa_expr.proofs.source.Reader.call.Goals as goal
 

@@ -1,7 +1,7 @@
 use Rattle.std.proofs.Common.{◌≡◌, ◌+◌, ◌≤◌, length, ◌-◌, ◌*◌}
 use Rattle.tsa_tree.specs.Reads.{read}
 use Rattle.tsa_tree.specs.Rows.{some_statements, statements}
-use Rattle.tsa_tree.specs.StatementShapes.{stmt_shapes}
+use Rattle.tsa_tree.specs.statements.Shapes.{stmt_shapes}
 use Rattle.tsa_expr.specs.Source.{input, named}
 use Rattle.tsa_leaf.specs.Outcomes.{statements_after}
 use Rattle.tsa_leaf.specs.Pointed.{ArePointed}

@@ -1,4 +1,4 @@
-use Rattle.tsa_tree.specs.Signs.{span_at}
+use Rattle.tsa_tree.specs.tokens.Signs.{span_at}
 use Rattle.tsa_expr.specs.Source.{input}
 use Rattle.tsa_stmt.proofs.HeadLaws.{for_opened}
 use Rattle.tsa_stmt.proofs.text.TextReader.for_head.Goals as goal

@@ -1,0 +1,15 @@
+-- Of attributes.
+pub mod Facts
+pub mod Meet
+pub mod Meanings
+pub mod Kept
+pub mod Opened
+pub mod Skips
+pub mod ToRows
+pub mod SkipsToRows
+pub mod ListsToRows
+pub mod Same
+pub mod Ahead
+pub mod Answers
+pub mod Laws
+pub mod Examples

@@ -1,0 +1,19 @@
+-- Of declarations and items.
+pub mod Facts
+pub mod Meet
+pub mod DeclaratorsMeet
+pub mod ItemsMeet
+pub mod ItemRowsMeet
+pub mod ToRows
+pub mod HeadsToRows
+pub mod ItemsToRows
+pub mod Meanings
+pub mod Signs
+pub mod Kept
+pub mod ItemsKept
+pub mod ItemRowsKept
+pub mod RowsToProductions
+pub mod Broken
+pub mod Laws
+pub mod Examples
+pub mod Trees

@@ -1,0 +1,14 @@
+-- Of expressions.
+pub mod ToRows
+pub mod RowsToProductions
+pub mod BeginningsToRows
+pub mod RowsToBeginnings
+pub mod Same
+pub mod Ahead
+pub mod Truncated
+pub mod GoesOn
+pub mod Unlimited
+pub mod Answers
+pub mod OneTree
+pub mod Examples
+pub mod Trees

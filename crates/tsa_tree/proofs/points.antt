@@ -1,0 +1,2 @@
+-- Of points.
+pub mod Examples

@@ -1,0 +1,10 @@
+-- Of statements.
+pub mod Facts
+pub mod Meet
+pub mod BlocksMeet
+pub mod SimplesToRows
+pub mod BlocksToRows
+pub mod Kept
+pub mod Laws
+pub mod Examples
+pub mod Trees

@@ -1,0 +1,4 @@
+-- Of tokens.
+pub mod Facts
+pub mod ProductionSigns
+pub mod ReservedWords

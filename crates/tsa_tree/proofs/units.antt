@@ -1,0 +1,5 @@
+-- Of whole units.
+pub mod Meet
+pub mod Laws
+pub mod Examples
+pub mod FunctionLaws

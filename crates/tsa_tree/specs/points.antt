@@ -1,0 +1,3 @@
+-- Points of bodies.
+pub mod Syntax
+pub mod Examples

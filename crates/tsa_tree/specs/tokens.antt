@@ -1,0 +1,2 @@
+-- What the grammar sees of tokens.
+pub mod Signs

@@ -1,0 +1,11 @@
+-- Whole units (C11 6.9).
+pub mod Syntax
+pub mod Spelling
+pub mod Rows
+pub mod Answers
+pub mod Plain
+pub mod Examples
+pub mod Limits
+pub mod Shapes
+pub mod WellRead
+pub mod Functions
