@@ -2,7 +2,7 @@
 ghost use Rattle.std.specs.Prelude.{◌≤◌, vec_len, IfOk};
 ghost use Rattle.tsa_base.specs.declared.limits.TheConstants.{INPUT_LIMIT as LONGEST};
 ghost use Rattle.tsa_tree.specs.tokens.Signs.{lexemes};
-ghost use Rattle.tsa_stmt.specs.Near.{AreNear};
+ghost use Rattle.tsa_tree.specs.tokens.Texts.{AreOfText};
 
 use std::alloc::Global;
 use std::test::Fail;
@@ -10,10 +10,10 @@ use tsa_base::{INPUT_LIMIT, Span, Token, TokenKind};
 use tsa_lex::lex;
 
 /// The tokens of a text that is no longer than an input may be.
-#[tactic(auto, using(tsa_unit::proofs::Near::lexed_near))]
+#[tactic(auto, using(tsa_tree::proofs::tokens::Texts::of_text))]
 pub fn tokens_of<'s>(alloc: Global, text: &'s [u8]) -> Result<Vec<Token<'s>>, Fail>
     ensures few { IfOk result (λ tokens. vec_len tokens ≤ LONGEST) }
-    ensures near { IfOk result (λ tokens. AreNear (lexemes tokens.items)) }
+    ensures text { IfOk result (λ tokens. AreOfText (lexemes tokens.items)) }
 {
     if text.len() > INPUT_LIMIT {
         return Err(Fail::new("the text is too long"));

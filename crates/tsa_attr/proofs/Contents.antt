@@ -1,5 +1,5 @@
 -- An attribute, from its name or macro word to its parenthesis.
-use Rattle.std.proofs.Common.{ℕ, ◌+◌, ◌<◌, ◌≤◌, ◌≡◌, ◌≢◌, ◌∙◌, ap, sym, refl, Bool, true, false, List, [], ◌∷◌, ◌++◌, Some, None, Ok, Err, nat_eq}
+use Rattle.std.proofs.Common.{ℕ, ◌+◌, ◌<◌, ◌≤◌, ◌≡◌, ◌≢◌, ◌∙◌, ap, sym, subst, refl, Bool, true, false, List, [], ◌∷◌, ◌++◌, Some, None, Result, Ok, Err, IfOk, OnErr, nat_eq}
 use Rattle.tsa_base.specs.declared.token.Span.{Span}
 use Rattle.tsa_base.specs.Tokens.{Lexeme}
 use Rattle.tsa_forms.proofs.Cases.{chosen, other, goes}
@@ -11,16 +11,18 @@ use Rattle.tsa_tree.specs.declared.sign.Sign.TheVariants as sign
 use Rattle.tsa_tree.specs.attributes.Refusals.{lacking}
 use Rattle.tsa_tree.specs.attributes.Syntax as takes
 use Rattle.tsa_tree.specs.attributes.Syntax.{Attribute, Taking, taking, unquoted, try_value, attr_shape, attr_shapes}
-use Rattle.tsa_tree.specs.attributes.Spelling.{attribute}
+use Rattle.tsa_tree.specs.attributes.Spelling.{attribute, attribute_of}
 use Rattle.tsa_tree.specs.expressions.Syntax.{Expression, Arguments, none, more}
 use Rattle.tsa_tree.specs.Reads.{read}
 use Rattle.tsa_tree.specs.Rows.{an_expression, some_arguments, some_attributes, expression, series, Row, a_close, a_comma, a_text, is_given, mark, sees, lacking_at, arguments_row}
 use Rattle.tsa_tree.specs.tokens.Signs.{Aliases, sign_at, identifier_at, span_over}
 use Rattle.tsa_expr.specs.declared.refusal.SyntaxRefusal.{SyntaxRefusal}
-use Rattle.tsa_expr.specs.Gives.{Fails}
+use Rattle.tsa_expr.specs.declared.refusal.SyntaxRefusal.TheVariants.{NoMemory}
+use Rattle.tsa_expr.specs.Gives.{Fails, Gives}
 use Rattle.tsa_expr.proofs.Answering.{fails_then, fails_same, gives_same, not_comma}
 use Rattle.tsa_attr.specs.Outcomes.{after, one_token, opening, arguments_at, attribute_at}
-use Rattle.tsa_attr.specs.Seen.{made}
+use Rattle.tsa_attr.specs.declared.reading.Reading.{Reading}
+use Rattle.tsa_attr.specs.Seen.{made, seen}
 use Rattle.tsa_attr.proofs.Joining.{then-then, then-same, then-choose, token-law, shapes-push}
 use Rattle.tsa_attr.proofs.Openings.{going, open_wrong, open_deep, open_goes}
 
@@ -139,9 +141,16 @@ module _ (ts : List Lexeme) (aliases : Aliases) where
   list_fails d k m e h = fails_then e _ _ h
 
   pub list_goes : (d : ℕ) (k : AttrKind) (m : ℕ) (xs : Arguments) (n i : ℕ) (x : Attribute) → read ts some_arguments (series aliases d) (m + 1 + 1) ≡ Ok (xs, n)
-      → x ≡ attribute ts k None None xs m n → i ≡ n → arguments_at ts aliases d k m takes.expressions ≡ Ok (x ∷ [], i)
+      → x ≡ attribute_of ts k xs m n → i ≡ n → arguments_at ts aliases d k m takes.expressions ≡ Ok (x ∷ [], i)
   unfolding arguments_at
   list_goes d k m xs n i x h p q = goes _ _ xs n h ∙ ap (λ x. Ok (x ∷ [], n)) (sym p) ∙ ap (λ n. Ok (x ∷ [], n)) (sym q)
+
+  pub list_gives : (d : ℕ) (k : AttrKind) (m : ℕ) (xs : Arguments) (n : ℕ) (r : Result Reading SyntaxRefusal)
+      → read ts some_arguments (series aliases d) (m + 1 + 1) ≡ Ok (xs, n) → IfOk r (λ x. attr_shape x.attr ≡ attribute_of ts k xs m n)
+      → IfOk r (λ x. x.next ≡ n) → OnErr r (r ≡ Err NoMemory) → Gives seen r (arguments_at ts aliases d k m takes.expressions)
+  list_gives d k m xs n (Ok x) h p q e = list_goes d k m xs n x.next (attr_shape x.attr) h p q
+  list_gives d k m xs n (Err y) h p q e =
+      let same : NoMemory ≡ y = cc in subst (λ y. Fails y (arguments_at ts aliases d k m takes.expressions)) same tt
 
   -- a try
   pub try_wrong : (d : ℕ) (k : AttrKind) (m : ℕ) → try_value (identifier_at ts (m + 1 + 1)).text ≡ None

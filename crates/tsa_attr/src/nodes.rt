@@ -1,7 +1,8 @@
 //! The nodes of attributes are made.
 ghost use Rattle.std.specs.Prelude.{◌≡◌, ◌++◌, ◌∷◌, [], Some, None, IfOk, OnOk, OnErr, Err};
-ghost use Rattle.tsa_tree.specs.attributes.Syntax.{attr_shape, attr_shapes, unquoted};
-ghost use Rattle.tsa_tree.specs.attributes.Spelling.{attribute};
+ghost use Rattle.std.specs.Option.{option_map};
+ghost use Rattle.tsa_tree.specs.attributes.Syntax.{attr_shape, attr_shapes, unquoted, without_not as spec_without, without_nots as spec_withouts, negative as spec_negative};
+ghost use Rattle.tsa_tree.specs.attributes.Spelling.{attribute, attribute_of};
 ghost use Rattle.tsa_tree.specs.expressions.Syntax.{none, more};
 ghost use Rattle.tsa_tree.specs.expressions.Shapes.{shape, shapes};
 ghost use Rattle.tsa_tree.specs.tokens.Signs.{identifier_at};
@@ -15,7 +16,7 @@ use std::alloc::AllocError;
 use tsa_base::Span;
 use tsa_expr::{ArgumentList, Reader, SyntaxRefusal};
 use tsa_tree::attr::{Attr, AttrKind};
-use tsa_tree::expr::Expr;
+use tsa_tree::expr::{Expr, ExprKind, UnaryOp};
 
 /// An attribute of a text.
 pub fn of_text<'a>(kind: AttrKind, text: &'a [u8], span: Span) -> Attr<'a>
@@ -63,6 +64,74 @@ pub fn of_list<'a>(
     Reading {
         attr,
         next: args.next,
+    }
+}
+
+/// The attribute of a name and its expressions. One that requires of each of its locks that it isn't held excludes them.
+pub fn of_expressions<'a>(
+    reader: Reader<'a, '_>,
+    name: AttributeName,
+    args: ArgumentList<'a>,
+) -> Result<Reading<'a>, SyntaxRefusal>
+    ensures is { IfOk result (λ r. attr_shape r.attr ≡ attribute_of (input reader.entry) name.kind (shapes args.entry.items.now) name.at args.entry.next) }
+    ensures ends { IfOk result (λ r. r.next ≡ args.entry.next) }
+    ensures memory { OnErr result (result ≡ Err SyntaxRefusal.NoMemory) }
+{
+    let Some(items) = negative(reader.bump, name.kind, args.items)? else {
+        return Ok(of_list(reader, name, None, args));
+    };
+    let span = reader.over(name.at, args.next);
+    let attr = of_args(AttrKind::Excludes, None, items, span);
+    Ok(Reading {
+        attr,
+        next: args.next,
+    })
+}
+
+/// What an attribute excludes that requires of each of its locks that it isn't held.
+fn negative<'a>(
+    bump: &'a Bump,
+    kind: AttrKind,
+    args: &[Expr<'a>],
+) -> Result<Option<&'a [Expr<'a>]>, SyntaxRefusal>
+    ensures is { IfOk result (λ found. option_map (λ items. shapes items.now) found ≡ spec_negative kind (shapes args.now)) }
+    ensures memory { OnErr result (result ≡ Err SyntaxRefusal.NoMemory) }
+{
+    match kind {
+        AttrKind::Requires => without_nots(bump, args),
+        _ => Ok(None),
+    }
+}
+
+/// What the `!` of some expressions stand before, where each of them begins with one, kept in the arena.
+#[tactic(auto, using(crate::proofs::Negatives::negatives))]
+fn without_nots<'a>(
+    bump: &'a Bump,
+    args: &[Expr<'a>],
+) -> Result<Option<&'a [Expr<'a>]>, SyntaxRefusal>
+    ensures is { IfOk result (λ found. option_map (λ items. shapes items.now) found ≡ spec_withouts (shapes args.now)) }
+    ensures memory { OnErr result (result ≡ Err SyntaxRefusal.NoMemory) }
+{
+    let mut items = Vec::new(bump);
+    'each: for arg in args {
+        let Some(inner) = without_not(arg) else {
+            return Ok(None);
+        };
+        items.push(inner)?;
+    }
+    Ok(Some(into_bump_slice(items)))
+}
+
+/// What a `!` stands before.
+fn without_not<'a>(arg: &Expr<'a>) -> Option<Expr<'a>>
+    ensures { option_map shape result ≡ spec_without (shape arg.now) }
+{
+    match arg.kind {
+        ExprKind::Unary {
+            op: UnaryOp::Not,
+            inner,
+        } => Some(*inner),
+        _ => None,
     }
 }
 

@@ -7,7 +7,7 @@ ghost use Rattle.tsa_expr.specs.Source.{input, named};
 ghost use Rattle.tsa_attr.specs.Outcomes.{after, arguments_at, attribute_at};
 ghost use Rattle.tsa_attr.specs.Seen.{IsBehind, seen};
 
-use crate::nodes::{append, list_of_one, of_args, of_list, of_text, text_at};
+use crate::nodes::{append, list_of_one, of_args, of_expressions, of_list, of_text, text_at};
 use crate::reading::{AttributeName, Reading};
 use crate::view::{Content, close, content_of, lacks_inside, try_value_at};
 use bumpalo::Bump;
@@ -111,7 +111,7 @@ fn expressions<'a>(
     ensures ends { IfOk result (λ r. IsBehind reader.entry name.at r.next) }
 {
     let args = reader.arguments(name.at + 1 + 1, depth)?;
-    Ok(of_list(reader, name, None, args))
+    of_expressions(reader, name, args)
 }
 
 /// The result of a try, a comma, expressions and the closing parenthesis.

@@ -44,7 +44,9 @@ pub fn content_of(kind: AttrKind) -> Content
         | AttrKind::Release
         | AttrKind::ReleaseShared
         | AttrKind::ReleaseGeneric
-        | AttrKind::Excludes => Content::Expressions,
+        | AttrKind::Excludes
+        | AttrKind::AcquiredBefore
+        | AttrKind::AcquiredAfter => Content::Expressions,
     }
 }
 

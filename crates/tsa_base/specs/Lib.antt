@@ -9,3 +9,4 @@ pub mod Transfer
 pub mod Script
 pub mod Places
 pub mod PieceLaws
+pub mod LimitLaws

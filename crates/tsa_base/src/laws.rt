@@ -1,6 +1,7 @@
-//! Laws above the definition of tokens.
+//! Laws above the definition of tokens, and the numbers of the limits.
 ghost use Rattle.tsa_base.specs.TokenLaws.{TokensAreAsWritten, NextTokenIsTheLongest};
 ghost use Rattle.tsa_base.specs.PieceLaws.{TextsFallIntoPieces};
+ghost use Rattle.tsa_base.specs.LimitLaws.{LimitsAreAsWritten};
 
 /// Texts of each form have the tokens, and those of each refusal the first bad byte, that are written beside them.
 #[tactic(auto, using(crate::proofs::TokenExamples::tokens_are_as_written))]
@@ -19,4 +20,9 @@ pub fn the_next_token_is_the_longest()
 #[tactic(auto, using(crate::proofs::TokenPlaces::texts_fall_into_pieces))]
 pub fn texts_fall_into_pieces()
     ensures { TextsFallIntoPieces }
+{}
+
+/// Each limit is the number that is written here.
+pub fn limits_are_as_written()
+    ensures { LimitsAreAsWritten }
 {}

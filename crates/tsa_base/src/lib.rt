@@ -14,7 +14,10 @@ mod value;
 mod write;
 
 pub use honest::{HonestSink, HonestSource};
-pub use laws::{texts_fall_into_pieces, the_next_token_is_the_longest, tokens_are_as_written};
+pub use laws::{
+    limits_are_as_written, texts_fall_into_pieces, the_next_token_is_the_longest,
+    tokens_are_as_written,
+};
 pub use limits::{
     CAPABILITY_LIMIT, FRAME_LIMIT, FUNCTION_LIMIT, INPUT_LIMIT, NESTING_LIMIT, PLACE_LIMIT,
     POINT_LIMIT, THREAD_LIMIT, TRY_LIMIT, TURN_LIMIT,

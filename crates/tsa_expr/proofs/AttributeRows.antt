@@ -22,11 +22,11 @@ pub of_thirteen : (text : List ℕ) → length text ≡ 13 → listed ((codes "p
 unfolding attribute_names
 of_thirteen text long = of_length attribute_names text 13 long
 
-pub of_fourteen : (text : List ℕ) → length text ≡ 14 → listed ((codes "locks_excluded", mean.Known attr.Excludes) ∷ (codes "pt_guarded_var", mean.LeftOut) ∷ (codes "acquired_after", mean.LeftOut) ∷ []) text ≡ listed attribute_names text
+pub of_fourteen : (text : List ℕ) → length text ≡ 14 → listed ((codes "locks_excluded", mean.Known attr.Excludes) ∷ (codes "acquired_after", mean.Known attr.AcquiredAfter) ∷ (codes "pt_guarded_var", mean.LeftOut) ∷ []) text ≡ listed attribute_names text
 unfolding attribute_names
 of_fourteen text long = of_length attribute_names text 14 long
 
-pub of_fifteen : (text : List ℕ) → length text ≡ 15 → listed ((codes "scoped_lockable", mean.LeftOut) ∷ (codes "unlock_function", mean.LeftOut) ∷ (codes "acquired_before", mean.LeftOut) ∷ []) text ≡ listed attribute_names text
+pub of_fifteen : (text : List ℕ) → length text ≡ 15 → listed ((codes "acquired_before", mean.Known attr.AcquiredBefore) ∷ (codes "scoped_lockable", mean.LeftOut) ∷ (codes "unlock_function", mean.LeftOut) ∷ []) text ≡ listed attribute_names text
 unfolding attribute_names
 of_fifteen text long = of_length attribute_names text 15 long
 

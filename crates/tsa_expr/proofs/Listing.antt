@@ -18,7 +18,7 @@ use Rattle.tsa_expr.specs.Seen.{joined, after}
 use Rattle.tsa_expr.proofs.Answering.{fails_then, fails_same, gives_same, not_close, not_comma}
 use Rattle.tsa_expr.proofs.Places.{read_ends}
 
-joined-one : (front : Arguments) (x : Expression) (rest : Arguments) → joined (joined front (more x none)) rest ≡ joined front (more x rest)
+pub joined-one : (front : Arguments) (x : Expression) (rest : Arguments) → joined (joined front (more x none)) rest ≡ joined front (more x rest)
 joined-one none x rest = refl
 joined-one (more y front) x rest = ap (more y) (joined-one front x rest)
 

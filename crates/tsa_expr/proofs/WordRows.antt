@@ -47,11 +47,11 @@ pub of_thirteen : (text : List ℕ) → length text ≡ 13 → listed ((codes "_
 unfolding word_signs
 of_thirteen text long = of_length word_signs text 13 long
 
-pub of_fourteen : (text : List ℕ) → length text ≡ 14 → listed ((codes "ACQUIRE_SHARED", sign.Macro attr.AcquireShared) ∷ (codes "RELEASE_SHARED", sign.Macro attr.ReleaseShared) ∷ (codes "ACQUIRED_AFTER", sign.LeftOutMacro) ∷ []) text ≡ listed word_signs text
+pub of_fourteen : (text : List ℕ) → length text ≡ 14 → listed ((codes "ACQUIRE_SHARED", sign.Macro attr.AcquireShared) ∷ (codes "RELEASE_SHARED", sign.Macro attr.ReleaseShared) ∷ (codes "ACQUIRED_AFTER", sign.Macro attr.AcquiredAfter) ∷ []) text ≡ listed word_signs text
 unfolding word_signs
 of_fourteen text long = of_length word_signs text 14 long
 
-pub of_fifteen : (text : List ℕ) → length text ≡ 15 → listed ((codes "REQUIRES_SHARED", sign.Macro attr.RequiresShared) ∷ (codes "RELEASE_GENERIC", sign.Macro attr.ReleaseGeneric) ∷ (codes "ACQUIRED_BEFORE", sign.LeftOutMacro) ∷ []) text ≡ listed word_signs text
+pub of_fifteen : (text : List ℕ) → length text ≡ 15 → listed ((codes "REQUIRES_SHARED", sign.Macro attr.RequiresShared) ∷ (codes "RELEASE_GENERIC", sign.Macro attr.ReleaseGeneric) ∷ (codes "ACQUIRED_BEFORE", sign.Macro attr.AcquiredBefore) ∷ []) text ≡ listed word_signs text
 unfolding word_signs
 of_fifteen text long = of_length word_signs text 15 long
 

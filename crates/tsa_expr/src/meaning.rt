@@ -22,14 +22,14 @@ const OF_THIRTEEN: [([u8; 13], Meaning); 2] = [
 
 const OF_FOURTEEN: [([u8; 14], Meaning); 3] = [
     (*b"locks_excluded", Meaning::Known(AttrKind::Excludes)),
+    (*b"acquired_after", Meaning::Known(AttrKind::AcquiredAfter)),
     (*b"pt_guarded_var", Meaning::LeftOut),
-    (*b"acquired_after", Meaning::LeftOut),
 ];
 
 const OF_FIFTEEN: [([u8; 15], Meaning); 3] = [
+    (*b"acquired_before", Meaning::Known(AttrKind::AcquiredBefore)),
     (*b"scoped_lockable", Meaning::LeftOut),
     (*b"unlock_function", Meaning::LeftOut),
-    (*b"acquired_before", Meaning::LeftOut),
 ];
 
 const OF_SEVENTEEN: [([u8; 17], Meaning); 1] = [(*b"assert_capability", Meaning::LeftOut)];

@@ -70,13 +70,13 @@ const OF_THIRTEEN: [([u8; 13], Sign); 2] = [
 const OF_FOURTEEN: [([u8; 14], Sign); 3] = [
     (*b"ACQUIRE_SHARED", Sign::Macro(AttrKind::AcquireShared)),
     (*b"RELEASE_SHARED", Sign::Macro(AttrKind::ReleaseShared)),
-    (*b"ACQUIRED_AFTER", Sign::LeftOutMacro),
+    (*b"ACQUIRED_AFTER", Sign::Macro(AttrKind::AcquiredAfter)),
 ];
 
 const OF_FIFTEEN: [([u8; 15], Sign); 3] = [
     (*b"REQUIRES_SHARED", Sign::Macro(AttrKind::RequiresShared)),
     (*b"RELEASE_GENERIC", Sign::Macro(AttrKind::ReleaseGeneric)),
-    (*b"ACQUIRED_BEFORE", Sign::LeftOutMacro),
+    (*b"ACQUIRED_BEFORE", Sign::Macro(AttrKind::AcquiredBefore)),
 ];
 
 const OF_SEVENTEEN: [([u8; 17], Sign); 3] = [

@@ -20,7 +20,7 @@ use Rattle.tsa_tree.specs.Rows.{a_for_init, some_declarations, for_init, locals,
 use Rattle.tsa_tree.specs.tokens.Signs.{Aliases, sign_at, begins_type}
 use Rattle.tsa_tree.specs.statements.Syntax.{Simple, ForInit, no_init, simple_init, local_init, Statement}
 use Rattle.tsa_tree.specs.statements.Syntax as plain
-use Rattle.tsa_tree.specs.statements.Shapes.{stmt_shape, point_shape, init_of, step_of, IsNumbered}
+use Rattle.tsa_tree.specs.statements.Shapes.{stmt_shape, point_shape, init_of, step_of, IsNumbered, MayBeFirst, MayBeThird}
 use Rattle.tsa_expr.specs.declared.refusal.SyntaxRefusal.{SyntaxRefusal}
 use Rattle.tsa_expr.specs.declared.refusal.SyntaxRefusal.TheVariants.{At, Function, NoMemory}
 use Rattle.tsa_expr.specs.declared.refusal.SyntaxCode.TheVariants.{SY1, AT1, AT2, LM2, LM3, LM5}
@@ -29,7 +29,7 @@ use Rattle.tsa_expr.proofs.Answering.{fails_then, fails_same, not_close}
 use Rattle.tsa_decl.specs.Outcomes.{one_token}
 use Rattle.tsa_decl.proofs.TokenLaws.{not_semicolon}
 use Rattle.tsa_leaf.specs.Outcomes.{simple_at, simply_at, step_at}
-use Rattle.tsa_leaf.specs.Pointed.{IsPointed, MayBePart, MayBeStep, IsBegun, IsStepped}
+use Rattle.tsa_leaf.specs.Pointed.{IsPointed, IsBegun, IsStepped}
 use Rattle.tsa_leaf.specs.Seen.{simple_shape}
 use Rattle.tsa_leaf.specs.declared.simple.Simple as read_simple
 use Rattle.tsa_attr.proofs.Joining.{append-nil}
@@ -54,7 +54,7 @@ step_simply (If' test pointer arm point arm_span (Some' p k n s)) span x h = cc
 step_simply _ span x h = cc
 
 part_simply : (kind : StmtKind) (point : Option ℕ) (span : Span) (x : Simple) (n : ℕ) → IsSimple kind span x → IsNumbered kind point span n
-    → MayBePart kind × (point ≡ Some n)
+    → MayBeFirst kind span × (point ≡ Some n)
 part_simply (Eval e) point span x n h q = (tt, q)
 part_simply (Assign l o r) point span x n h q = (tt, q)
 part_simply (If' test pointer arm arm_point arm_span None') point span x n h q = absurd cc
@@ -62,7 +62,7 @@ part_simply (If' test pointer arm arm_point arm_span (Some' p k m s)) point span
 part_simply _ point span x n h q = absurd cc
 
 step_part : (kind : StmtKind) (point : Option ℕ) (span : Span) (x : Simple) (n : ℕ) → IsSimple kind span x → IsNumbered kind point span n
-    → MayBeStep kind × (point ≡ Some n)
+    → MayBeThird kind × (point ≡ Some n)
 step_part (Eval e) point span x n h q = (tt, q)
 step_part (Assign l o r) point span x n h q = (tt, q)
 step_part (If' test pointer arm arm_point arm_span None') point span x n h q = absurd cc
@@ -217,8 +217,8 @@ local_begun old new s d i p = go s.now.kind s.now.point s.now.span i p
   where
     go : (kind : StmtKind) (point : Option ℕ) (span : Span) → (kind ≡ Local d) × (span ≡ d.span)
         → (map point_shape new ≡ map point_shape old ++ points_of (stmt_shape kind span)) × IsNumbered kind point span (length old)
-        → (map point_shape new ≡ map point_shape old ++ points_of_init (init_of kind span)) × (MayBePart kind × (point ≡ Some (length old)))
-    go (Local e) point span i p = (p.0, (tt, p.1.0))
+        → (map point_shape new ≡ map point_shape old ++ points_of_init (init_of kind span)) × (MayBeFirst kind span × (point ≡ Some (length old)))
+    go (Local e) point span i p = (p.0, (p.1.1, p.1.0))
     go kind point span i p = absurd cc
 
 pub local_seen : (s : Stmt) (d : Decl) → (s.kind ≡ Local d) × (s.span ≡ d.span) → init_of s.kind s.span ≡ local_init (decl_shape d)

@@ -7,9 +7,8 @@ use Rattle.tsa_tree.specs.declared.stmt.Action.{Action}
 use Rattle.tsa_tree.specs.declared.stmt.Point.{Point}
 use Rattle.tsa_tree.specs.declared.stmt.Stmt.{Stmt}
 use Rattle.tsa_tree.specs.declared.stmt.StmtKind.{StmtKind}
-use Rattle.tsa_tree.specs.declared.stmt.StmtKind.TheVariants.{Local, Eval, Assign}
 use Rattle.tsa_tree.specs.points.Syntax.{points_of, points_of_all, points_of_init, points_of_step}
-use Rattle.tsa_tree.specs.statements.Shapes.{stmt_shape, stmt_shapes, point_shape, action_shape, IsNumbered, AreNumbered}
+use Rattle.tsa_tree.specs.statements.Shapes.{stmt_shape, stmt_shapes, point_shape, action_shape, IsNumbered, AreNumbered, MayBeFirst, MayBeThird}
 use Rattle.tsa_leaf.specs.Seen.{init_seen, step_seen}
 
 abbrev pub IsPointed : (old new : List Point) → Stmt → Type 0
@@ -26,26 +25,15 @@ IsAlone kind action span =
 abbrev pub ArePointed : (old new : List Point) → List Stmt → Type 0
 ArePointed old new list = (map point_shape new ≡ map point_shape old ++ points_of_all (stmt_shapes list)) × AreNumbered list (length old)
 
--- what may be a part of a `for`
-abbrev pub MayBePart : StmtKind → Type 0
-MayBePart (Local d) = Unit {0}
-MayBePart (Eval x) = Unit {0}
-MayBePart (Assign left op right) = Unit {0}
-MayBePart kind = ⊥
-
+-- the first part of a `for`, where it is there
 abbrev pub IsPartAt : Option (Bor Stmt) → (n : ℕ) → Type 0
 IsPartAt None n = Unit {0}
-IsPartAt (Some s) n = MayBePart s.now.kind × (s.now.point ≡ Some n)
+IsPartAt (Some s) n = MayBeFirst s.now.kind s.now.span × (s.now.point ≡ Some n)
 
--- what may be the third part
-abbrev pub MayBeStep : StmtKind → Type 0
-MayBeStep (Eval x) = Unit {0}
-MayBeStep (Assign left op right) = Unit {0}
-MayBeStep kind = ⊥
-
+-- the third part
 abbrev pub IsStepAt : Option (Bor Stmt) → (n : ℕ) → Type 0
 IsStepAt None n = Unit {0}
-IsStepAt (Some s) n = MayBeStep s.now.kind × (s.now.point ≡ Some n)
+IsStepAt (Some s) n = MayBeThird s.now.kind × (s.now.point ≡ Some n)
 
 -- what the first part of a `for` adds, and what the third one adds
 abbrev pub IsBegun : (old new : List Point) → Option (Bor Stmt) → Type 0

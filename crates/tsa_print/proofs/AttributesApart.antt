@@ -71,6 +71,8 @@ macro_is_word attr.ReleaseGeneric = refl
 macro_is_word attr.TryAcquire = refl
 macro_is_word attr.TryAcquireShared = refl
 macro_is_word attr.Excludes = refl
+macro_is_word attr.AcquiredBefore = refl
+macro_is_word attr.AcquiredAfter = refl
 
 -- in each way of taking something, a text has bytes of a text, and expressions are sound
 text_good : (aliases : Aliases) (way : Taking) (text : List ℕ) (success : Option Bool) (args : Arguments) →
@@ -116,5 +118,5 @@ joins_attributes aliases (a ∷ others) sound plain =
     let parts = plain_parts (in_arguments a.args) (in_attributes others) plain in
     joins_append true (attribute_pieces a) (attributes_pieces others) refl
     (joins_word (macro_word a.kind) (mark marks.OpenCall ∷ (taken a.text a.success a.args ++ mark marks.CloseParenthesis ∷ [])) (macro_is_word a.kind)
-    (joins_enclosed (taken a.text a.success a.args) (joins_taken aliases (taking a.kind) a.text a.success a.args sound.0 parts.0)))
+    (joins_enclosed (taken a.text a.success a.args) (joins_taken aliases (taking a.kind) a.text a.success a.args sound.0.0 parts.0)))
     (joins_attributes aliases others sound.1 parts.1)

@@ -1,9 +1,9 @@
 -- Attributes that the tokens of a text spell are sound.
-use Rattle.std.proofs.Common.{ℕ, ◌+◌, sym, subst, List, [], ◌∷◌, ◌++◌, Bool, Some, None}
+use Rattle.std.proofs.Common.{ℕ, ◌+◌, ◌≡◌, ◌≢◌, ◌∙◌, refl, sym, subst, List, [], ◌∷◌, ◌++◌, Bool, Option, Some, None}
 use Rattle.tsa_base.specs.Tokens.{Lexeme}
 use Rattle.tsa_tree.specs.declared.attr.AttrKind.{AttrKind}
-use Rattle.tsa_tree.specs.attributes.Syntax.{Attribute, expressions, a_try, unquoted}
-use Rattle.tsa_tree.specs.attributes.Spelling.{IsAttribute, of_text, of_one, of_expressions, of_try, IsEntry, of_known, of_ignored, of_ignored_list, IsEntries, of_entry, of_entries, IsGroup, of_macro, of_no_entries, of_list, IsAttributes, of_no_group, of_group}
+use Rattle.tsa_tree.specs.attributes.Syntax.{Attribute, taking, a_text, one_expression, expressions, a_try, negative, unquoted}
+use Rattle.tsa_tree.specs.attributes.Spelling.{attribute_or, IsAttribute, of_text, of_one, of_expressions, of_try, IsEntry, of_known, of_ignored, of_ignored_list, IsEntries, of_entry, of_entries, IsGroup, of_macro, of_no_entries, of_list, IsAttributes, of_no_group, of_group}
 use Rattle.tsa_tree.specs.expressions.Syntax.{Arguments, none, more}
 use Rattle.tsa_tree.specs.tokens.Signs.{Aliases, identifier_at}
 use Rattle.tsa_tree.specs.expressions.Spelling.{IsSeries, of_last, of_further}
@@ -11,6 +11,7 @@ use Rattle.tsa_forms.specs.Reading.{all}
 use Rattle.tsa_print.specs.SoundDeclarations.{SoundTaken, SoundAttribute, SoundAttributes}
 use Rattle.tsa_print.proofs.ReadSound.{AreTokensOfKinds, expression_sound, series_sound}
 use Rattle.tsa_print.proofs.SignsRead.{text_at}
+use Rattle.tsa_print.proofs.Negatives.{of_negative, other_taking, excluded_sound}
 
 pub attributes_append : (aliases : Aliases) (xs ys : List Attribute) → SoundAttributes aliases xs → SoundAttributes aliases ys → SoundAttributes aliases (xs ++ ys)
 attributes_append aliases [] ys h k = k
@@ -25,14 +26,26 @@ module _ (aliases : Aliases) (tokens : List Lexeme) (real : AreTokensOfKinds tok
   several_tried result (of_last h) = series_sound aliases tokens real (of_last h)
   several_tried result (of_further h e xs) = series_sound aliases tokens real (of_further h e xs)
 
+  listed_sound : (k : AttrKind) (xs : Arguments) (a b : ℕ) → taking k ≡ expressions → SoundTaken aliases expressions None None xs
+      → (v : Option Arguments) → negative k xs ≡ v → SoundAttribute aliases (attribute_or tokens k xs v a b)
+  listed_sound k xs a b t ok None e = (subst (λ t. SoundTaken aliases t None None xs) (sym t) ok, e)
+  listed_sound k xs a b t ok (Some ys) e = (excluded_sound aliases xs ys (of_negative k xs ys e) ok, refl)
+
   attribute_sound : {d : ℕ} {k : AttrKind} {x : Attribute} {a b : ℕ} → IsAttribute tokens aliases all d k x a b → SoundAttribute aliases x
-  attribute_sound (of_text {a = a} t o f s c) =
-      subst (λ t. SoundTaken aliases t (Some (unquoted (identifier_at tokens (a + 1 + 1)).text)) None none) (sym t)
-      (text_at aliases tokens real (a + 1 + 1) s)
-  attribute_sound (of_one {x = x} t o f h c) =
-      subst (λ t. SoundTaken aliases t None None (more x none)) (sym t) (expression_sound aliases tokens real h)
-  attribute_sound (of_expressions {xs = xs} t o f h c) = subst (λ t. SoundTaken aliases t None None xs) (sym t) (several h)
-  attribute_sound (of_try {v = v} {xs = xs} t o f e m h c) = subst (λ t. SoundTaken aliases t None (Some v) xs) (sym t) (several_tried v h)
+  attribute_sound (of_text {k = k} {a = a} t o f s c) = (
+        subst (λ t. SoundTaken aliases t (Some (unquoted (identifier_at tokens (a + 1 + 1)).text)) None none) (sym t)
+        (text_at aliases tokens real (a + 1 + 1) s),
+        other_taking k none (λ h. let never : a_text ≡ expressions = sym t ∙ h in cc),
+      )
+  attribute_sound (of_one {k = k} {x = x} t o f h c) = (
+        subst (λ t. SoundTaken aliases t None None (more x none)) (sym t) (expression_sound aliases tokens real h),
+        other_taking k (more x none) (λ h. let never : one_expression ≡ expressions = sym t ∙ h in cc),
+      )
+  attribute_sound (of_expressions {k = k} {xs = xs} {a = a} {b = b} t o f h c) = listed_sound k xs a (b + 1) t (several h) (negative k xs) refl
+  attribute_sound (of_try {k = k} {v = v} {xs = xs} t o f e m h c) = (
+        subst (λ t. SoundTaken aliases t None (Some v) xs) (sym t) (several_tried v h),
+        other_taking k xs (λ h. let never : a_try ≡ expressions = sym t ∙ h in cc),
+      )
 
   entry_sound : {d : ℕ} {xs : List Attribute} {a b : ℕ} → IsEntry tokens aliases all d xs a b → SoundAttributes aliases xs
   entry_sound (of_known w m h) = (attribute_sound h, tt)

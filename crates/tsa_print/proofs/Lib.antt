@@ -10,6 +10,7 @@ mod WordSigns
 mod Runs
 mod Spelled
 mod SpelledOperands
+mod Negatives
 mod SpelledAttributes
 mod SpelledTypes
 mod SpelledInitialisers

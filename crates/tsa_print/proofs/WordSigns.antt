@@ -89,6 +89,8 @@ macro_sign aliases attr.ReleaseGeneric = refl
 macro_sign aliases attr.TryAcquire = refl
 macro_sign aliases attr.TryAcquireShared = refl
 macro_sign aliases attr.Excludes = refl
+macro_sign aliases attr.AcquiredBefore = refl
+macro_sign aliases attr.AcquiredAfter = refl
 
 pub keyword_seen : (aliases : Aliases) (ts : List Lexeme) (i : ℕ) (k : Keyword) → Looks ts i (word (keyword_text k))
     → sign_at ts aliases i ≡ sign.Keyword k

@@ -27,6 +27,8 @@ macro_word attr.ReleaseGeneric = codes "RELEASE_GENERIC"
 macro_word attr.TryAcquire = codes "TRY_ACQUIRE"
 macro_word attr.TryAcquireShared = codes "TRY_ACQUIRE_SHARED"
 macro_word attr.Excludes = codes "EXCLUDES"
+macro_word attr.AcquiredBefore = codes "ACQUIRED_BEFORE"
+macro_word attr.AcquiredAfter = codes "ACQUIRED_AFTER"
 
 -- a text, the result of a try as 0 or 1 before its expressions, or expressions
 abbrev pub taken : Option (List ℕ) → Option Bool → Arguments → List Piece

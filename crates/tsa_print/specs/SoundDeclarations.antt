@@ -5,7 +5,7 @@ use Rattle.std.specs.List.{list_all, list_any}
 use Rattle.std.specs.Str.{bytes_eq}
 use Rattle.std.specs.declared.option.Option.{Option}
 use Rattle.tsa_base.specs.Bytes.{is_text_byte}
-use Rattle.tsa_tree.specs.attributes.Syntax.{Attribute, Taking, taking, a_text, one_expression, expressions, a_try}
+use Rattle.tsa_tree.specs.attributes.Syntax.{Attribute, Taking, taking, a_text, one_expression, expressions, a_try, negative}
 use Rattle.tsa_tree.specs.declarations.Syntax.{Base, int, unsigned, void, structure, enumerated, alias, DeclaredType, Initialiser, value, list, Initialisers, no_more, one_more, Declaration, Parameter, EnumConstant, Head}
 use Rattle.tsa_tree.specs.expressions.Syntax.{Identifier, Expression, Arguments, none, more}
 use Rattle.tsa_tree.specs.tokens.Signs.{Aliases}
@@ -33,8 +33,9 @@ SoundTaken aliases expressions None None (more x xs) = are_sound aliases (more x
 SoundTaken aliases a_try None (Some result) (more x xs) = are_sound aliases (more x xs) ≡ true
 SoundTaken aliases _ _ _ _ = ⊥
 
+-- what requires of each of its locks that it isn't held excludes them, so it isn't there as a requirement
 abbrev pub SoundAttribute : Aliases → Attribute → Type 0
-SoundAttribute aliases a = SoundTaken aliases (taking a.kind) a.text a.success a.args
+SoundAttribute aliases a = SoundTaken aliases (taking a.kind) a.text a.success a.args × (negative a.kind a.args ≡ None)
 
 abbrev pub SoundAttributes : Aliases → List Attribute → Type 0
 SoundAttributes aliases [] = Unit {0}

@@ -62,6 +62,8 @@ fn macro_word(kind: AttrKind) -> &'static [u8]
         AttrKind::TryAcquire => b"TRY_ACQUIRE",
         AttrKind::TryAcquireShared => b"TRY_ACQUIRE_SHARED",
         AttrKind::Excludes => b"EXCLUDES",
+        AttrKind::AcquiredBefore => b"ACQUIRED_BEFORE",
+        AttrKind::AcquiredAfter => b"ACQUIRED_AFTER",
     }
 }
 

@@ -19,7 +19,7 @@ use Rattle.tsa_tree.specs.Rows.{a_keyword, a_semicolon}
 use Rattle.tsa_tree.specs.expressions.Shapes.{shape}
 use Rattle.tsa_tree.specs.tokens.Signs.{Aliases, span_at, span_over}
 use Rattle.tsa_tree.specs.statements.Syntax.{Statement, do_loop, block, more}
-use Rattle.tsa_tree.specs.statements.Shapes.{stmt_shape, stmt_shapes, stmt_row_shape, point_shape, IsNumbered, AreNumbered, AreNumberedInRow, init_of, step_of, counted, is_part}
+use Rattle.tsa_tree.specs.statements.Shapes.{stmt_shape, stmt_shapes, stmt_row_shape, point_shape, IsNumbered, AreNumbered, AreNumberedInRow, init_of, step_of, counted, MayBeFirst, MayBeThird}
 use Rattle.tsa_expr.specs.declared.refusal.SyntaxRefusal.{SyntaxRefusal}
 use Rattle.tsa_expr.specs.Gives.{Fails}
 use Rattle.tsa_expr.proofs.Answering.{fails_then, fails_same}
@@ -30,7 +30,7 @@ use Rattle.tsa_stmt.specs.declared.heads.Head.TheVariants as head
 use Rattle.tsa_stmt.specs.declared.heads.Marked.{Marked}
 use Rattle.tsa_stmt.specs.Heads.{IsMarked, IsOpened, ended, ended_with, if_with, do_end_at}
 use Rattle.tsa_leaf.specs.Outcomes.{test_at}
-use Rattle.tsa_leaf.specs.Pointed.{IsPointed, ArePointed, ArmsPointed, MayBePart, MayBeStep, IsPartAt, IsStepAt}
+use Rattle.tsa_leaf.specs.Pointed.{IsPointed, ArePointed, ArmsPointed, IsPartAt, IsStepAt}
 use Rattle.tsa_leaf.specs.Seen.{init_seen, step_seen}
 
 -- one point, and then a body
@@ -63,24 +63,13 @@ switch_pointed first middle last value number body word span h k = (
 )
 
 -- what may stand in a `for` has one point
-may_be_part : (k : StmtKind) → MayBePart k → is_part k ≡ true
-may_be_part (Local d) h = refl
-may_be_part (Eval x) h = refl
-may_be_part (Assign l o r) h = refl
-may_be_part _ h = absurd h
-
-may_be_step : (k : StmtKind) → MayBeStep k → is_part k ≡ true
-may_be_step (Eval x) h = refl
-may_be_step (Assign l o r) h = refl
-may_be_step _ h = absurd h
-
-init_count : (k : StmtKind) (s : Span) → MayBePart k → length (points_of_init (init_of k s)) ≡ counted k s
+init_count : (k : StmtKind) (s : Span) → MayBeFirst k s → length (points_of_init (init_of k s)) ≡ counted k s
 init_count (Local d) s h = refl
 init_count (Eval x) s h = refl
 init_count (Assign l o r) s h = refl
 init_count _ s h = absurd h
 
-step_count : (k : StmtKind) (s : Span) → MayBeStep k → length (points_of_step (step_of k s)) ≡ counted k s
+step_count : (k : StmtKind) (s : Span) → MayBeThird k → length (points_of_step (step_of k s)) ≡ counted k s
 step_count (Eval x) s h = refl
 step_count (Assign l o r) s h = refl
 step_count _ s h = absurd h
@@ -94,15 +83,15 @@ for_numbered n number None test None body span i e s b =
     (tt, ap Some e, tt, numbered_on body.now _ _ (omega (arith, e)) b)
 for_numbered n number (Some x) test None body span i e s b =
     let c = init_count x.now.kind x.now.span i.0 in
-    ((may_be_part x.now.kind i.0, i.1), ap Some (e ∙ ap (λ m. n + m) c), tt, numbered_on body.now _ _ (omega (arith, e, c)) b)
+    (i, ap Some (e ∙ ap (λ m. n + m) c), tt, numbered_on body.now _ _ (omega (arith, e, c)) b)
 for_numbered n number None test (Some y) body span i e s b =
     let c = step_count y.now.kind y.now.span s.0 in
-    (tt, ap Some e, (may_be_step y.now.kind s.0, s.1 ∙ ap (λ m. Some (m + 1)) e), numbered_on body.now _ _ (omega (arith, e, c)) b)
+    (tt, ap Some e, (s.0, s.1 ∙ ap (λ m. Some (m + 1)) e), numbered_on body.now _ _ (omega (arith, e, c)) b)
 for_numbered n number (Some x) test (Some y) body span i e s b =
     let c = init_count x.now.kind x.now.span i.0 in
     let f = step_count y.now.kind y.now.span s.0 in
     let g : number ≡ n + counted x.now.kind x.now.span = e ∙ ap (λ m. n + m) c in
-    ((may_be_part x.now.kind i.0, i.1), ap Some g, (may_be_step y.now.kind s.0, s.1 ∙ ap (λ m. Some (m + 1)) g), numbered_on body.now _ _ (omega (arith, g, f)) b)
+    (i, ap Some g, (s.0, s.1 ∙ ap (λ m. Some (m + 1)) g), numbered_on body.now _ _ (omega (arith, g, f)) b)
 
 -- the point of a `for` depends on where its word begins alone
 for_point : (word span : Span) (test : Option Expression) → span.from ≡ word.from → point_of_for word test ≡ point_of_for span test

@@ -1,6 +1,8 @@
 -- Statements, heads and items go on, and a unit has no more items than tokens.
 use Rattle.std.proofs.Common.{ℕ, ◌+◌, ◌≤◌, ◌<◌, Bool, List, length, Option, arith}
 use Rattle.std.proofs.lemmas.List.{length-map, length-append}
+use Rattle.std.proofs.Math.Logic.{∥∥₁_elim}
+use Rattle.std.proofs.Props.{props}
 use Rattle.tsa_base.specs.declared.limits.TheConstants.{INPUT_LIMIT}
 use Rattle.tsa_base.specs.Tokens.{Lexeme}
 use Rattle.tsa_tree.specs.declared.item.Item.{Item}
@@ -13,7 +15,9 @@ use Rattle.tsa_tree.specs.statements.Spelling.{IsSimple, of_evaluation, of_assig
 use Rattle.tsa_tree.specs.units.Syntax.{UnitItem, global_item}
 use Rattle.tsa_tree.specs.units.Shapes.{item_shape}
 use Rattle.tsa_tree.specs.units.Spelling.{IsItems, no_items, of_items}
+use Rattle.tsa_tree.specs.declared.parsed.Parsed.{Parsed}
 use Rattle.tsa_tree.specs.units.WellRead.{IsWellRead}
+use Rattle.tsa_tree.proofs.tokens.Texts.{text_few}
 use Rattle.tsa_tree.proofs.expressions.Ahead.{ahead-expression, ahead-unary}
 use Rattle.tsa_tree.proofs.attributes.Ahead.{ahead-attributes}
 use Rattle.tsa_tool.proofs.Ahead.{ahead-specifier, ahead-star, ahead-declarator, ahead-declarators, ahead-members, ahead-variable, ahead-locals}
@@ -127,6 +131,10 @@ ahead-items : {tokens : List Lexeme} {fits : ℕ → Bool} {aliases : Aliases} {
 ahead-items no_items = omega arith
 ahead-items (of_items {xs = xs} {ys = ys} x rest) = omega (arith, ahead-item x, ahead-items rest, length-append xs ys)
 
--- a unit that is well read is within the limit of inputs
-pub items_within : (items : List Item) → IsWellRead items → length items ≤ INPUT_LIMIT
-items_within items read = omega (arith, ahead-items read.spelled, length-map items item_shape, read.within)
+-- a unit that is well read has no more items than an input may have bytes
+items_within : (items : List Item) → IsWellRead items → length items ≤ INPUT_LIMIT
+items_within items read = omega (arith, ahead-items read.spelled, length-map items item_shape, text_few read.tokens read.of_text)
+
+pub parsed_within : (parsed : Parsed) → length parsed.unit.now.items.now ≤ INPUT_LIMIT
+parsed_within parsed =
+    ∥∥₁_elim parsed.well_read (search props) (items_within parsed.unit.now.items.now)

@@ -4,8 +4,8 @@ ghost use Rattle.tsa_base.specs.declared.limits.TheConstants.{INPUT_LIMIT};
 ghost use Rattle.tsa_tool.specs.Items.{item_of};
 ghost use Rattle.tsa_base.specs.Tokens.{tokens_of};
 ghost use Rattle.tsa_tree.specs.tokens.Signs.{lexemes};
+ghost use Rattle.tsa_tree.specs.tokens.Texts.{AreOfText};
 ghost use Rattle.tsa_tree.specs.units.Shapes.{item_shapes};
-ghost use Rattle.tsa_stmt.specs.Near.{AreNear};
 ghost use Rattle.tsa_unit.specs.Parsing.{unit_of};
 ghost use Rattle.tsa_tool.specs.Checks.{lexed, byte_of, refusal_of, placed, tree_in, items_in, judged_items, warned_in};
 ghost use Rattle.tsa_tool.specs.Reports.{printed_report};
@@ -25,7 +25,7 @@ use tsa_base::{LexCode, LineStarts, NoMemory, Token};
 use tsa_expr::{SyntaxCode, SyntaxRefusal};
 use tsa_lex::{LexRefusal, lex};
 use tsa_print::print_unit;
-use tsa_tree::item::UnitTree;
+use tsa_tree::Parsed;
 use tsa_unit::parse;
 
 /// Why a unit is refused, with a line of its own: a byte that makes it no tokens, a token or a function that its syntax
@@ -54,13 +54,12 @@ impl From<NoMemory> for ToolRefusal {
 
 const NOT_BUILT: ToolRefusal = ToolRefusal::Refused(Refusal::NotBuilt);
 
-// The tokens of an input, each of which begins inside it.
-#[tactic(auto, using(tsa_unit::proofs::Near::lexed_near))]
+// The tokens of an input.
+#[tactic(auto, using(tsa_tree::proofs::tokens::Texts::of_text))]
 fn tokens_in<'s>(alloc: Global, bytes: &'s [u8]) -> Result<Vec<Token<'s>>, ToolRefusal>
     requires { length bytes.now ≤ INPUT_LIMIT }
     ensures tokens { IfOk result (λ tokens. lexed (tokens_of bytes.now) ≡ Ok (lexemes tokens.items)) }
-    ensures count { IfOk result (λ tokens. vec_len tokens ≤ INPUT_LIMIT) }
-    ensures near { IfOk result (λ tokens. AreNear (lexemes tokens.items)) }
+    ensures text { IfOk result (λ tokens. AreOfText (lexemes tokens.items)) }
     ensures refused { (r : _) → IsErrOf result (ToolRefusal.Refused r) → lexed (tokens_of bytes.now) ≡ Err r }
 {
     match lex(alloc, bytes) {
@@ -103,22 +102,19 @@ fn placed(bytes: &[u8], tokens: &[Token<'_>], refusal: SyntaxRefusal) -> ToolRef
 }
 
 // The unit that tokens spell, in the arena.
-#[tactic(auto, using(crate::proofs::AheadItems::items_within))]
 fn tree_of<'a>(
     alloc: Global,
     bump: &'a Bump,
     bytes: &[u8],
     tokens: &[Token<'_>],
-) -> Result<&'a UnitTree<'a>, ToolRefusal>
+) -> Result<Parsed<'a>, ToolRefusal>
     requires bound { length bytes.now ≤ INPUT_LIMIT }
-    requires room { length tokens.now ≤ INPUT_LIMIT }
-    requires near { AreNear (lexemes tokens.now) }
-    ensures tree { IfOk result (λ tree. placed bytes.now (lexemes tokens.now) (unit_of (lexemes tokens.now)) ≡ Ok (item_shapes tree.now.items.now)) }
-    ensures count { IfOk result (λ tree. length tree.now.items.now ≤ INPUT_LIMIT) }
+    requires text { AreOfText (lexemes tokens.now) }
+    ensures tree { IfOk result (λ parsed. placed bytes.now (lexemes tokens.now) (unit_of (lexemes tokens.now)) ≡ Ok (item_shapes parsed.unit.now.items.now)) }
     ensures refused { (r : _) → IsErrOf result (ToolRefusal.Refused r) → placed bytes.now (lexemes tokens.now) (unit_of (lexemes tokens.now)) ≡ Err r }
 {
     match parse(alloc, bump, tokens) {
-        Ok(parsed) => Ok(parsed.unit()),
+        Ok(parsed) => Ok(parsed),
         Err(refusal) => Err(placed(bytes, tokens, refusal)),
     }
 }
@@ -129,10 +125,9 @@ fn read_tree<'a>(
     alloc: Global,
     bump: &'a Bump,
     bytes: &[u8],
-) -> Result<&'a UnitTree<'a>, ToolRefusal>
+) -> Result<Parsed<'a>, ToolRefusal>
     requires { length bytes.now ≤ INPUT_LIMIT }
-    ensures tree { IfOk result (λ tree. tree_in bytes.now ≡ Ok (item_shapes tree.now.items.now)) }
-    ensures count { IfOk result (λ tree. length tree.now.items.now ≤ INPUT_LIMIT) }
+    ensures tree { IfOk result (λ parsed. tree_in bytes.now ≡ Ok (item_shapes parsed.unit.now.items.now)) }
     ensures refused { (r : _) → IsErrOf result (ToolRefusal.Refused r) → tree_in bytes.now ≡ Err r }
 {
     let tokens = tokens_in(alloc, bytes)?;
@@ -147,20 +142,20 @@ pub fn canonical_text(alloc: Global, bytes: &[u8]) -> Result<Vec<u8>, ToolRefusa
     ensures refused { (r : _) → IsErrOf result (ToolRefusal.Refused r) → tree_in bytes.now ≡ Err r }
 {
     let bump = Bump::new(alloc);
-    let tree = read_tree(alloc, &bump, bytes)?;
-    Ok(print_unit(alloc, tree)?)
+    let parsed = read_tree(alloc, &bump, bytes)?;
+    Ok(print_unit(alloc, parsed.unit())?)
 }
 
 // The items of an input that are a unit of the thin language, in an arena.
-#[tactic(auto, unfolding(crate::specs::Checks::items_in))]
+#[tactic(auto, unfolding(crate::specs::Checks::items_in), using(crate::proofs::AheadItems::parsed_within))]
 fn read_items<'a>(alloc: Global, bump: &'a Bump, bytes: &[u8]) -> Result<ThinUnit<'a>, ToolRefusal>
     requires { length bytes.now ≤ INPUT_LIMIT }
     ensures items { IfOk result (λ unit. items_in bytes.now ≡ Ok (map item_of unit.items.items)) }
     ensures count { IfOk result (λ unit. vec_len unit.items ≤ INPUT_LIMIT) }
     ensures refused { (r : _) → IsErrOf result (ToolRefusal.Refused r) → items_in bytes.now ≡ Err r }
 {
-    let tree = read_tree(alloc, bump, bytes)?;
-    match thin(alloc, tree.items)? {
+    let parsed = read_tree(alloc, bump, bytes)?;
+    match thin(alloc, parsed.unit().items)? {
         Some(unit) => Ok(unit),
         None => Err(NOT_BUILT),
     }

@@ -2,3 +2,4 @@
 pub mod Facts
 pub mod ProductionSigns
 pub mod ReservedWords
+pub mod Texts

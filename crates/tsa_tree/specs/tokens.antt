@@ -1,2 +1,3 @@
 -- What the grammar sees of tokens.
 pub mod Signs
+pub mod Texts

@@ -30,6 +30,10 @@ pub enum AttrKind {
     TryAcquireShared,
     /// The locks that a caller doesn't hold.
     Excludes,
+    /// The locks that are taken after the lock that the global is.
+    AcquiredBefore,
+    /// The locks that are taken before the lock that the global is.
+    AcquiredAfter,
 }
 
 /// An attribute, from its name or macro word to its parenthesis: the text of a capability without its quotes, the result

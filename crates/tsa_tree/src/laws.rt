@@ -136,6 +136,16 @@ pub fn one_unit_is_spelled()
     ensures { units.OneUnit }
 {}
 
+/// Every first piece of the tokens that spell a unit begins one.
+pub fn first_pieces_begin_units()
+    ensures { units.PiecesBegin }
+{}
+
+/// Where a token is refused, and not since a limit is passed, the tokens spell no unit.
+pub fn what_is_refused_is_no_unit()
+    ensures { units.RefusedIsNoUnit }
+{}
+
 /// For every list of tokens there is a right answer of a reader of units.
 #[tactic(auto, using(crate::proofs::units::Laws::an_answer))]
 pub fn units_have_an_answer()

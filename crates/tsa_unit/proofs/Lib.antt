@@ -1,7 +1,7 @@
+pub mod Texts
 pub mod NameLaws
 pub mod LimitLaws
 pub mod TypeNames
 pub mod UnitLaws
 pub mod ParsedLaws
 pub mod FunctionLaws
-pub mod Near

@@ -1,14 +1,11 @@
 -- What was read by the rows is what the grammar asks for, and the limits of a unit are told behind refusals of tokens.
-use Rattle.std.proofs.Common.{ℕ, ◌≤◌, ◌≡◌, ◌∙◌, ap, sym, subst, refl, List, [], Option, Some, None, Result, Ok, Err, IfOk, length}
+use Rattle.std.proofs.Common.{ℕ, ◌≡◌, ◌≢◌, ◌∙◌, ap, sym, subst, refl, List, [], Option, Some, None, Result, Ok, Err, IfOk, length}
 use Rattle.std.proofs.lemmas.List.{length-map}
-use Rattle.tsa_base.specs.declared.limits.TheConstants.{INPUT_LIMIT}
 use Rattle.tsa_base.specs.declared.token.Span.{Span}
 use Rattle.tsa_base.specs.declared.token.Token.{Token}
 use Rattle.tsa_base.specs.Tokens.{Lexeme, lexeme}
 use Rattle.tsa_forms.proofs.Cases.{on_choose}
 use Rattle.tsa_forms.specs.Exact as exact
-use Rattle.tsa_forms.specs.Spelling as forms
-use Rattle.tsa_forms.specs.Spelling.{by_rule, goes_done, goes_token, goes_part, goes_bar, goes_limit, goes_only, goes_left, goes_right}
 use Rattle.tsa_forms.specs.Reading.{Outcome, all}
 use Rattle.tsa_tree.specs.expressions.Answers.{below_limit}
 use Rattle.tsa_tree.specs.attributes.Refusals as reason
@@ -16,9 +13,10 @@ use Rattle.tsa_tree.specs.declared.item.Item.{Item}
 use Rattle.tsa_tree.specs.declared.parsed.Parsed.{Parsed}
 use Rattle.tsa_tree.specs.expressions.Syntax.{Identifier}
 use Rattle.tsa_tree.specs.Reads.{read}
-use Rattle.tsa_tree.specs.Rows.{Sort, some_items, items, Node, Call, Row, is_past, sees, rule}
+use Rattle.tsa_tree.specs.Rows.{some_items, items, is_past, sees, rule}
 use Rattle.tsa_tree.specs.tokens.Signs.{lexemes}
-use Rattle.tsa_tree.specs.units.Answers.{Spells, IsAnswer, read_unit}
+use Rattle.tsa_tree.specs.tokens.Texts.{AreOfText}
+use Rattle.tsa_tree.specs.units.Answers.{Spells, IsAnswer, IsNoUnit, read_unit}
 use Rattle.tsa_tree.specs.units.Syntax.{UnitItem}
 use Rattle.tsa_tree.specs.units.Limits.{past_functions, past_points}
 use Rattle.tsa_tree.specs.units.Shapes.{item_shapes, HaveTheirPoints}
@@ -26,38 +24,21 @@ use Rattle.tsa_tree.specs.units.Spelling.{IsItems, no_items}
 use Rattle.tsa_tree.specs.units.WellRead.{IsWellRead}
 use Rattle.tsa_tree.proofs.RowsRead.{read_exact}
 use Rattle.tsa_tree.proofs.declarations.RowsToProductions.{declaration_of}
-use Rattle.tsa_tree.proofs.units.Laws.{an_answer}
+use Rattle.tsa_tree.proofs.units.Laws.{an_answer, free_spelled, refused_is_no_unit}
 use Rattle.tsa_expr.specs.declared.refusal.SyntaxCode.{SyntaxCode}
 use Rattle.tsa_expr.specs.declared.refusal.SyntaxCode.TheVariants.{SY1, AT1, AT2, LM2, LM3, LM5}
 use Rattle.tsa_expr.specs.declared.refusal.SyntaxRefusal.{SyntaxRefusal}
 use Rattle.tsa_expr.specs.declared.refusal.SyntaxRefusal.TheVariants.{At, Function, NoMemory}
 use Rattle.tsa_unit.specs.Parsing.{IsLongest, IsBroken, IsRefused, IsTooDeep, HasTooManyFunctions, HasTooManyPoints, IsOfUnits, IsParsed, IsTold, within_points, within_limits, parsed_of, unit_of}
 
--- What is spelled within limits is spelled without them.
 module _ (ts : List Lexeme) where
-  mutual
-    free : {s : Sort} {c : Call s} {x : Node s} {a b : ℕ} → forms.Spells (rule ts) (sees ts) below_limit s c x a b
-        → forms.Spells (rule ts) (sees ts) all s c x a b
-    free (by_rule g) = by_rule (free_goes g)
-
-    free_goes : {s : Sort} {f : Row s} {x : Node s} {a b : ℕ} → forms.Goes (rule ts) (sees ts) below_limit s f x a b
-        → forms.Goes (rule ts) (sees ts) all s f x a b
-    free_goes goes_done = goes_done
-    free_goes (goes_token e g) = goes_token e (free_goes g)
-    free_goes (goes_part sp g) = goes_part (free sp) (free_goes g)
-    free_goes (goes_bar g) = goes_bar (free_goes g)
-    free_goes (goes_limit e g) = goes_limit refl (free_goes g)
-    free_goes (goes_only e g) = goes_only e (free_goes g)
-    free_goes (goes_left g) = goes_left (free_goes g)
-    free_goes (goes_right g) = goes_right (free_goes g)
-
   -- a unit that was read is spelled, by all its tokens
   abbrev pub Unlimited : Outcome (List UnitItem) → Type 0
   Unlimited (Ok found) = IsItems ts all [] found.0 0 found.1
   Unlimited (Err e) = Unit {0}
 
   unlimited_rows : (r : Outcome (List UnitItem)) → exact.Exact (rule ts) (sees ts) below_limit some_items (items []) 0 r → Unlimited r
-  unlimited_rows (Ok found) x = (declaration_of ts all (free x.spelled)).0
+  unlimited_rows (Ok found) x = (declaration_of ts all (free_spelled ts below_limit x.spelled)).0
   unlimited_rows (Err e) x = tt
 
   pub unlimited : Unlimited (read_unit ts)
@@ -69,11 +50,11 @@ module _ (ts : List Lexeme) where
   spelled_whole : (xs : List UnitItem) → read_unit ts ≡ Ok (xs, length ts) → Spells ts all xs
   spelled_whole xs h = subst Unlimited h unlimited
 
-pub well_read : (tokens : List Token) (list : List Item) → length tokens ≤ INPUT_LIMIT → HaveTheirPoints list
+pub well_read : (tokens : List Token) (list : List Item) → AreOfText (lexemes tokens) → HaveTheirPoints list
     → read_unit (lexemes tokens) ≡ Ok (item_shapes list, length (lexemes tokens)) → IsWellRead list
-well_read tokens list le points h = record {
+well_read tokens list of points h = record {
   tokens = lexemes tokens;
-  within = subst (λ n. n ≤ INPUT_LIMIT) (sym (length-map tokens lexeme)) le;
+  of_text = of;
   spelled = spelled_whole (lexemes tokens) (item_shapes list) h;
   points = points;
 }
@@ -104,6 +85,15 @@ module _ {X : Type 0} (view : X → List UnitItem) (ts : List Lexeme) where
 
   pub too_deep : (r : Result X SyntaxRefusal) → Told r → (token : ℕ) → r ≡ Err (At LM2 token) → IsTooDeep ts token
   too_deep r g token e = answer_of _ (subst Told e g)
+
+  -- where a token is refused, and not since a limit is passed, the tokens spell no unit
+  pub no_unit : (r : Result X SyntaxRefusal) → Told r → (code : SyntaxCode) (token : ℕ) → r ≡ Err (At code token) → code ≢ LM2 → IsNoUnit ts
+  no_unit r g SY1 token e n = (refused_is_no_unit ts token).0 (answer_of _ (subst Told e g))
+  no_unit r g AT1 token e n = (refused_is_no_unit ts token).1 reason.left_out (answer_of _ (subst Told e g))
+  no_unit r g AT2 token e n = (refused_is_no_unit ts token).1 reason.lacking (answer_of _ (subst Told e g))
+  no_unit r g LM2 token e n = absurd (n refl)
+  no_unit r g LM3 token e n = let told : Told (Err (At LM3 token)) = subst Told e g in absurd told
+  no_unit r g LM5 token e n = let told : Told (Err (At LM5 token)) = subst Told e g in absurd told
 
   many_functions : (xs : List UnitItem) (span : Span) → IsLongest ts xs (length ts) → (past : Option Identifier) → past_functions xs ≡ past
       → within_limits xs past ≡ Err (Function LM5 span) → HasTooManyFunctions ts span
@@ -176,10 +166,10 @@ parsed_is ts (Err (At LM5 token)) g = absurd g
 parsed_is ts (Err (Function code span)) g = ap parsed_of g.1 ∙ g.2
 parsed_is ts (Err NoMemory) g = tt
 
-pub all_well_read : (tokens : List Token) (r : Result Parsed SyntaxRefusal) → length tokens ≤ INPUT_LIMIT → IsTold seen r (lexemes tokens)
+pub all_well_read : (tokens : List Token) (r : Result Parsed SyntaxRefusal) → AreOfText (lexemes tokens) → IsTold seen r (lexemes tokens)
     → IfOk r (λ parsed. HaveTheirPoints parsed.unit.now.items.now) → IfOk r (λ parsed. IsWellRead parsed.unit.now.items.now)
-all_well_read tokens (Ok parsed) le g points = well_read tokens parsed.unit.now.items.now le points g.0
-all_well_read tokens (Err e) le g points = tt
+all_well_read tokens (Ok parsed) of g points = well_read tokens parsed.unit.now.items.now of points g.0
+all_well_read tokens (Err e) of g points = tt
 
 pub all_found : (tokens : List Token) (r : Result Parsed SyntaxRefusal) → IsTold seen r (lexemes tokens)
     → IfOk r (λ parsed. IsLongest (lexemes tokens) (seen parsed) (length tokens))

@@ -1,15 +1,15 @@
 //! A whole unit is read (C11 6.9).
-ghost use Rattle.std.specs.Prelude.{◌≡◌, ◌≤◌, ◌<◌, ℕ, None, length, Err, IfOk, OnErr, IsErrOf};
-ghost use Rattle.tsa_base.specs.declared.limits.TheConstants.{INPUT_LIMIT};
+ghost use Rattle.std.specs.Prelude.{◌≡◌, ◌≢◌, ◌≤◌, ◌<◌, ℕ, None, length, Err, IfOk, OnErr, IsErrOf};
 ghost use Rattle.tsa_base.specs.declared.token.Span.{Span as span_type};
 ghost use Rattle.tsa_tree.specs.attributes.Refusals as reason;
 ghost use Rattle.tsa_tree.specs.tokens.Signs.{lexemes};
-ghost use Rattle.tsa_tree.specs.units.Answers.{read_unit};
+ghost use Rattle.tsa_tree.specs.tokens.Texts.{AreOfText};
+ghost use Rattle.tsa_tree.specs.units.Answers.{IsNoUnit, read_unit};
 ghost use Rattle.tsa_tree.specs.units.Limits.{past_functions, past_points};
 ghost use Rattle.tsa_tree.specs.units.Shapes.{item_shapes, HaveTheirPoints};
 ghost use Rattle.tsa_tree.specs.units.WellRead.{IsWellRead};
+ghost use Rattle.tsa_expr.specs.declared.refusal.SyntaxCode.{SyntaxCode as code_type};
 ghost use Rattle.tsa_expr.specs.Gives.{Gives, Leads};
-ghost use Rattle.tsa_stmt.specs.Near.{AreNear};
 ghost use Rattle.tsa_unit.specs.Items.{passed, on_from};
 ghost use Rattle.tsa_unit.specs.Parsing.{IsParsed, IsLongest, IsBroken, IsRefused, IsTooDeep, HasTooManyFunctions, HasTooManyPoints, IsOfUnits, IsTold};
 
@@ -25,18 +25,18 @@ use tsa_expr::{Aliases, SyntaxCode, SyntaxRefusal};
 use tsa_tree::Parsed;
 use tsa_tree::item::{Item, UnitTree};
 
-/// The unit that the tokens spell, kept in the arena; each token begins inside a text of a size that is taken. A name of a
-/// type is known from the item behind its own one on. Of the tokens the longest list of first ones that begins a unit
+/// The unit that the tokens of a text spell, kept in the arena. A name of a type is known from the item after its own one on.
+/// Of the tokens the longest list of first ones that begins a unit
 /// decides: SY1 stands at the token after it where it is no unit; AT1, AT2 and LM2 stand at the first such token in it, or
 /// at the one after it. Where all the tokens spell a unit, LM5 stands at the name of the 1025th function, and else LM3 at
 /// that of the first function of more than 4096 points (C11 6.9).
+#[tactic(auto, using(crate::proofs::Texts::texts))]
 pub fn parse<'a>(
     alloc: Global,
     bump: &'a Bump,
     tokens: &[Token<'_>],
 ) -> Result<Parsed<'a>, SyntaxRefusal>
-    requires room { length tokens.now ≤ INPUT_LIMIT }
-    requires near { AreNear (lexemes tokens.now) }
+    requires text { AreOfText (lexemes tokens.now) }
     ensures gives { IsParsed result (lexemes tokens.now) }
     ensures well_read { IfOk result (λ parsed. IsWellRead parsed.unit.now.items.now) }
 
@@ -50,6 +50,7 @@ pub fn parse<'a>(
     ensures left_out { (token : ℕ) → IsErrOf result (SyntaxRefusal.At SyntaxCode.AT1 token) → IsRefused (lexemes tokens.now) reason.left_out token }
     ensures lacking { (token : ℕ) → IsErrOf result (SyntaxRefusal.At SyntaxCode.AT2 token) → IsRefused (lexemes tokens.now) reason.lacking token }
     ensures too_deep { (token : ℕ) → IsErrOf result (SyntaxRefusal.At SyntaxCode.LM2 token) → IsTooDeep (lexemes tokens.now) token }
+    ensures no_unit { (code : code_type) (token : ℕ) → IsErrOf result (SyntaxRefusal.At code token) → code ≢ SyntaxCode.LM2 → IsNoUnit (lexemes tokens.now) }
 
     // A function is refused.
     ensures too_many { (span : span_type) → IsErrOf result (SyntaxRefusal.Function SyntaxCode.LM5 span) → HasTooManyFunctions (lexemes tokens.now) span }
@@ -75,7 +76,7 @@ fn read_parsed<'a>(
 
 /// The unit of items that are well read, kept in the arena.
 fn in_parsed<'a>(bump: &'a Bump, list: &Vec<Item<'a>>) -> Result<Parsed<'a>, SyntaxRefusal>
-    requires well_read { IsWellRead list.now.items }
+    requires well_read { ∥ IsWellRead list.now.items ∥₁ }
     ensures is { IfOk result (λ parsed. parsed.unit.now.items.now ≡ list.now.items) }
     ensures memory { OnErr result (result ≡ Err SyntaxRefusal.NoMemory) }
 {

@@ -11,7 +11,7 @@ use Rattle.tsa_tree.specs.attributes.Syntax as takes
 use Rattle.tsa_tree.specs.attributes.Syntax.{Attribute, Taking, taking, try_value}
 use Rattle.tsa_tree.specs.expressions.Syntax.{Arguments}
 use Rattle.tsa_tree.specs.tokens.Signs.{Aliases, sign_at, identifier_at, is_word_at, entry_meaning}
-use Rattle.tsa_tree.specs.attributes.Spelling.{attribute, IsAttribute, of_text, of_one, of_expressions, of_try, IsBalanced, of_nothing, of_token, of_parentheses, of_brackets, of_braces, IsEntry, of_known, of_ignored, of_ignored_list, of_entry, of_entries, IsGroup, of_macro, of_no_entries, of_list, IsAttributes, of_no_group, of_group}
+use Rattle.tsa_tree.specs.attributes.Spelling.{attribute, attribute_of, IsAttribute, of_text, of_one, of_expressions, of_try, IsBalanced, of_nothing, of_token, of_parentheses, of_brackets, of_braces, IsEntry, of_known, of_ignored, of_ignored_list, of_entry, of_entries, IsGroup, of_macro, of_no_entries, of_list, IsAttributes, of_no_group, of_group}
 use Rattle.tsa_tree.specs.attributes.Beginnings.{Opened}
 use Rattle.tsa_tree.specs.Rows.{some_attributes, a_skip, attributes, group, entries, balanced, Closer, closing_parenthesis, closing_bracket, closing_brace, Kind, kind, a_word, is_given, sees, Row, lacks, arguments_row, attribute_row, group_row, entries_end, entry_row, balanced_row, rule}
 use Rattle.tsa_tree.proofs.tokens.ProductionSigns.{shows_open, shows_close, shows_close_bracket, shows_comma, shows_text, shows_close_brace}
@@ -38,9 +38,9 @@ module _ (tokens : List Lexeme) (aliases : Aliases) (fits : ℕ → Bool) where
   -- Expressions and the parenthesis that closes them make an attribute whole.
   pub closed_expressions : {d : ℕ} {k : AttrKind} {m : ℕ} → taking k ≡ takes.expressions → sign_at tokens aliases (m + 1) ≡ sign.Open
       → fits d ≡ true → (xs : Arguments) (n : ℕ) → Closed tokens fits aliases (d + 1) xs (m + 1 + 1) n
-      → IsAttribute tokens aliases fits d k (attribute tokens k None None xs m n) m n
+      → IsAttribute tokens aliases fits d k (attribute_of tokens k xs m n) m n
   closed_expressions {d = d} {k = k} {m = m} t open_ fit xs n closed =
-      subst (λ n. IsAttribute tokens aliases fits d k (attribute tokens k None None xs m n) m n) (sym closed.3)
+      subst (λ n. IsAttribute tokens aliases fits d k (attribute_of tokens k xs m n) m n) (sym closed.3)
       (of_expressions t open_ fit closed.1 closed.2)
 
   -- And so behind the result of a try.

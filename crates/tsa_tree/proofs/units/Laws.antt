@@ -1,18 +1,18 @@
 -- The laws of the grammar of whole units.
-use Rattle.std.proofs.Common.{ℕ, ◌<◌, ◌≤◌, ◌≡◌, ◌∙◌, sym, subst, refl, List, [], ◌++◌, Bool, true, false, Option, Some, Ok, Err, length, arith, ◌⊎◌, inl, inr}
+use Rattle.std.proofs.Common.{ℕ, ◌<◌, ◌≤◌, ◌≡◌, ◌∙◌, sym, subst, refl, List, [], ◌++◌, Bool, true, false, Option, Some, None, Ok, Err, length, arith, ◌⊎◌, inl, inr}
 use Rattle.std.proofs.lemmas.Bool.{leb-true, le-leb, cases_lt}
 use Rattle.tsa_base.specs.Tokens.{Lexeme}
 use Rattle.tsa_tree.specs.expressions.Answers.{below_limit}
 use Rattle.tsa_tree.specs.Rows.{Sort, some_items, Node, Call, items, is_past, sees, Row, rule}
 use Rattle.tsa_tree.specs.Reads.{read}
 use Rattle.tsa_tree.specs.tokens.Signs.{Aliases}
-use Rattle.tsa_tree.specs.units.Answers.{Spelled, IsAnswer, read_unit, SpellTheSame, OneUnit, AnAnswer}
+use Rattle.tsa_tree.specs.units.Answers.{Spelled, IsAnswer, read_unit, SpellTheSame, OneUnit, PiecesBegin, IsNoUnit, RefusedIsNoUnit, AnAnswer}
 use Rattle.tsa_tree.specs.units.Syntax.{UnitItem, names_of}
 use Rattle.tsa_tree.specs.units.Spelling.{IsItems, no_items, of_items}
 use Rattle.tsa_tree.proofs.declarations.ItemsToRows.{items_rows}
 use Rattle.tsa_tree.proofs.RowFacts.{First, Start, inside}
 use Rattle.tsa_tree.proofs.RowsBegin.{firsts}
-use Rattle.tsa_tree.proofs.RowsRead.{reading, reading_exact, one_reading, completed, broken_free, first_there}
+use Rattle.tsa_tree.proofs.RowsRead.{reading, reading_exact, one_reading, piece_begins, completed, broken_free, first_there}
 use Rattle.tsa_tree.proofs.declarations.RowsToProductions.{declaration_of}
 use Rattle.tsa_tree.proofs.units.Meet.{begun_inside}
 use Rattle.tsa_forms.proofs.Cases.{on_choose}
@@ -102,6 +102,100 @@ one_unit tokens xs ys i j = go (is_past tokens 0) refl
     go false q =
         one_reading tokens some_items (items []) xs ys 0 (length tokens)
         (units_rows tokens all i (last_past tokens) q) (units_rows tokens all j (last_past tokens) q) (last_past tokens) (last_past tokens)
+
+pub pieces_begin : PiecesBegin
+pieces_begin tokens fits xs i le h = go (is_past tokens 0) refl
+  where
+    go : (p : Bool) → is_past tokens 0 ≡ p → forms.Begins (rule tokens) (sees tokens) fits some_items (items []) 0 i None
+    go true q =
+        let short : length tokens ≤ 0 = leb-true (length tokens) 0 q in
+        let e : 0 ≡ i = omega arith in
+        subst (λ i. forms.Begins (rule tokens) (sees tokens) fits some_items (items []) 0 i None) e (begins_rule starts_here)
+    go false q = piece_begins tokens fits some_items (items []) xs 0 (length tokens) i (omega arith) le (units_rows tokens fits h (last_past tokens) q)
+
+module _ (tokens : List Lexeme) (fits : ℕ → Bool) where
+  -- What begins a part ends inside the tokens.
+  mutual
+    begun_ends : {s : Sort} {c : Call s} {a b : ℕ} {w : Option ℕ} → forms.Begins (rule tokens) (sees tokens) fits s c a b w
+        → a ≤ length tokens → b ≤ length tokens
+    begun_ends (begins_rule g) le = starts_end g le
+
+    starts_end : {s : Sort} {f : Row s} {a b : ℕ} {w : Option ℕ} → forms.Starts (rule tokens) (sees tokens) fits s f a b w
+        → a ≤ length tokens → b ≤ length tokens
+    starts_end starts_here le = le
+    starts_end (starts_barred p) le = le
+    starts_end (starts_bar g) le = starts_end g le
+    starts_end {a = a} (starts_token {t = t} e g) le = starts_end g (let lt = inside tokens t a e in omega arith)
+    starts_end (starts_in g) le = begun_ends g le
+    starts_end (starts_over sp g) le = starts_end g (spelled_inside tokens fits sp le)
+    starts_end (starts_limit e g) le = starts_end g le
+    starts_end (starts_only e g) le = starts_end g le
+    starts_end (starts_left g) le = starts_end g le
+    starts_end (starts_right g) le = starts_end g le
+
+  -- What is spelled within limits is spelled without them, and so is what begins it.
+  mutual
+    pub free_spelled : {s : Sort} {c : Call s} {x : Node s} {a b : ℕ} → forms.Spells (rule tokens) (sees tokens) fits s c x a b
+        → forms.Spells (rule tokens) (sees tokens) all s c x a b
+    free_spelled (by_rule g) = by_rule (free_goes g)
+
+    free_goes : {s : Sort} {f : Row s} {x : Node s} {a b : ℕ} → forms.Goes (rule tokens) (sees tokens) fits s f x a b
+        → forms.Goes (rule tokens) (sees tokens) all s f x a b
+    free_goes goes_done = goes_done
+    free_goes (goes_token e g) = goes_token e (free_goes g)
+    free_goes (goes_part sp g) = goes_part (free_spelled sp) (free_goes g)
+    free_goes (goes_bar g) = goes_bar (free_goes g)
+    free_goes (goes_limit e g) = goes_limit refl (free_goes g)
+    free_goes (goes_only e g) = goes_only e (free_goes g)
+    free_goes (goes_left g) = goes_left (free_goes g)
+    free_goes (goes_right g) = goes_right (free_goes g)
+
+  mutual
+    pub free_begun : {s : Sort} {c : Call s} {a b : ℕ} {w : Option ℕ} → forms.Begins (rule tokens) (sees tokens) fits s c a b w
+        → forms.Begins (rule tokens) (sees tokens) all s c a b w
+    free_begun (begins_rule g) = begins_rule (free_starts g)
+
+    free_starts : {s : Sort} {f : Row s} {a b : ℕ} {w : Option ℕ} → forms.Starts (rule tokens) (sees tokens) fits s f a b w
+        → forms.Starts (rule tokens) (sees tokens) all s f a b w
+    free_starts starts_here = starts_here
+    free_starts (starts_barred p) = starts_barred p
+    free_starts (starts_bar g) = starts_bar (free_starts g)
+    free_starts (starts_token e g) = starts_token e (free_starts g)
+    free_starts (starts_in g) = starts_in (free_begun g)
+    free_starts (starts_over sp g) = starts_over (free_spelled sp) (free_starts g)
+    free_starts (starts_limit e g) = starts_limit refl (free_starts g)
+    free_starts (starts_only e g) = starts_only e (free_starts g)
+    free_starts (starts_left g) = starts_left (free_starts g)
+    free_starts (starts_right g) = starts_right (free_starts g)
+
+module _ (tokens : List Lexeme) where
+  -- a unit that breaks off is none: it would have to end there
+  broken_is_none : (i : ℕ) → IsAnswer tokens (Err (refuse syntax i)) → IsNoUnit tokens
+  broken_is_none i h xs sp =
+      let on = h.longest (length tokens) (pieces_begin tokens all xs (length tokens) (omega arith) sp) in
+      let back = begun_ends tokens below_limit h.begins (omega arith) in
+      let e : i ≡ length tokens = omega arith in
+      h.no_tree xs (sp, e)
+
+  free_of_bars : (xs : List UnitItem) (r : Outcome (List UnitItem)) → reading tokens all some_items (items []) 0 ≡ r → r ≡ Ok (xs, length tokens)
+      → exact.Exact (rule tokens) (sees tokens) all some_items (items []) 0 r
+      → (i q : ℕ) → forms.Begins (rule tokens) (sees tokens) all some_items (items []) 0 i (Some q) → ⊥
+  free_of_bars xs (Ok p) h e x i q g = x.no_bar i q g
+  free_of_bars xs (Err y) h e x i q g = absurd cc
+
+  -- nor is one in which a token is refused
+  barred_is_none : (i q : ℕ) → IsAnswer tokens (Err (refuse (barred q) i)) → IsNoUnit tokens
+  barred_is_none i q h xs sp = go (is_past tokens 0) refl
+    where
+      go : (p : Bool) → is_past tokens 0 ≡ p → ⊥
+      go true e = past_not tokens all 0 e (begins_first tokens below_limit q h.begins (inl refl))
+      go false e =
+          free_of_bars xs _ refl
+          (completed tokens some_items (items []) xs 0 (length tokens) (units_rows tokens all sp (last_past tokens) e) (last_past tokens))
+          (reading_exact tokens all some_items (items []) 0) i q (free_begun tokens below_limit h.begins)
+
+pub refused_is_no_unit : RefusedIsNoUnit
+refused_is_no_unit tokens i = (broken_is_none tokens i, λ q. barred_is_none tokens i q)
 
 module _ (tokens : List Lexeme) where
   abbrev bounded : Outcome (List UnitItem)

@@ -5,11 +5,12 @@ use Rattle.std.specs.declared.result.Result.{Result}
 use Rattle.tsa_base.specs.Tokens.{Lexeme, BadByte, tokens_of}
 use Rattle.tsa_tree.specs.declared.attr.AttrKind.{AttrKind}
 use Rattle.tsa_tree.specs.declared.attr.AttrKind.TheVariants as attr
+use Rattle.tsa_tree.specs.declared.expr.UnaryOp.TheVariants.{Not}
 use Rattle.tsa_tree.specs.attributes.Answers.{read_any}
 use Rattle.tsa_tree.specs.attributes.Refusals.{left_out, lacking}
 use Rattle.tsa_tree.specs.attributes.Syntax.{Attribute, plain_attribute}
 use Rattle.tsa_tree.specs.expressions.Examples.{name, word}
-use Rattle.tsa_tree.specs.expressions.Syntax.{Arguments, field, none, more, nowhere}
+use Rattle.tsa_tree.specs.expressions.Syntax.{Arguments, unary, field, none, more, nowhere}
 use Rattle.tsa_forms.specs.Reading.{syntax, deep, barred, refuse, Outcome}
 
 abbrev spanless : Outcome (List Attribute) → Outcome (List Attribute)
@@ -43,14 +44,22 @@ pub record AttributesAreRead : Type 0 where
   pub balanced : reads 0 (codes "__attribute__((aligned(8),foo({[(x)]})))") ≡ Ok ([], 20)
   pub no_entries : reads 0 (codes "__attribute__(())") ≡ Ok ([], 5)
   pub macro_inside : reads 0 (codes "__attribute__((CAPABILITY(\"x\"),const))") ≡ Ok ([], 11)
+  pub before_two : reads 0 (codes "ACQUIRED_BEFORE(a,b)") ≡ Ok (names attr.AcquiredBefore None (more (name (codes "a")) (one (codes "b"))) ∷ [], 6)
+  pub after_one : reads 0 (codes "__attribute__((acquired_after(m)))") ≡ Ok (names attr.AcquiredAfter None (one (codes "m")) ∷ [], 9)
+  -- what requires of each lock that it isn't held
+  pub not_held : reads 0 (codes "REQUIRES(!a,!b)") ≡ Ok (names attr.Excludes None (more (name (codes "a")) (one (codes "b"))) ∷ [], 8)
+  pub not_held_word : reads 0 (codes "__attribute__((requires_capability((!m))))") ≡ Ok (names attr.Excludes None (one (codes "m")) ∷ [], 12)
+  pub held_and_not : reads 0 (codes "REQUIRES(a,!b)") ≡ Ok (names attr.Requires None (more (name (codes "a")) (more (unary Not (name (codes "b")) nowhere) none)) ∷ [], 7)
+  pub not_held_shared : reads 0 (codes "REQUIRES_SHARED(!b)") ≡ Ok (names attr.RequiresShared None (more (unary Not (name (codes "b")) nowhere) none) ∷ [], 5)
   -- attributes that are left out
   pub macro_left_out : reads 0 (codes "PT_GUARDED_BY(") ≡ Err (refuse (barred left_out) 0)
   pub entry_left_out : reads 0 (codes "__attribute__((a,lockable))") ≡ Err (refuse (barred left_out) 5)
   pub macro_left_out_inside : reads 0 (codes "__attribute__((SCOPED_CAPABILITY))") ≡ Err (refuse (barred left_out) 3)
-  pub left_out_behind : reads 0 (codes "EXCLUDES(a)ACQUIRED_AFTER(b)") ≡ Err (refuse (barred left_out) 4)
+  pub left_out_behind : reads 0 (codes "EXCLUDES(a)RETURN_CAPABILITY(b)") ≡ Err (refuse (barred left_out) 4)
   -- attributes without their argument
   pub no_parenthesis : reads 0 (codes "GUARDED_BY;") ≡ Err (refuse (barred lacking) 0)
   pub nothing_inside : reads 0 (codes "RELEASE()") ≡ Err (refuse (barred lacking) 0)
+  pub nothing_before : reads 0 (codes "ACQUIRED_BEFORE()") ≡ Err (refuse (barred lacking) 0)
   pub result_alone : reads 0 (codes "TRY_ACQUIRE(1)") ≡ Err (refuse (barred lacking) 0)
   pub entry_lacks : reads 0 (codes "__attribute__((acquire_capability))") ≡ Err (refuse (barred lacking) 3)
   -- lists that break off, or go on wrong

@@ -8,7 +8,7 @@ use Rattle.tsa_tree.specs.declared.sign.Meaning.{Meaning}
 use Rattle.tsa_tree.specs.declared.sign.Meaning.TheVariants as mean
 use Rattle.tsa_tree.specs.attributes.Syntax as takes
 use Rattle.tsa_tree.specs.attributes.Syntax.{Attribute, Taking, taking, unquoted, try_value}
-use Rattle.tsa_tree.specs.attributes.Spelling.{attribute}
+use Rattle.tsa_tree.specs.attributes.Spelling.{attribute, attribute_of}
 use Rattle.tsa_tree.specs.attributes.Refusals.{left_out, lacking}
 use Rattle.tsa_tree.specs.expressions.Syntax.{none, more}
 use Rattle.tsa_tree.specs.tokens.Signs.{Aliases, sign_at, identifier_at, is_word_at}
@@ -43,7 +43,7 @@ module _ (tokens : List Lexeme) where
   arguments_row aliases d k m takes.one_expression end =
       part an_expression (expression aliases d 0) (λ x n. token (a_close aliases) (end (attribute tokens k None None (more x none) m (n + 1)) (n + 1)))
   arguments_row aliases d k m takes.expressions end =
-      part some_arguments (series aliases d) (λ xs n. end (attribute tokens k None None xs m n) n)
+      part some_arguments (series aliases d) (λ xs n. end (attribute_of tokens k xs m n) n)
   arguments_row aliases d k m takes.a_try end =
       token a_result (token (a_comma aliases) (part some_arguments (series aliases d) (λ xs n.
       end (attribute tokens k None (try_value (identifier_at tokens (m + 1 + 1)).text) xs m n) n)))

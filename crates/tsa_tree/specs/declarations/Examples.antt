@@ -320,7 +320,7 @@ pub record DeclarationsAreRead : Type 0 where
   -- attributes that are left out, and those without their argument
   pub global_left_out : reads an_item [] (codes "int g PT_GUARDED_BY(") ≡ Err (refuse (barred left_out) 2)
   pub structure_left_out : reads an_item [] (codes "struct SCOPED_CAPABILITY s{};") ≡ Err (refuse (barred left_out) 1)
-  pub head_left_out : reads a_head_alone [] (codes "int f()ACQUIRED_AFTER(m);") ≡ Err (refuse (barred left_out) 4)
+  pub head_left_out : reads a_head_alone [] (codes "int f()RETURN_CAPABILITY(m);") ≡ Err (refuse (barred left_out) 4)
   pub global_lacks : reads an_item [] (codes "int g GUARDED_BY;") ≡ Err (refuse (barred lacking) 2)
   pub head_lacks : reads a_head_alone [] (codes "int f()REQUIRES();") ≡ Err (refuse (barred lacking) 4)
   -- a hundred constructs may be open, and no more

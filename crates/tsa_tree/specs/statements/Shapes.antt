@@ -1,5 +1,5 @@
 -- What statements and points of the arena are without the arena, and how the points of statements are numbered.
-use Rattle.std.specs.Prelude.{ℕ, ◌+◌, ◌≡◌, List, [], ◌∷◌, Bool, true, false, length, option_map, Some, None}
+use Rattle.std.specs.Prelude.{ℕ, ◌+◌, ◌≡◌, List, [], ◌∷◌, length, option_map, Some, None}
 use Rattle.std.specs.declared.option.Option.{Option}
 use Rattle.std.specs.Borrow.{Bor}
 use Rattle.tsa_base.specs.declared.token.Span.{Span}
@@ -100,17 +100,27 @@ abbrev pub counted_held : Held-StmtKind-If-2 → ℕ
 counted_held None' = 0
 counted_held (Some' pointer kind point span) = counted kind span
 
--- what may be a part of a `for`
-abbrev pub is_part : StmtKind → Bool
-is_part (Local d) = true
-is_part (Eval x) = true
-is_part (Assign left op right) = true
-is_part kind = false
+-- what may be the first part of a `for`: the span of a local is that of its declaration (C11 6.8.5.3)
+abbrev pub MayBeFirst : StmtKind → Span → Type 0
+MayBeFirst (Local d) span = span ≡ d.span
+MayBeFirst (Eval x) span = Unit {0}
+MayBeFirst (Assign left op right) span = Unit {0}
+MayBeFirst kind span = ⊥
 
--- the part of a `for` is one that may stand there, and its point has this number
-abbrev pub IsPart : Held-StmtKind-If-2 → ℕ → Type 0
-IsPart None' n = Unit {0}
-IsPart (Some' pointer kind point span) n = (is_part kind ≡ true) × (point ≡ Some n)
+-- what may be the third part: a local may not
+abbrev pub MayBeThird : StmtKind → Type 0
+MayBeThird (Eval x) = Unit {0}
+MayBeThird (Assign left op right) = Unit {0}
+MayBeThird kind = ⊥
+
+-- the part is one that may stand there, and its point has this number
+abbrev pub IsFirst : Held-StmtKind-If-2 → ℕ → Type 0
+IsFirst None' n = Unit {0}
+IsFirst (Some' pointer kind point span) n = MayBeFirst kind span × (point ≡ Some n)
+
+abbrev pub IsThird : Held-StmtKind-If-2 → ℕ → Type 0
+IsThird None' n = Unit {0}
+IsThird (Some' pointer kind point span) n = MayBeThird kind × (point ≡ Some n)
 
 -- the points of a statement are numbered from n on, in the order of `points_of`
 abbrev mutual
@@ -126,9 +136,9 @@ abbrev mutual
   IsNumbered (DoWhile' pointer body body_point body_span test) point span n =
       IsNumbered body body_point body_span n × (point ≡ Some (n + counted body body_span))
   IsNumbered (For' init test step pointer body body_point body_span) point span n =
-      IsPart init n
+      IsFirst init n
       × (point ≡ Some (n + counted_held init))
-      × IsPart step (n + counted_held init + 1)
+      × IsThird step (n + counted_held init + 1)
       × IsNumbered body body_point body_span (n + counted_held init + 1 + counted_held step)
   IsNumbered (Switch' value pointer body body_point body_span) point span n = (point ≡ Some n) × IsNumbered body body_point body_span (n + 1)
   IsNumbered (Case' value pointer body body_point body_span) point span n = (point ≡ None) × IsNumbered body body_point body_span n

@@ -67,10 +67,10 @@ word_signs =
     (codes "RELEASE_GENERIC", sign.Macro attr.ReleaseGeneric) ∷
     (codes "TRY_ACQUIRE", sign.Macro attr.TryAcquire) ∷ (codes "TRY_ACQUIRE_SHARED", sign.Macro attr.TryAcquireShared) ∷
     (codes "EXCLUDES", sign.Macro attr.Excludes) ∷
+    (codes "ACQUIRED_BEFORE", sign.Macro attr.AcquiredBefore) ∷ (codes "ACQUIRED_AFTER", sign.Macro attr.AcquiredAfter) ∷
     (codes "PT_GUARDED_BY", sign.LeftOutMacro) ∷ (codes "RETURN_CAPABILITY", sign.LeftOutMacro) ∷
     (codes "ASSERT_CAPABILITY", sign.LeftOutMacro) ∷ (codes "ASSERT_SHARED_CAPABILITY", sign.LeftOutMacro) ∷
-    (codes "NO_THREAD_SAFETY_ANALYSIS", sign.LeftOutMacro) ∷ (codes "SCOPED_CAPABILITY", sign.LeftOutMacro) ∷
-    (codes "ACQUIRED_BEFORE", sign.LeftOutMacro) ∷ (codes "ACQUIRED_AFTER", sign.LeftOutMacro) ∷ []
+    (codes "NO_THREAD_SAFETY_ANALYSIS", sign.LeftOutMacro) ∷ (codes "SCOPED_CAPABILITY", sign.LeftOutMacro) ∷ []
 
 -- what stands beside a text, where it is listed
 abbrev pub listed : {A : Type 0} → List (List ℕ × A) → List ℕ → Option A
@@ -114,7 +114,9 @@ attribute_names =
     (codes "release_generic_capability", mean.Known attr.ReleaseGeneric) ∷
     (codes "try_acquire_capability", mean.Known attr.TryAcquire) ∷
     (codes "try_acquire_shared_capability", mean.Known attr.TryAcquireShared) ∷
-    (codes "locks_excluded", mean.Known attr.Excludes) ∷ (codes "pt_guarded_by", mean.LeftOut) ∷
+    (codes "locks_excluded", mean.Known attr.Excludes) ∷
+    (codes "acquired_before", mean.Known attr.AcquiredBefore) ∷ (codes "acquired_after", mean.Known attr.AcquiredAfter) ∷
+    (codes "pt_guarded_by", mean.LeftOut) ∷
     (codes "guarded_var", mean.LeftOut) ∷ (codes "pt_guarded_var", mean.LeftOut) ∷ (codes "lock_returned", mean.LeftOut) ∷
     (codes "assert_capability", mean.LeftOut) ∷ (codes "assert_shared_capability", mean.LeftOut) ∷
     (codes "no_thread_safety_analysis", mean.LeftOut) ∷ (codes "scoped_lockable", mean.LeftOut) ∷
@@ -122,8 +124,7 @@ attribute_names =
     (codes "shared_lock_function", mean.LeftOut) ∷ (codes "exclusive_trylock_function", mean.LeftOut) ∷
     (codes "shared_trylock_function", mean.LeftOut) ∷ (codes "unlock_function", mean.LeftOut) ∷
     (codes "exclusive_locks_required", mean.LeftOut) ∷ (codes "shared_locks_required", mean.LeftOut) ∷
-    (codes "assert_exclusive_lock", mean.LeftOut) ∷ (codes "assert_shared_lock", mean.LeftOut) ∷
-    (codes "acquired_before", mean.LeftOut) ∷ (codes "acquired_after", mean.LeftOut) ∷ []
+    (codes "assert_exclusive_lock", mean.LeftOut) ∷ (codes "assert_shared_lock", mean.LeftOut) ∷ []
 
 -- whether a name begins and ends with two underscores of its own
 abbrev pub is_framed : List ℕ → Bool

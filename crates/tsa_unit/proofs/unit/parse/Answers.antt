@@ -1,11 +1,11 @@
-use Rattle.tsa_unit.proofs.ParsedLaws.{parsed_is, all_well_read, all_found, few, broken, refused_out, refused_lacking, too_deep, too_many, too_long, no_other}
+use Rattle.tsa_unit.proofs.ParsedLaws.{parsed_is, all_well_read, all_found, few, broken, refused_out, refused_lacking, too_deep, no_unit, too_many, too_long, no_other}
 use Rattle.tsa_unit.proofs.unit.parse.Goals as goal
 
 pub returns-clause-gives : goal.returns-clause-gives
 returns-clause-gives c = parsed_is _ _ c.read_parsed.ensures.told
 
 pub returns-clause-well_read : goal.returns-clause-well_read
-returns-clause-well_read c = all_well_read _ _ c.requires.room c.read_parsed.ensures.told c.read_parsed.ensures.points
+returns-clause-well_read c = all_well_read _ _ c.requires.text c.read_parsed.ensures.told c.read_parsed.ensures.points
 
 pub returns-clause-found : goal.returns-clause-found
 returns-clause-found c = all_found _ _ c.read_parsed.ensures.told
@@ -24,6 +24,9 @@ returns-clause-lacking c = refused_lacking _ _ _ c.read_parsed.ensures.told
 
 pub returns-clause-too_deep : goal.returns-clause-too_deep
 returns-clause-too_deep c = too_deep _ _ _ c.read_parsed.ensures.told
+
+pub returns-clause-no_unit : goal.returns-clause-no_unit
+returns-clause-no_unit c = no_unit _ _ _ c.read_parsed.ensures.told
 
 pub returns-clause-too_many : goal.returns-clause-too_many
 returns-clause-too_many c = too_many _ _ _ c.read_parsed.ensures.told
