@@ -3,7 +3,7 @@
 typedef struct CAPABILITY("mutex") lock { int s; } lock_t;
 void mtx_lock(lock_t *m) ACQUIRE(m);
 void mtx_unlock(lock_t *m) RELEASE(m);
-struct account { lock_t mu; int balance GUARDED_BY(mu); };
+struct account { lock_t mu; int balance GUARDED_BY(&mu); };
 struct account bank[2] = { { { 0 }, 100 }, { { 0 }, 50 } };
 int transfer(struct account *from, struct account *to, int amount) {
   int done = 0;

@@ -38,4 +38,8 @@
 /* on a function: the locks that its caller doesn't hold */
 #define EXCLUDES(...) THREAD_ATTRIBUTE(locks_excluded(__VA_ARGS__))
 
+/* on a global lock: the locks that are taken after it, and those that are taken before it */
+#define ACQUIRED_BEFORE(...) THREAD_ATTRIBUTE(acquired_before(__VA_ARGS__))
+#define ACQUIRED_AFTER(...) THREAD_ATTRIBUTE(acquired_after(__VA_ARGS__))
+
 #endif
