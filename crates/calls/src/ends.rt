@@ -118,6 +118,8 @@ fn standard_ends_that_fail_in_mid_stream_end_the_run(rt: HostRuntime) -> Result<
         let mut sink = WriterSink::new(Broken::new(write_fails));
         assert_eq!(rt; tool(rt.alloc(), &words, &mut source, &mut sink), status);
     }
+    let mut sink = WriterSink::new(Broken::new(0));
+    assert_eq!(rt; (sink.push(b"a").is_ok(), sink.push(b"a").is_ok()), (false, true));
     Ok(())
 }
 
