@@ -30,7 +30,6 @@ use tsa_tree::item::{Item, UnitTree};
 /// decides: SY1 stands at the token after it where it is no unit; AT1, AT2 and LM2 stand at the first such token in it, or
 /// at the one after it. Where all the tokens spell a unit, LM5 stands at the name of the 1025th function, and else LM3 at
 /// that of the first function of more than 4096 points (C11 6.9).
-#[tactic(auto, using(crate::proofs::Texts::texts))]
 pub fn parse<'a>(
     alloc: Global,
     bump: &'a Bump,

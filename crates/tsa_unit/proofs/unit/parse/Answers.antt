@@ -1,4 +1,7 @@
 use Rattle.tsa_unit.proofs.ParsedLaws.{parsed_is, all_well_read, all_found, few, broken, refused_out, refused_lacking, too_deep, no_unit, too_many, too_long, no_other}
+use Rattle.tsa_tree.specs.tokens.Signs.{lexemes}
+use Rattle.tsa_tree.proofs.tokens.Texts.{text_near}
+use Rattle.tsa_unit.proofs.Texts.{text_room}
 use Rattle.tsa_unit.proofs.unit.parse.Goals as goal
 
 pub returns-clause-gives : goal.returns-clause-gives
@@ -36,3 +39,10 @@ returns-clause-too_long c = too_long _ _ _ c.read_parsed.ensures.told
 
 pub returns-clause-no_other : goal.returns-clause-no_other
 returns-clause-no_other c = no_other _ _ _ c.read_parsed.ensures.told
+
+pub invariant_of-read_parsed : goal.invariant_of-read_parsed
+invariant_of-read_parsed c = record {
+  of_text = ∣ c.requires.text ∣₁;
+  room = text_room c.args.tokens.now c.requires.text;
+  near = text_near (lexemes c.args.tokens.now) c.requires.text;
+}
