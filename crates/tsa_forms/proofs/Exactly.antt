@@ -1,5 +1,5 @@
 -- A reader's answer is exact, and two trees that the same tokens spell are equal.
-use Rattle.std.proofs.Common.{ℕ, ◌<◌, ◌≤◌, ◌≡◌, subst, refl, Bool, true, Option, Some, None, Ok, Err, arith}
+use Rattle.std.proofs.Common.{ℕ, ◌<◌, ◌≤◌, ◌≡◌, ◌∙◌, sym, subst, refl, Bool, true, Option, Some, None, Ok, Err, arith}
 use Rattle.tsa_forms.specs.Form.{Form}
 use Rattle.tsa_forms.specs.Spelling.{Spells, Begins, begins_rule, Starts, starts_here, starts_barred, starts_bar, starts_token, starts_in, starts_over, starts_limit, starts_only, starts_left, starts_right}
 use Rattle.tsa_forms.specs.Reading.{Code, syntax, deep, barred, Refusal, refuse, Outcome, stop, follow, run, all}
@@ -105,10 +105,10 @@ module _ {S : Type 0} {C N : S → Type 0} {K : Type 0} (sees : K → ℕ → Bo
   bar_at i b q (Ok p) lt h = absurd h
   bar_at i b q (Err e) lt h = go e.code lt h
     where
-      go : (k : Code) → i < e.token → Barred b k e.token → i < b
+      go : (k : Code) → i < e.token → Barred b q k e.token → i < b
       go syntax lt h = absurd h
       go deep lt h = absurd h
-      go (barred q') lt h = omega arith
+      go (barred q') lt h = let le = h.0 in omega arith
 
   err : (s : S) (c : C s) (a : ℕ) (k : Code) (i : ℕ) → Right sees fits rule First Ends Moves rank size s c a (Err (refuse k i))
       → ((b : ℕ) (w : Option ℕ) → Begins rule sees fits s c a b w → Reached b w (let r : Outcome (N s) = Err (refuse k i) in r))
@@ -120,7 +120,7 @@ module _ {S : Type 0} {C N : S → Type 0} {K : Type 0} (sees : K → ℕ → Bo
   }
   err s c a (barred q) i h wi ag = record {
     begins = h.1;
-    first = λ b q' p. subst (Reached b (Some q')) ag (reached s c a b (Some q') p);
+    first = λ b q' p. (subst (Reached b (Some q')) ag (reached s c a b (Some q') p)).0;
   }
   err s c a deep i h wi ag = record {
     begins = h.1;
@@ -138,6 +138,22 @@ module _ {S : Type 0} {C N : S → Type 0} {K : Type 0} (sees : K → ℕ → Bo
     no_bar = λ b q z. subst (Reached b (Some q)) ag (reached s c a b (Some q) z);
   }
   answer s c a (Err e) h wi ag = err s c a e.code e.token h wi ag
+
+  -- Of the first bar there is one number.
+  pub one_bar : (s : S) (c : C s) (a i q p : ℕ) → Begins rule sees all s c a i (Some q) → Begins rule sees all s c a i (Some p)
+      → ((j r : ℕ) → Begins rule sees all s c a j (Some r) → i ≤ j) → q ≡ p
+  one_bar s c a i q p h k first = go (free s c a) (free_ok s c a) (reached s c a i (Some q) h) (reached s c a i (Some p) k)
+    where
+      go : (r : Outcome (N s)) → Right sees all rule First Ends Moves rank size s c a r → Reached i (Some q) r → Reached i (Some p) r → q ≡ p
+      go (Ok x) right h k = absurd h
+      go (Err e) right h k = at e.code right h k
+        where
+          at : (code : Code) → Right sees all rule First Ends Moves rank size s c a (Err (refuse code e.token)) → Barred i q code e.token
+              → Barred i p code e.token → q ≡ p
+          at syntax right h k = absurd h
+          at deep right h k = absurd h
+          at (barred n) right h k =
+              let le = first e.token n right.1 in let ge = h.0 in let same : e.token ≡ i = omega arith in sym (h.1 same) ∙ k.1 same
 
   -- A reader's answer is exact.
   pub exact : (s : S) (c : C s) (a : ℕ) → Exact rule sees fits s c a (read s c a)

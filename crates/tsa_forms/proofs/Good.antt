@@ -47,11 +47,16 @@ module _ {S : Type 0} {C N : S → Type 0} {K : Type 0} (sees : K → ℕ → Bo
   Lower true L = L
   Lower false L = Unit {0}
 
+  -- A token comes next, whatever the form is behind it.
+  abbrev pub IsToken : (s : S) → Form S C N K s → Type 0
+  IsToken s (token t f) = Unit {0}
+  IsToken s _ = ⊥
+
   -- The form may stand here in a grammar. It is fresh while no token of its part was read. Each of its choices is decided by the token in
-  -- sight, each part ends where the rest may go on, and a reader goes past each limit when there are no limits.
+  -- sight, each part ends where the rest may go on, and a reader goes past each limit when there are no limits. No two bars stand at one place.
   abbrev pub Good : (s : S) (c : C s) (fresh : Bool) → Form S C N K s → ℕ → Type 0
   Good s c w (done x) a = Whole w (Ends s c x a)
-  Good s c w (bar p q f) a = (p ≡ true → Barren s f a) × (p ≡ false → Good s c w f a)
+  Good s c w (bar p q f) a = (p ≡ true → Barren s f a) × (p ≡ false → Good s c w f a) × IsToken s f
   Good s c w (token t f) a = sees t a ≡ true → Good s c false f (a + 1)
   Good s c w (part u d k) a =
       Lower w (rank u d < rank s c)

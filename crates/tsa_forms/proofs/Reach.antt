@@ -4,7 +4,7 @@ use Rattle.std.proofs.lemmas.Bool.{cases_lt}
 use Rattle.tsa_forms.specs.Form.{Form, part, either}
 use Rattle.tsa_forms.specs.Spelling.{Spells, Begins, begins_rule, Starts, starts_here, starts_barred, starts_bar, starts_token, starts_in, starts_over, starts_limit, starts_only, starts_left, starts_right}
 use Rattle.tsa_forms.specs.Reading.{Code, syntax, deep, barred, refuse, Outcome, stop, then, choose, follow}
-use Rattle.tsa_forms.proofs.Good.{Next, Good}
+use Rattle.tsa_forms.proofs.Good.{Next, IsToken, Good}
 use Rattle.tsa_forms.proofs.Cases.{chosen, goes, on_choose}
 use Rattle.tsa_forms.proofs.Complete.{first, complete, forward, rest, ahead, reach_spells}
 use Rattle.tsa_forms.proofs.Runs.{Right}
@@ -15,22 +15,23 @@ Far b (barred q) i = Unit {0}
 Far b syntax i = b ≤ i
 Far b deep i = b ≤ i
 
--- A refusal with this code at i is that of a bar which stands at b or before it.
-abbrev pub Barred : ℕ → Code → ℕ → Type 0
-Barred b (barred q) i = i ≤ b
-Barred b syntax i = ⊥
-Barred b deep i = ⊥
+-- Where the bar of number q stands at b, a refusal with this code at i is that of a bar which stands before b, or of the same one.
+abbrev pub Barred : (b q : ℕ) → Code → ℕ → Type 0
+Barred b q (barred q') i = (i ≤ b) × (i ≡ b → q' ≡ q)
+Barred b q syntax i = ⊥
+Barred b q deep i = ⊥
 
 -- Where tokens up to before b begin a part, with a bar at b or without one, its reader answers so.
 abbrev pub Reached : {A : Type 0} → ℕ → Option ℕ → Outcome A → Type 0
 Reached b None (Ok p) = b ≤ p.1
 Reached b None (Err e) = Far b e.code e.token
 Reached b (Some q) (Ok p) = ⊥
-Reached b (Some q) (Err e) = Barred b e.code e.token
+Reached b (Some q) (Err e) = Barred b q e.code e.token
 
-bar_before : (A : Type 0) (a b : ℕ) (z : Option ℕ) (q : ℕ) → a ≤ b → Reached b z (let r : Outcome A = Err (refuse (barred q) a) in r)
+bar_before : (A : Type 0) (a b : ℕ) (z : Option ℕ) (q : ℕ) → ((q' : ℕ) → z ≡ Some q' → a < b)
+    → Reached b z (let r : Outcome A = Err (refuse (barred q) a) in r)
 bar_before A a b None q h = tt
-bar_before A a b (Some q') q h = h
+bar_before A a b (Some q') q h = let lt = h q' refl in (omega arith, λ e. absurd (omega arith))
 
 near : (b : ℕ) (q : Code) (i : ℕ) → b ≤ i → Far b q i
 near b (barred q) i h = tt
@@ -149,6 +150,20 @@ module _ {S : Type 0} {C N : S → Type 0} {K : Type 0} (sees : K → ℕ → Bo
     ahead_started (starts_left h) = ahead_started h
     ahead_started (starts_right h) = ahead_started h
 
+  -- Where a token comes next, a bar stands behind it.
+  bar_behind : {s : S} {f : Form S C N K s} {a b : ℕ} {z : Option ℕ} (q : ℕ) → Starts rule sees fits s f a b z
+      → IsToken sees First Ends Moves rank s f → z ≡ Some q → a < b
+  bar_behind q starts_here t e = cc
+  bar_behind q (starts_token p h) t e = omega (arith, ahead_started h)
+  bar_behind q (starts_barred p) t e = absurd t
+  bar_behind q (starts_bar h) t e = absurd t
+  bar_behind q (starts_in h) t e = absurd t
+  bar_behind q (starts_over sp h) t e = absurd t
+  bar_behind q (starts_limit p h) t e = absurd t
+  bar_behind q (starts_only p h) t e = absurd t
+  bar_behind q (starts_left h) t e = absurd t
+  bar_behind q (starts_right h) t e = absurd t
+
   on_left : (s : S) (c : C s) (w : Bool) (p : Bool) (f f' : Form S C N K s) (a b : ℕ) (z : Option ℕ)
       → Good sees First Ends Moves rank s c w (either p f f') a → Starts rule sees fits s f a b z
       → (p ≡ true → Reached b z (follow sees fits go s f a))
@@ -181,9 +196,9 @@ module _ {S : Type 0} {C N : S → Type 0} {K : Type 0} (sees : K → ℕ → Bo
     reach_started : {s : S} {f : Form S C N K s} {a b : ℕ} {z : Option ℕ} (c : C s) (w : Bool) → Starts rule sees fits s f a b z
         → Good sees First Ends Moves rank s c w f a → Reached b z (follow sees fits go s f a)
     reach_started {s = s} {f = f} {a = a} c w starts_here g = short a None _ refl (onward s c w f a g)
-    reach_started {b = b} {z = z} c w (starts_barred {p = p} q) g = subst (Reached b z) (sym (chosen p _ _ q)) (omega arith)
+    reach_started {b = b} {z = z} c w (starts_barred {p = p} q) g = subst (Reached b z) (sym (chosen p _ _ q)) (omega arith, λ e. refl)
     reach_started {s = s} {a = a} {b = b} {z = z} c w (starts_bar {p = p} {q = q} h) g =
-        on_choose (Reached b z) p _ _ (λ e. bar_before (N s) a b z q (ahead_started h)) (λ e. reach_started c w h (g.1 e))
+        on_choose (Reached b z) p _ _ (λ e. bar_before (N s) a b z q (λ q' z. bar_behind q' h g.2 z)) (λ e. reach_started c w h (g.1 e))
     reach_started {a = a} {b = b} {z = z} c w (starts_token {t = t} q h) g =
         subst (Reached b z) (sym (chosen (sees t a) _ _ q)) (reach_started c false h (g q))
     reach_started {s = s} {a = a} {b = b} {z = z} c w (starts_in {u = u} {c = d} {k = k} h) g = through s u c d k w a b z g (reach h)

@@ -7,6 +7,8 @@ pub mod statements
 pub mod units
 pub mod RowsMeet
 pub mod RowsRead
+pub mod RowsFree
+pub mod OneAnswer
 pub mod Inductions
 pub mod expressions
 pub mod points

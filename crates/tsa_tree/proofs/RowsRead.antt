@@ -129,6 +129,16 @@ module _ (tokens : List Lexeme) (fits : ℕ → Bool) where
       (inside tokens) (firsts tokens) (good tokens) low (moves tokens))
       reading_steps i le le' h
 
+  -- What is spelled begins its part.
+  pub whole_begins : (s : Sort) (c : Call s) (x : Node s) (a b : ℕ) → Spells (rule tokens) (sees tokens) fits s c x a b
+      → Begins (rule tokens) (sees tokens) fits s c a b None
+  whole_begins s c x a b h =
+      pieces.begins_whole (sees tokens) fits (rule tokens) (First tokens) (Ends tokens) (Moves tokens) rank (length tokens)
+      (inside tokens) (firsts tokens) (good tokens) reading
+      (answers.ok (sees tokens) fits (rule tokens) (First tokens) (Ends tokens) (Moves tokens) rank (length tokens)
+      (inside tokens) (firsts tokens) (good tokens) low (moves tokens))
+      reading_steps h
+
   -- What is spelled stands at a place where its part may begin.
   pub first_there : {s : Sort} {c : Call s} {x : Node s} {a b : ℕ} → Spells (rule tokens) (sees tokens) fits s c x a b → First tokens s c a
   first_there h =
@@ -183,6 +193,14 @@ module _ (tokens : List Lexeme) where
   whole_to s c x a b h =
       answers.whole_to (sees tokens) all (rule tokens) (First tokens) (Ends tokens) (Moves tokens) rank (length tokens)
       (inside tokens) (firsts tokens) (good tokens) low (moves tokens) s c x a b h
+
+  -- Of the first bar there is one number.
+  pub one_bar : (s : Sort) (c : Call s) (a i q p : ℕ) → Begins (rule tokens) (sees tokens) all s c a i (Some q)
+      → Begins (rule tokens) (sees tokens) all s c a i (Some p)
+      → ((j r : ℕ) → Begins (rule tokens) (sees tokens) all s c a j (Some r) → i ≤ j) → q ≡ p
+  one_bar s c a i q p h k first =
+      answers.one_bar (sees tokens) all (rule tokens) (First tokens) (Ends tokens) (Moves tokens) rank (length tokens)
+      (inside tokens) (firsts tokens) (good tokens) low (moves tokens) s c a i q p h k first
 
   far : (s : Sort) → IsClear s → (c : Call s) (a b : ℕ) (k : Code) (i : ℕ) → ExactAt (rule tokens) (sees tokens) all s c a k i
       → Far b k i → b ≤ i

@@ -60,10 +60,11 @@ pub fn first_pieces_begin_attributes()
     ensures { attributes.PiecesBegin }
 {}
 
-/// For every list of tokens and place there is a right answer of a reader of attributes.
-#[tactic(auto, using(crate::proofs::attributes::Laws::an_answer))]
+/// For every list of tokens and place there is a right answer of a reader of attributes, and only one.
+#[tactic(auto, using(crate::proofs::attributes::Laws::an_answer, crate::proofs::attributes::Laws::one_answer))]
 pub fn attributes_have_an_answer()
-    ensures { attributes.AnAnswer }
+    ensures right { attributes.AnAnswer }
+    ensures one { attributes.OneAnswer }
 {}
 
 /// Attributes are read as they are written: texts of each form, and of each kind of refusal.
@@ -90,10 +91,11 @@ pub fn first_pieces_begin_declarations()
     ensures { declarations.PiecesBegin }
 {}
 
-/// For every list of tokens and place there is a right answer of a reader of an item, a head or locals.
-#[tactic(auto, using(crate::proofs::declarations::Laws::an_answer))]
+/// For every list of tokens and place there is a right answer of a reader of an item, a head or locals, and only one.
+#[tactic(auto, using(crate::proofs::declarations::Laws::an_answer, crate::proofs::declarations::Laws::one_answer))]
 pub fn declarations_have_an_answer()
-    ensures { declarations.AnAnswer }
+    ensures right { declarations.AnAnswer }
+    ensures one { declarations.OneAnswer }
 {}
 
 /// Items, heads and locals are read as they are written: a text for each production, and one for each kind of refusal.
@@ -146,10 +148,11 @@ pub fn what_is_refused_is_no_unit()
     ensures { units.RefusedIsNoUnit }
 {}
 
-/// For every list of tokens there is a right answer of a reader of units.
-#[tactic(auto, using(crate::proofs::units::Laws::an_answer))]
+/// For every list of tokens there is a right answer of a reader of units, and only one.
+#[tactic(auto, using(crate::proofs::units::Laws::an_answer, crate::proofs::units::Laws::one_answer))]
 pub fn units_have_an_answer()
-    ensures { units.AnAnswer }
+    ensures right { units.AnAnswer }
+    ensures one { units.OneAnswer }
 {}
 
 /// Units are read as they are written: a text for each production, and one for each kind of refusal.

@@ -82,7 +82,8 @@ module _ (tokens : List Lexeme) (aliases : Aliases) (d a : ℕ) where
       clash _ _ _ (completed tokens rows.some_attributes (attributes aliases d) xs a i ((attributes_spell tokens aliases all d xs a i lt).0 sp) h)
       (broken_free tokens below_limit rows.some_attributes (attributes aliases d) a i r)
 
-  going_on : (xs : List Attribute) (i : ℕ) → is_attribute_sign (sign_at tokens aliases i) ≡ true → IsAttributes tokens aliases all d xs a i
+  -- Where a group can begin behind a list, that isn't the longest beginning, or an attribute is refused.
+  pub going_on : (xs : List Attribute) (i : ℕ) → is_attribute_sign (sign_at tokens aliases i) ≡ true → IsAttributes tokens aliases all d xs a i
       → ((b : ℕ) → BeginsAttributes tokens aliases all d a b → b ≤ i) → ((j q : ℕ) → RefusesAttributes tokens aliases all d a j q → ⊥) → ⊥
   going_on xs i h sp longest free =
       elim (on_sign tokens aliases all i (sign_at tokens aliases i) refl h sp) [

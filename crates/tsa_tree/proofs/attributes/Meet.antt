@@ -67,6 +67,7 @@ module _ (tokens : List Lexeme) where
     (λ e. inr (barren_opens aliases d k m end (sign_at tokens aliases (m + 1)) refl (lacking e))),
     (λ e p. good_opens c aliases d (m + 1) (arguments_row tokens aliases (d + 1) k m (taking k) end)
         (good_arguments c aliases (d + 1) k m (taking k) end follows)),
+    tt,
   )
 
   pub good_attributes : (aliases : Aliases) (d m : ℕ)
@@ -79,7 +80,7 @@ module _ (tokens : List Lexeme) where
   good_group aliases d m (sign.Macro k) =
       good_attribute (group aliases d) true aliases d k m (lacks tokens aliases k m) (a_macro aliases) (λ x e. done (x ∷ []))
       (λ e. e) (λ x n. tt)
-  good_group aliases d m sign.LeftOutMacro = ((λ e. inl refl), (λ e. cc))
+  good_group aliases d m sign.LeftOutMacro = ((λ e. inl refl), (λ e. cc), tt)
   good_group aliases d m sign.Attribute = λ p. (
     (λ e. e),
     (λ e. never tokens (m + 1) e),
@@ -124,7 +125,7 @@ module _ (tokens : List Lexeme) where
   good_entry aliases d m (mean.Known k) =
       good_attribute (entries aliases d) true aliases d k m (is_word_at tokens m && lacks tokens aliases k m) a_word
       (λ x e. entries_end tokens aliases d (x ∷ []) e) (λ e. (both _ _ e).1) (λ x n. good_entries_end aliases d (x ∷ []) n)
-  good_entry aliases d m mean.LeftOut = ((λ e. inl refl), (λ e p. never tokens m p))
+  good_entry aliases d m mean.LeftOut = ((λ e. inl refl), (λ e p. never tokens m p), tt)
   good_entry aliases d m mean.Ignored = λ p. (
     (λ h. h),
     (λ h. end_no_open aliases (m + 1) h),

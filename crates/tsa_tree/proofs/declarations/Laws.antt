@@ -3,7 +3,7 @@ use Rattle.std.proofs.Common.{ℕ, ◌+◌, ◌≤◌, ◌≡◌, ◌∙◌, ap,
 use Rattle.tsa_base.specs.Tokens.{Lexeme}
 use Rattle.tsa_tree.specs.expressions.Answers.{an_expression, below_limit}
 use Rattle.tsa_tree.specs.attributes.Refusals.{left_out}
-use Rattle.tsa_tree.specs.declarations.Answers.{Part, an_item, a_head_alone, some_locals, sort_of, call_of, Spells, RowsSpell, Begins, Refuses, IsAnswer, SpellTheSame, TypesSpellTheSame, OneSpelled, OneItem, PiecesBegin, AnAnswer}
+use Rattle.tsa_tree.specs.declarations.Answers.{Part, an_item, a_head_alone, some_locals, sort_of, call_of, Spells, RowsSpell, Begins, Refuses, IsAnswer, SpellTheSame, TypesSpellTheSame, OneSpelled, OneItem, PiecesBegin, AnAnswer, OneAnswer}
 use Rattle.tsa_tree.specs.declarations.Syntax.{Declaration, Initialiser, value, list}
 use Rattle.tsa_tree.specs.expressions.Syntax.{Expression}
 use Rattle.tsa_tree.specs.Reads.{read}
@@ -15,7 +15,9 @@ use Rattle.tsa_tree.proofs.declarations.HeadsToRows.{head_rows}
 use Rattle.tsa_tree.proofs.declarations.ItemsToRows.{items_rows}
 use Rattle.tsa_tree.proofs.expressions.OneTree.{ends_there, at_the_end}
 use Rattle.tsa_tree.proofs.RowFacts.{Ends, EndsLocal, EndsVariables}
-use Rattle.tsa_tree.proofs.RowsRead.{reading, reading_exact, one_reading, piece_begins, completed, broken_free}
+use Rattle.tsa_tree.proofs.RowsRead.{reading, reading_exact, one_reading, piece_begins, whole_begins, completed, broken_free, one_bar}
+use Rattle.tsa_tree.proofs.RowsFree.{free_spelled, free_begun, begun_to_bar}
+use Rattle.tsa_tree.proofs.OneAnswer as verdicts
 use Rattle.tsa_tree.proofs.declarations.RowsToProductions.{declaration_of}
 use Rattle.tsa_forms.specs.Exact as forms
 use Rattle.tsa_forms.specs.Reading.{Code, syntax, deep, barred, Refusal, refuse, Outcome, all}
@@ -86,19 +88,25 @@ module _ (tokens : List Lexeme) (aliases : Aliases) (p : Part) (a : ℕ) where
   clash : (x : Node (sort_of p) × ℕ) (y : Refusal) (r : Outcome (Node (sort_of p))) → r ≡ Ok x → r ≡ Err y → ⊥
   clash x y r e q = let never : Ok x ≡ Err y = sym e ∙ q in cc
 
+  -- What is spelled up to where the longest beginning ends is as long as it can be.
+  whole_ends : (x : Node (sort_of p)) (i : ℕ) → Spells tokens aliases all p x a i → ((b : ℕ) → Begins tokens aliases all p a b → b ≤ i)
+      → ((j q : ℕ) → Refuses tokens aliases all p a j q → ⊥) → Ends tokens (sort_of p) (call_of p aliases) x i
+  whole_ends x i sp longest free =
+      elim (ends_or_on tokens aliases p x a i sp) [
+        | inl en ↦ en
+        | inr more ↦ elim more [
+          | inl on ↦ (let le = longest (i + 1) on in absurd (omega arith))
+          | inr out ↦ absurd (free i left_out out)
+        ]
+      ]
+
   -- A reader without limits would have found what is spelled up to where the longest beginning ends.
   no_tree : (i : ℕ) → within below_limit ≡ Err (refuse syntax i) → ((b : ℕ) → Begins tokens aliases all p a b → b ≤ i)
       → ((j q : ℕ) → Refuses tokens aliases all p a j q → ⊥) → (x : Node (sort_of p)) → Spells tokens aliases all p x a i → ⊥
   no_tree i h longest free x sp =
-      elim (ends_or_on tokens aliases p x a i sp) [
-        | inl en ↦ clash _ _ _
-            (completed tokens (sort_of p) (call_of p aliases) x a i (to_rows tokens aliases all p x a i sp) en)
-            (broken_free tokens below_limit (sort_of p) (call_of p aliases) a i h)
-        | inr more ↦ elim more [
-          | inl on ↦ (let le = longest (i + 1) on in absurd (omega arith))
-          | inr out ↦ free i left_out out
-        ]
-      ]
+      clash _ _ _
+      (completed tokens (sort_of p) (call_of p aliases) x a i (to_rows tokens aliases all p x a i sp) (whole_ends x i sp longest free))
+      (broken_free tokens below_limit (sort_of p) (call_of p aliases) a i h)
 
   refused : (code : Code) (i : ℕ) → within below_limit ≡ Err (refuse code i) → Exact (Err (refuse code i))
       → IsAnswer tokens aliases p a (Err (refuse code i))
@@ -124,3 +132,18 @@ unfolding read
 an_answer tokens aliases p a =
     answered tokens aliases p a (reading tokens below_limit (sort_of p) (call_of p aliases) a) refl
     (reading_exact tokens below_limit (sort_of p) (call_of p aliases) a)
+
+pub one_answer : OneAnswer
+one_answer tokens aliases p a other h =
+    verdicts.one_answer (λ fits x e. Spells tokens aliases fits p x a e) (λ fits i. Begins tokens aliases fits p a i)
+    (λ fits i q. Refuses tokens aliases fits p a i q)
+    (λ x e sp. from_rows tokens aliases all p x a e (free_spelled tokens below_limit (to_rows tokens aliases below_limit p x a e sp)))
+    (λ i g. free_begun tokens below_limit g)
+    (λ i q g. free_begun tokens below_limit g)
+    (λ x e sp. whole_begins tokens below_limit (sort_of p) (call_of p aliases) x a e (to_rows tokens aliases below_limit p x a e sp))
+    (λ i q g. begun_to_bar tokens below_limit g)
+    (λ x y e sp sq w. one_reading tokens (sort_of p) (call_of p aliases) x y a e
+    (to_rows tokens aliases all p x a e sp) (to_rows tokens aliases all p y a e sq)
+    (whole_ends tokens aliases p a x e sp w.0 w.1) (whole_ends tokens aliases p a y e sq w.0 w.1))
+    (λ i q r g k first. one_bar tokens (sort_of p) (call_of p aliases) a i q r g k first)
+    other (read tokens (sort_of p) (call_of p aliases) a) h (an_answer tokens aliases p a)

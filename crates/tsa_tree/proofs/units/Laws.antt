@@ -6,13 +6,16 @@ use Rattle.tsa_tree.specs.expressions.Answers.{below_limit}
 use Rattle.tsa_tree.specs.Rows.{Sort, some_items, Node, Call, items, is_past, sees, Row, rule}
 use Rattle.tsa_tree.specs.Reads.{read}
 use Rattle.tsa_tree.specs.tokens.Signs.{Aliases}
-use Rattle.tsa_tree.specs.units.Answers.{Spelled, IsAnswer, read_unit, SpellTheSame, OneUnit, PiecesBegin, IsNoUnit, RefusedIsNoUnit, AnAnswer}
+use Rattle.tsa_tree.specs.units.Answers.{Spells, Spelled, Begun, Refused, IsAnswer, read_unit, SpellTheSame, OneUnit, PiecesBegin, IsNoUnit, RefusedIsNoUnit, AnAnswer, OneAnswer}
 use Rattle.tsa_tree.specs.units.Syntax.{UnitItem, names_of}
 use Rattle.tsa_tree.specs.units.Spelling.{IsItems, no_items, of_items}
 use Rattle.tsa_tree.proofs.declarations.ItemsToRows.{items_rows}
 use Rattle.tsa_tree.proofs.RowFacts.{First, Start, inside}
 use Rattle.tsa_tree.proofs.RowsBegin.{firsts}
-use Rattle.tsa_tree.proofs.RowsRead.{reading, reading_exact, one_reading, piece_begins, completed, broken_free, first_there}
+use Rattle.tsa_tree.proofs.RowsRead.{reading, reading_exact, one_reading, piece_begins, completed, broken_free, first_there, one_bar}
+pub use Rattle.tsa_tree.proofs.RowsFree.{free_spelled}
+use Rattle.tsa_tree.proofs.RowsFree.{free_begun, begun_to_bar}
+use Rattle.tsa_tree.proofs.OneAnswer as verdicts
 use Rattle.tsa_tree.proofs.declarations.RowsToProductions.{declaration_of}
 use Rattle.tsa_tree.proofs.units.Meet.{begun_inside}
 use Rattle.tsa_forms.proofs.Cases.{on_choose}
@@ -133,41 +136,6 @@ module _ (tokens : List Lexeme) (fits : ℕ → Bool) where
     starts_end (starts_left g) le = starts_end g le
     starts_end (starts_right g) le = starts_end g le
 
-  -- What is spelled within limits is spelled without them, and so is what begins it.
-  mutual
-    pub free_spelled : {s : Sort} {c : Call s} {x : Node s} {a b : ℕ} → forms.Spells (rule tokens) (sees tokens) fits s c x a b
-        → forms.Spells (rule tokens) (sees tokens) all s c x a b
-    free_spelled (by_rule g) = by_rule (free_goes g)
-
-    free_goes : {s : Sort} {f : Row s} {x : Node s} {a b : ℕ} → forms.Goes (rule tokens) (sees tokens) fits s f x a b
-        → forms.Goes (rule tokens) (sees tokens) all s f x a b
-    free_goes goes_done = goes_done
-    free_goes (goes_token e g) = goes_token e (free_goes g)
-    free_goes (goes_part sp g) = goes_part (free_spelled sp) (free_goes g)
-    free_goes (goes_bar g) = goes_bar (free_goes g)
-    free_goes (goes_limit e g) = goes_limit refl (free_goes g)
-    free_goes (goes_only e g) = goes_only e (free_goes g)
-    free_goes (goes_left g) = goes_left (free_goes g)
-    free_goes (goes_right g) = goes_right (free_goes g)
-
-  mutual
-    pub free_begun : {s : Sort} {c : Call s} {a b : ℕ} {w : Option ℕ} → forms.Begins (rule tokens) (sees tokens) fits s c a b w
-        → forms.Begins (rule tokens) (sees tokens) all s c a b w
-    free_begun (begins_rule g) = begins_rule (free_starts g)
-
-    free_starts : {s : Sort} {f : Row s} {a b : ℕ} {w : Option ℕ} → forms.Starts (rule tokens) (sees tokens) fits s f a b w
-        → forms.Starts (rule tokens) (sees tokens) all s f a b w
-    free_starts starts_here = starts_here
-    free_starts (starts_barred p) = starts_barred p
-    free_starts (starts_bar g) = starts_bar (free_starts g)
-    free_starts (starts_token e g) = starts_token e (free_starts g)
-    free_starts (starts_in g) = starts_in (free_begun g)
-    free_starts (starts_over sp g) = starts_over (free_spelled sp) (free_starts g)
-    free_starts (starts_limit e g) = starts_limit refl (free_starts g)
-    free_starts (starts_only e g) = starts_only e (free_starts g)
-    free_starts (starts_left g) = starts_left (free_starts g)
-    free_starts (starts_right g) = starts_right (free_starts g)
-
 module _ (tokens : List Lexeme) where
   -- a unit that breaks off is none: it would have to end there
   broken_is_none : (i : ℕ) → IsAnswer tokens (Err (refuse syntax i)) → IsNoUnit tokens
@@ -257,3 +225,31 @@ unfolding read_unit read
 an_answer tokens =
     on_choose (IsAnswer tokens) (is_past tokens 0) _ _ (none_there tokens)
     (λ e. answered tokens e (bounded tokens) refl (reading_exact tokens below_limit some_items (items []) 0))
+
+-- one answer ------------------------------------------------------------------------
+
+module _ (tokens : List Lexeme) where
+  -- A unit that is spelled within limits is spelled without them.
+  free_unit : (fits : ℕ → Bool) (xs : List UnitItem) → Spells tokens fits xs → Spells tokens all xs
+  free_unit fits xs h = go (is_past tokens 0) refl
+    where
+      go : (p : Bool) → is_past tokens 0 ≡ p → Spells tokens all xs
+      go true e =
+          let none = none_past tokens fits h e in
+          subst (λ xs. Spells tokens all xs) (sym none.0) (subst (IsItems tokens all [] [] 0) (sym none.1) no_items)
+      go false e = (declaration_of tokens all (free_spelled tokens fits (units_rows tokens fits h (last_past tokens) e))).0
+
+  unit_begun : (fits : ℕ → Bool) (xs : List UnitItem) (e : ℕ) → Spelled tokens fits xs e → Begun tokens fits e
+  unit_begun fits xs e h = pieces_begin tokens fits xs e (let same = h.1 in omega arith) h.0
+
+pub one_answer : OneAnswer
+one_answer tokens other h =
+    verdicts.one_answer (Spelled tokens) (Begun tokens) (Refused tokens)
+    (λ xs e sp. (free_unit tokens below_limit xs sp.0, sp.1))
+    (λ i g. free_begun tokens below_limit g)
+    (λ i q g. free_begun tokens below_limit g)
+    (unit_begun tokens below_limit)
+    (λ i q g. begun_to_bar tokens below_limit g)
+    (λ xs ys e i j w. one_unit tokens xs ys i.0 j.0)
+    (λ i q p g k first. one_bar tokens some_items (items []) 0 i q p g k first)
+    other (read_unit tokens) h (an_answer tokens)

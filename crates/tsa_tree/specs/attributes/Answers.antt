@@ -71,3 +71,8 @@ PiecesBegin = (tokens : List Lexeme) (aliases : Aliases) (fits : ℕ → Bool) (
 -- there is a right answer for every list and place
 abbrev pub AnAnswer : Type 0
 AnAnswer = (tokens : List Lexeme) (aliases : Aliases) (depth a : ℕ) → IsAnswer tokens aliases depth a (read_any tokens aliases depth a)
+
+-- and there is no other
+abbrev pub OneAnswer : Type 0
+OneAnswer = (tokens : List Lexeme) (aliases : Aliases) (depth a : ℕ) (other : Outcome (List Attribute)) →
+    IsAnswer tokens aliases depth a other → other ≡ read_any tokens aliases depth a

@@ -102,3 +102,8 @@ PiecesBegin = (tokens : List Lexeme) (aliases : Aliases) (fits : ℕ → Bool) (
 abbrev pub AnAnswer : Type 0
 AnAnswer = (tokens : List Lexeme) (aliases : Aliases) (p : Part) (a : ℕ) →
     IsAnswer tokens aliases p a (read tokens (sort_of p) (call_of p aliases) a)
+
+-- and there is no other
+abbrev pub OneAnswer : Type 0
+OneAnswer = (tokens : List Lexeme) (aliases : Aliases) (p : Part) (a : ℕ) (other : Outcome (Node (sort_of p))) →
+    IsAnswer tokens aliases p a other → other ≡ read tokens (sort_of p) (call_of p aliases) a
