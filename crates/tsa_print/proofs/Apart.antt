@@ -5,10 +5,10 @@ use Rattle.tsa_base.specs.declared.token.TokenKind.{TokenKind}
 use Rattle.tsa_base.specs.declared.token.TokenKind.TheVariants.{Word, Number, Text, Punct}
 use Rattle.tsa_base.specs.Bytes.{is_letter, is_word_byte, is_run_byte, is_text_byte}
 use Rattle.tsa_base.specs.Tokens.{Lexeme}
+use Rattle.tsa_tree.specs.expressions.Sound.{is_value}
+use Rattle.tsa_tree.specs.statements.Sound.{is_assigning}
 use Rattle.tsa_print.specs.declared.mark.Mark.TheVariants as marks
 use Rattle.tsa_print.specs.Canonical.{Piece, word, numeral, quoted, assigned, operator, prefix, access, mark, piece_text, binds_left}
-use Rattle.tsa_print.specs.SoundUnits.{is_assigning}
-use Rattle.tsa_print.specs.Writable.{is_value}
 
 abbrev pub piece_kind : Piece → TokenKind
 piece_kind (word text) = Word

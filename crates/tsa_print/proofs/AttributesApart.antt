@@ -10,13 +10,15 @@ use Rattle.tsa_tree.specs.declared.attr.AttrKind.TheVariants as attr
 use Rattle.tsa_tree.specs.attributes.Syntax.{Attribute, Taking, taking, a_text, one_expression, expressions, a_try}
 use Rattle.tsa_tree.specs.expressions.Syntax.{Expression, Identifier, Arguments, none, more}
 use Rattle.tsa_tree.specs.tokens.Signs.{Aliases}
+use Rattle.tsa_tree.specs.expressions.Sound.{is_sound, are_sound}
+use Rattle.tsa_tree.specs.attributes.Sound.{SoundTaken, SoundAttributes}
+use Rattle.tsa_tree.specs.declarations.Sound.{SoundName}
 use Rattle.tsa_print.specs.declared.mark.Mark.{Mark}
 use Rattle.tsa_print.specs.declared.mark.Mark.TheVariants as marks
 use Rattle.tsa_print.specs.Canonical.{Piece, word, numeral, quoted, mark, further}
 use Rattle.tsa_print.specs.DeclarationPieces.{name_pieces, macro_word, taken, attribute_pieces, attributes_pieces}
-use Rattle.tsa_print.specs.SoundDeclarations.{SoundTaken, SoundAttributes, SoundName}
 use Rattle.tsa_print.specs.UnitBases.{in_arguments, in_attributes}
-use Rattle.tsa_print.specs.Writable.{is_sound, are_sound, has_plain_bases, have_plain_bases}
+use Rattle.tsa_print.specs.Writable.{has_plain_bases, have_plain_bases}
 use Rattle.tsa_print.proofs.Apart.{is_word}
 use Rattle.tsa_print.proofs.CanonicalApart.{word_of_name, joins_arguments, joins_further}
 use Rattle.tsa_print.proofs.Joins.{is_closed, Joins, joins_none, joins_loose, joins_append, joins_behind, joins_between}

@@ -7,11 +7,11 @@ use Rattle.std.specs.List.{list_all}
 use Rattle.tsa_base.specs.Bytes.{is_letter, is_digit, is_word_byte}
 use Rattle.tsa_tree.specs.declared.expr.UnaryOp.{UnaryOp}
 use Rattle.tsa_tree.specs.declared.expr.UnaryOp.TheVariants as prefix_op
+use Rattle.tsa_tree.specs.expressions.Sound.{is_value}
 use Rattle.tsa_print.specs.declared.mark.Mark.{Mark}
 use Rattle.tsa_print.specs.declared.mark.Mark.TheVariants as marks
 use Rattle.tsa_print.specs.Canonical.{Piece, word, numeral, quoted, assigned, operator, prefix, access, mark, prefix_text, piece_text, mark_text, gap, binds_left}
 use Rattle.tsa_print.specs.Layout.{lead, line_end, behind_of}
-use Rattle.tsa_print.specs.Writable.{is_value}
 use Rattle.tsa_print.proofs.Apart.{is_word, is_good, follows, follows_first, is_dot, is_name_piece, is_tight, is_equality, safe}
 use Rattle.tsa_print.proofs.Longer.{not-of-kind}
 use Rattle.tsa_print.proofs.Numerals.{decimal-IsDecimal, suffix, value-small}

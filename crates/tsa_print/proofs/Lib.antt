@@ -22,7 +22,6 @@ mod SpelledParameters
 mod SpelledHeads
 mod SpelledItems
 mod SpelledUnits
-mod ReadSound
 mod Joins
 mod Starts
 mod CanonicalApart
@@ -35,12 +34,6 @@ mod WrittenParts
 mod ReadAgain
 mod PlainDeclarationPieces
 mod PlainPieces
-mod SignsRead
-mod AttributesRead
-mod DeclarationsRead
-mod HeadsRead
-mod StatementsRead
-pub mod UnitsRead
 pub mod UnitReadAgain
 mod Pages
 mod InlinePieces

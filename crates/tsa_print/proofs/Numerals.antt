@@ -12,7 +12,7 @@ use Rattle.std.specs.Str.Parse.{AllDigits, digits_value_after}
 use Rattle.tsa_base.specs.declared.token.TokenKind.TheVariants.{Number}
 use Rattle.tsa_base.specs.Bytes.{is_digit}
 use Rattle.tsa_base.specs.Numbers.{has_suffix, without_suffix, base_of, digits_of, digit_value, is_digit_in, value_in, number_in, number_of}
-use Rattle.tsa_print.specs.Writable.{is_value}
+use Rattle.tsa_tree.specs.expressions.Sound.{is_value}
 
 -- digits with no 0 before others
 pub record IsDecimal (value : ℕ) (ds : List ℕ) : Type 0 where

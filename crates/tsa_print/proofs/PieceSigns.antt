@@ -16,10 +16,10 @@ use Rattle.tsa_tree.specs.declared.sign.Sign.TheVariants as sign
 use Rattle.tsa_tree.specs.expressions.Syntax.{Identifier, plain_name, nowhere}
 use Rattle.tsa_tree.specs.tokens.Signs.{Aliases, punctuator_signs, punctuator_sign, word_signs, word_sign, sign_of, sign_in, sign_at, identifier_in, identifier_at, value_of, unsigned_of, kind_in, value_at, unsigned_at}
 use Rattle.tsa_tree.specs.tokens.Signs as signs
+use Rattle.tsa_tree.specs.expressions.Sound.{is_name}
+use Rattle.tsa_tree.specs.statements.Sound.{is_assigning}
 use Rattle.tsa_print.specs.declared.mark.Mark.TheVariants as marks
 use Rattle.tsa_print.specs.Canonical.{Piece, word, numeral, quoted, operator, prefix, assigned, access, mark, piece_text, assign_text}
-use Rattle.tsa_print.specs.SoundUnits.{is_assigning}
-use Rattle.tsa_print.specs.Writable.{is_name}
 use Rattle.tsa_tree.proofs.tokens.ReservedWords.{not_listed}
 use Rattle.tsa_print.proofs.Apart.{piece_kind, AreTokens}
 

@@ -9,8 +9,8 @@ use Rattle.tsa_base.specs.declared.token.TokenKind.TheVariants.{Word, Number, Te
 use Rattle.tsa_base.specs.Bytes.{is_letter, is_digit, is_word_byte, is_run_byte, is_text_byte}
 use Rattle.tsa_base.specs.Tokens.{closes, is_token, kind_of}
 use Rattle.tsa_base.specs.PieceLaws.{IsNextToken}
+use Rattle.tsa_tree.specs.expressions.Sound.{is_value}
 use Rattle.tsa_print.specs.Canonical.{Piece, word, numeral}
-use Rattle.tsa_print.specs.Writable.{is_value}
 use Rattle.tsa_print.proofs.Apart.{is_word, follows, follows_first}
 use Rattle.tsa_print.proofs.Longer.{IsClosed, closed-longest, no-slash, all-broken}
 use Rattle.tsa_print.proofs.Numerals.{IsDecimal, decimal-IsDecimal, suffix, number-read, value-small}

@@ -2,14 +2,15 @@
 use Rattle.std.proofs.Common.{length}
 use Rattle.std.proofs.lemmas.Bool.{and_parts, and_from}
 use Rattle.tsa_tree.specs.expressions.Answers.{an_expression}
+use Rattle.tsa_tree.specs.expressions.Sound.{is_sound}
 use Rattle.tsa_tree.proofs.expressions.OneTree.{one_tree}
+use Rattle.tsa_tree.proofs.expressions.ReadSound.{read_is_sound}
 use Rattle.tsa_print.specs.Canonical.{pieces, canonical}
-use Rattle.tsa_print.specs.Writable.{is_sound, has_plain_bases}
+use Rattle.tsa_print.specs.Writable.{has_plain_bases}
 use Rattle.tsa_print.specs.PrintLaws.{WritableIsReadAgain, ReadIsWritable}
 use Rattle.tsa_print.proofs.CanonicalApart.{canonical_apart}
 use Rattle.tsa_print.proofs.Lexed.{written_tokens}
 use Rattle.tsa_print.proofs.Spelled.{pieces_spell}
-use Rattle.tsa_print.proofs.ReadSound.{read_is_sound}
 
 pub writable_is_read_again : WritableIsReadAgain
 unfolding canonical

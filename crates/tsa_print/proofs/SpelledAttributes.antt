@@ -8,11 +8,11 @@ use Rattle.tsa_tree.specs.attributes.Spelling.{attribute, attribute_or, attribut
 use Rattle.tsa_tree.specs.expressions.Syntax.{Arguments, none, more, nowhere, plain_arguments}
 use Rattle.tsa_tree.specs.tokens.Signs.{Aliases, identifier_at}
 use Rattle.tsa_tree.specs.expressions.Spelling.{IsExpression}
+use Rattle.tsa_tree.specs.attributes.Sound.{SoundTaken, SoundAttributes}
 use Rattle.tsa_forms.specs.Reading.{all}
 use Rattle.tsa_print.specs.declared.mark.Mark.TheVariants as marks
 use Rattle.tsa_print.specs.Canonical.{quoted, mark, pieces, arguments, further}
 use Rattle.tsa_print.specs.DeclarationPieces.{taken, attribute_pieces, attributes_pieces}
-use Rattle.tsa_print.specs.SoundDeclarations.{SoundTaken, SoundAttributes}
 use Rattle.tsa_print.proofs.PieceSigns.{seen}
 use Rattle.tsa_print.proofs.Runs.{Run, run_split}
 use Rattle.tsa_print.proofs.SpelledOperands.{expression_spelled, series_spelled}

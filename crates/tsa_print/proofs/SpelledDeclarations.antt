@@ -8,11 +8,12 @@ use Rattle.tsa_tree.specs.declarations.Spelling.{Role, a_member, a_global, IsSpe
 use Rattle.tsa_tree.specs.expressions.Syntax.{Expression, plain_name}
 use Rattle.tsa_tree.specs.declarations.Plain.{plain_type, plain_initialiser, plain_declaration}
 use Rattle.tsa_tree.specs.tokens.Signs.{Aliases, identifier_at, span_over}
+use Rattle.tsa_tree.specs.attributes.Sound.{SoundAttributes}
+use Rattle.tsa_tree.specs.declarations.Sound.{SoundDeclarator, SoundLocalInit, SoundMembers, SoundGlobal, SoundLocal}
 use Rattle.tsa_forms.specs.Reading.{all}
 use Rattle.tsa_print.specs.declared.mark.Mark.TheVariants as marks
 use Rattle.tsa_print.specs.Canonical.{word, mark}
 use Rattle.tsa_print.specs.DeclarationPieces.{type_pieces, length_pieces, attributes_pieces, init_pieces, declaration_pieces, members_pieces}
-use Rattle.tsa_print.specs.SoundDeclarations.{SoundDeclarator, SoundAttributes, SoundLocalInit, SoundMembers, SoundGlobal, SoundLocal}
 use Rattle.tsa_print.proofs.PieceSigns.{seen, name_seen, named_so}
 use Rattle.tsa_print.proofs.Runs.{Run, run_split}
 use Rattle.tsa_print.proofs.SpelledAttributes.{attributes_spelled}

@@ -8,11 +8,11 @@ use Rattle.tsa_tree.specs.declarations.Syntax.{Initialiser, value, list, Initial
 use Rattle.tsa_tree.specs.declarations.Spelling.{Role, a_member, a_global, IsInitialiser, of_value, of_no_values, of_values, IsInitialisers, of_last_value, of_further_value, IsInit, no_init, of_init}
 use Rattle.tsa_tree.specs.declarations.Plain.{plain_initialiser, plain_initialisers}
 use Rattle.tsa_tree.specs.tokens.Signs.{Aliases, punctuator_signs, punctuator_sign, sign_at, span_over}
+use Rattle.tsa_tree.specs.declarations.Sound.{SoundInitialiser, SoundInitialisers, SoundInit}
 use Rattle.tsa_forms.specs.Reading.{all}
 use Rattle.tsa_print.specs.declared.mark.Mark.TheVariants as marks
 use Rattle.tsa_print.specs.Canonical.{assigned, mark}
 use Rattle.tsa_print.specs.DeclarationPieces.{initialiser_pieces, further_pieces, init_pieces}
-use Rattle.tsa_print.specs.SoundDeclarations.{SoundInitialiser, SoundInitialisers, SoundInit}
 use Rattle.tsa_print.proofs.PieceSigns.{Looks, seen}
 use Rattle.tsa_print.proofs.Runs.{Run, run_split}
 use Rattle.tsa_print.proofs.SpelledOperands.{expression_spelled}

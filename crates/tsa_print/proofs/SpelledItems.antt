@@ -17,14 +17,16 @@ use Rattle.tsa_tree.specs.statements.Plain.{plain_statements}
 use Rattle.tsa_tree.specs.tokens.Signs.{Aliases, span_at, span_over, identifier_at}
 use Rattle.tsa_tree.specs.statements.Syntax.{Statements}
 use Rattle.tsa_tree.specs.units.Syntax.{UnitItem, structure_item, alias_item, enumeration_item, global_item, function_item, body_item}
+use Rattle.tsa_tree.specs.expressions.Sound.{is_name}
+use Rattle.tsa_tree.specs.attributes.Sound.{SoundAttributes}
+use Rattle.tsa_tree.specs.declarations.Sound.{SoundType, SoundMembers, SoundGlobal, SoundName, SoundHead, SoundConstants}
+use Rattle.tsa_tree.specs.statements.Sound.{SoundStatements}
+use Rattle.tsa_tree.specs.units.Sound.{SoundTag, SoundItem}
 use Rattle.tsa_forms.specs.Reading.{all}
 use Rattle.tsa_print.specs.declared.mark.Mark.TheVariants as marks
 use Rattle.tsa_print.specs.Canonical.{Piece, word, mark}
 use Rattle.tsa_print.specs.DeclarationPieces.{name_pieces, attributes_pieces, type_pieces, declaration_pieces, members_pieces, head_pieces, constants_pieces}
-use Rattle.tsa_print.specs.SoundDeclarations.{SoundAttributes, SoundType, SoundMembers, SoundGlobal, SoundName, SoundHead, SoundConstants}
-use Rattle.tsa_print.specs.SoundUnits.{SoundTag, SoundStatements, SoundItem}
 use Rattle.tsa_print.specs.UnitPieces.{statements_pieces, item_pieces}
-use Rattle.tsa_print.specs.Writable.{is_name}
 use Rattle.tsa_print.proofs.PieceSigns.{seen, name_seen, named_so}
 use Rattle.tsa_print.proofs.Runs.{Run, run_split}
 use Rattle.tsa_print.proofs.SpelledAttributes.{attributes_spelled}

@@ -5,9 +5,9 @@ use Rattle.tsa_base.specs.Tokens.{Lexeme}
 use Rattle.tsa_tree.specs.expressions.Syntax.{Expression, Arguments, number, null, named, call, unary, binary, field, index, more, nowhere, plain, plain_arguments}
 use Rattle.tsa_tree.specs.tokens.Signs.{Aliases, span_over, level}
 use Rattle.tsa_tree.specs.expressions.Spelling.{IsUnary, of_postfix, of_prefix, IsSeries}
+use Rattle.tsa_tree.specs.expressions.Sound.{is_sound, are_sound}
 use Rattle.tsa_forms.specs.Reading.{all}
 use Rattle.tsa_print.specs.Canonical.{operator, pieces, further}
-use Rattle.tsa_print.specs.Writable.{is_sound, are_sound}
 use Rattle.tsa_print.proofs.PieceSigns.{prefix_seen}
 use Rattle.tsa_print.proofs.Runs.{Run, run_split, run_shows, run_long}
 use Rattle.tsa_print.proofs.Spelled.{Expr, Post, level_below, bare_binary, wrapped_post, expr, post, rest}

@@ -9,11 +9,11 @@ use Rattle.tsa_tree.specs.statements.Plain.{plain_simple, plain_for_init}
 use Rattle.tsa_tree.specs.tokens.Signs.{Aliases, sign_at, span_over}
 use Rattle.tsa_tree.specs.statements.Syntax.{Simple, evaluation, assignment, ForInit, no_init, simple_init, local_init}
 use Rattle.tsa_tree.specs.statements.Spelling.{IsSimple, of_evaluation, of_assignment, IsOptional, no_expression, an_expression, IsTest, of_test, IsForInit, of_no_init, of_simple_init, of_local_init, IsForStep, of_no_step, of_step}
+use Rattle.tsa_tree.specs.expressions.Sound.{SoundExpression, SoundOptional}
+use Rattle.tsa_tree.specs.statements.Sound.{SoundSimple, SoundForInit, SoundForStep}
 use Rattle.tsa_forms.specs.Reading.{all}
 use Rattle.tsa_print.specs.declared.mark.Mark.TheVariants as marks
 use Rattle.tsa_print.specs.Canonical.{Piece, word, assigned, mark, pieces}
-use Rattle.tsa_print.specs.SoundDeclarations.{SoundExpression, SoundOptional}
-use Rattle.tsa_print.specs.SoundUnits.{SoundSimple, SoundForInit, SoundForStep}
 use Rattle.tsa_print.specs.UnitPieces.{simple_pieces, optional_pieces, test_pieces, for_init_pieces, for_step_pieces}
 use Rattle.tsa_print.proofs.PieceSigns.{seen, assign_seen}
 use Rattle.tsa_print.proofs.Runs.{Run, run_split}

@@ -6,10 +6,10 @@ use Rattle.tsa_tree.specs.declared.sign.Sign.TheVariants as sign
 use Rattle.tsa_tree.specs.tokens.Signs.{Aliases}
 use Rattle.tsa_tree.specs.statements.Syntax.{Statement, block, empty, local, simple, if_alone, if_else, while_loop, do_loop, for_loop, switch, case, otherwise, label, break, continue, goto, return, Statements, none, more}
 use Rattle.tsa_tree.specs.statements.Spelling.{no_statement}
+use Rattle.tsa_tree.specs.statements.Sound.{SoundStatement, SoundStatements}
 use Rattle.tsa_print.specs.declared.mark.Mark.{Mark}
 use Rattle.tsa_print.specs.declared.mark.Mark.TheVariants as marks
 use Rattle.tsa_print.specs.Canonical.{word, mark, pieces}
-use Rattle.tsa_print.specs.SoundUnits.{SoundStatement, SoundStatements}
 use Rattle.tsa_print.specs.UnitPieces.{optional_pieces, test_pieces, for_init_pieces, for_step_pieces, statement_pieces, statements_pieces}
 use Rattle.tsa_print.proofs.PieceSigns.{piece_sign, seen, name_seen, named_so}
 use Rattle.tsa_print.proofs.Runs.{Run, run_split}

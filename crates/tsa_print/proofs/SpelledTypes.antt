@@ -8,11 +8,12 @@ use Rattle.tsa_tree.specs.declarations.Spelling.{no_const, of_const, IsBase, of_
 use Rattle.tsa_tree.specs.expressions.Syntax.{Expression, plain}
 use Rattle.tsa_tree.specs.declarations.Plain.{plain_base, plain_type}
 use Rattle.tsa_tree.specs.tokens.Signs.{Aliases, identifier_at}
+use Rattle.tsa_tree.specs.expressions.Sound.{SoundOptional}
+use Rattle.tsa_tree.specs.declarations.Sound.{SoundBase, SoundType}
 use Rattle.tsa_forms.specs.Reading.{all}
 use Rattle.tsa_print.specs.declared.mark.Mark.TheVariants as marks
 use Rattle.tsa_print.specs.Canonical.{mark, pieces}
 use Rattle.tsa_print.specs.DeclarationPieces.{base_pieces, const_pieces, specifier_pieces, star_pieces, type_pieces, length_pieces}
-use Rattle.tsa_print.specs.SoundDeclarations.{SoundOptional, SoundBase, SoundType}
 use Rattle.tsa_print.proofs.PieceSigns.{seen, named_so}
 use Rattle.tsa_print.proofs.Runs.{Run, run_split}
 use Rattle.tsa_print.proofs.SpelledOperands.{expression_spelled}

@@ -12,14 +12,14 @@ use Rattle.tsa_tree.specs.statements.Plain.{plain_simple, plain_statement, plain
 use Rattle.tsa_tree.specs.tokens.Signs.{Aliases, sign_at, span_over, identifier_at}
 use Rattle.tsa_tree.specs.statements.Syntax.{Simple, evaluation, assignment, ForInit, Statement, block, empty, local, simple, if_alone, if_else, while_loop, do_loop, for_loop, switch, case, otherwise, label, break, continue, goto, return, Statements, more, ends_short, spanning}
 use Rattle.tsa_tree.specs.statements.Spelling.{IsStatement, of_block, of_empty, of_simple, of_if, of_if_else, of_while, of_do, of_for, of_switch, of_case, of_default, of_label, of_break, of_continue, of_goto, of_return, of_body, IsStatements, of_locals_first, of_statement_first}
+use Rattle.tsa_tree.specs.expressions.Sound.{SoundOptional, is_name}
+use Rattle.tsa_tree.specs.declarations.Sound.{SoundLocal}
+use Rattle.tsa_tree.specs.statements.Sound.{SoundSimple}
 use Rattle.tsa_forms.specs.Reading.{all}
 use Rattle.tsa_print.specs.declared.mark.Mark.TheVariants as marks
 use Rattle.tsa_print.specs.Canonical.{word, mark}
 use Rattle.tsa_print.specs.DeclarationPieces.{declaration_pieces}
-use Rattle.tsa_print.specs.SoundDeclarations.{SoundOptional, SoundLocal}
-use Rattle.tsa_print.specs.SoundUnits.{SoundSimple}
 use Rattle.tsa_print.specs.UnitPieces.{simple_pieces, optional_pieces}
-use Rattle.tsa_print.specs.Writable.{is_name}
 use Rattle.tsa_print.proofs.PieceSigns.{seen, name_seen, named_so}
 use Rattle.tsa_print.proofs.Runs.{Run, run_split}
 use Rattle.tsa_print.proofs.SpelledDeclarations.{local_spelled}

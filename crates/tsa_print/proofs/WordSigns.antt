@@ -17,11 +17,10 @@ use Rattle.tsa_tree.specs.declared.sign.Sign.{Sign}
 use Rattle.tsa_tree.specs.declared.sign.Sign.TheVariants as sign
 use Rattle.tsa_tree.specs.attributes.Syntax.{unquoted, try_value}
 use Rattle.tsa_tree.specs.tokens.Signs.{Aliases, word_signs, word_sign, sign_at, identifier_in, identifier_at, is_tag}
+use Rattle.tsa_tree.specs.expressions.Sound.{is_tag_name, is_alias_name, is_name}
 use Rattle.tsa_tree.proofs.tokens.ReservedWords.{not_listed}
 use Rattle.tsa_print.specs.Canonical.{Piece, word, numeral, quoted, piece_text}
 use Rattle.tsa_print.specs.DeclarationPieces.{macro_word}
-use Rattle.tsa_print.specs.SoundDeclarations.{is_tag_name, is_alias_name}
-use Rattle.tsa_print.specs.Writable.{is_name}
 use Rattle.tsa_print.proofs.PieceSigns.{Looks, seen}
 
 abbrev pub keyword_text : Keyword → List ℕ

@@ -4,8 +4,6 @@ pub mod PrintLaws
 pub mod Layout
 pub mod DeclarationPieces
 pub mod UnitPieces
-pub mod SoundDeclarations
-pub mod SoundUnits
 pub mod UnitBases
 pub mod UnitPrintLaws
 pub mod Sheets

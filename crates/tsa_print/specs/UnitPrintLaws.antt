@@ -4,8 +4,8 @@ use Rattle.tsa_base.specs.Tokens.{Lexeme, tokens_of}
 use Rattle.tsa_tree.specs.units.Plain.{plain_item}
 use Rattle.tsa_tree.specs.units.Answers.{Spells}
 use Rattle.tsa_tree.specs.units.Syntax.{UnitItem}
+use Rattle.tsa_tree.specs.units.Sound.{SoundItems}
 use Rattle.tsa_forms.specs.Reading.{all}
-use Rattle.tsa_print.specs.SoundUnits.{SoundItems}
 use Rattle.tsa_print.specs.UnitBases.{HasPlainBases}
 use Rattle.tsa_print.specs.UnitPieces.{canonical_unit}
 

@@ -24,7 +24,7 @@ pub fn printed_units_are_read_again()
 
 /// A unit that the tokens of a text spell is one that the grammar can spell, so that it is read again from its canonical text
 /// if no `.` in it has a number as its base.
-#[tactic(auto, using(crate::proofs::UnitsRead::read_unit_is_sound))]
+#[tactic(auto, using(crate::proofs::UnitReadAgain::read_unit_is_sound))]
 pub fn read_units_can_be_printed()
     ensures { ReadUnitIsSound }
 {}

@@ -13,8 +13,7 @@ use Rattle.tsa_unit.specs.Parsing.{within_points, within_limits, parsed_of, unit
 use Rattle.tsa_unit.proofs.ParsedLaws.{Unlimited, unlimited}
 use Rattle.tsa_print.specs.UnitPieces.{canonical_unit}
 use Rattle.tsa_print.specs.UnitPrintLaws.{IsUnitReadAgain}
-use Rattle.tsa_print.proofs.UnitReadAgain.{sound_unit_is_read_again}
-use Rattle.tsa_print.proofs.UnitsRead.{read_unit_is_sound}
+use Rattle.tsa_print.proofs.UnitReadAgain.{sound_unit_is_read_again, read_unit_is_sound}
 use Rattle.tsa_tool.specs.declared.check.Refusal.TheVariants.{Lex}
 use Rattle.tsa_tool.specs.Checks.{refusal_of, tree_in}
 use Rattle.tsa_tool.specs.PrintedAgain.{PrintedIsPrintedAgain}

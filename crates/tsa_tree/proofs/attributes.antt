@@ -11,5 +11,7 @@ pub mod ListsToRows
 pub mod Same
 pub mod Ahead
 pub mod Answers
+pub mod Negatives
+pub mod Read
 pub mod Laws
 pub mod Examples

@@ -14,6 +14,8 @@ pub mod ItemsKept
 pub mod ItemRowsKept
 pub mod RowsToProductions
 pub mod Broken
+pub mod Read
+pub mod HeadsRead
 pub mod Laws
 pub mod Examples
 pub mod Trees

@@ -10,5 +10,6 @@ pub mod GoesOn
 pub mod Unlimited
 pub mod Answers
 pub mod OneTree
+pub mod ReadSound
 pub mod Examples
 pub mod Trees

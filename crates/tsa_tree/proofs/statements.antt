@@ -5,6 +5,7 @@ pub mod BlocksMeet
 pub mod SimplesToRows
 pub mod BlocksToRows
 pub mod Kept
+pub mod Read
 pub mod Laws
 pub mod Examples
 pub mod Trees

@@ -1,5 +1,6 @@
 -- Of whole units.
 pub mod Meet
 pub mod Laws
+pub mod Read
 pub mod Examples
 pub mod FunctionLaws

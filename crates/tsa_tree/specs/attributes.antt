@@ -4,5 +4,6 @@ pub mod Syntax
 pub mod Spelling
 pub mod Beginnings
 pub mod Refusals
+pub mod Sound
 pub mod Answers
 pub mod Examples

@@ -7,4 +7,5 @@ pub mod ItemRows
 pub mod Shapes
 pub mod Answers
 pub mod Plain
+pub mod Sound
 pub mod Examples

@@ -4,5 +4,6 @@ pub mod Spelling
 pub mod Rows
 pub mod Laws
 pub mod Plain
+pub mod Sound
 pub mod Shapes
 pub mod Examples

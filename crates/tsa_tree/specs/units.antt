@@ -4,8 +4,10 @@ pub mod Spelling
 pub mod Rows
 pub mod Answers
 pub mod Plain
+pub mod Sound
 pub mod Examples
 pub mod Limits
 pub mod Shapes
 pub mod WellRead
+pub mod SoundLaw
 pub mod Functions

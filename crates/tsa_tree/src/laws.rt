@@ -8,6 +8,7 @@ ghost use Rattle.tsa_tree.specs.declarations.Answers as declarations;
 ghost use Rattle.tsa_tree.specs.statements.Laws as statements;
 ghost use Rattle.tsa_tree.specs.statements.Examples.{StatementsAreRead};
 ghost use Rattle.tsa_tree.specs.units.Answers as units;
+ghost use Rattle.tsa_tree.specs.units.SoundLaw.{WellReadIsSound};
 ghost use Rattle.tsa_tree.specs.points.Examples.{PointsAreInOrder};
 ghost use Rattle.tsa_tree.specs.units.Examples.{UnitsAreRead};
 ghost use Rattle.tsa_tree.specs.declarations.Examples.{DeclarationsAreRead};
@@ -153,6 +154,12 @@ pub fn what_is_refused_is_no_unit()
 pub fn units_have_an_answer()
     ensures right { units.AnAnswer }
     ensures one { units.OneAnswer }
+{}
+
+/// The names of a well-read unit are names, and its numbers fit their types.
+#[tactic(auto, using(crate::proofs::units::Read::well_read_sound))]
+pub fn what_is_well_read_is_sound()
+    ensures { WellReadIsSound }
 {}
 
 /// Units are read as they are written: a text for each production, and one for each kind of refusal.

@@ -21,5 +21,6 @@ pub use laws::{
     rows_are_productions, rows_of_attributes_are_productions, rows_of_declarations_are_productions,
     rows_of_statements_are_productions, rows_of_units_are_productions, statements_are_as_written,
     units_are_as_written, units_have_an_answer, what_is_refused_is_no_unit,
+    what_is_well_read_is_sound,
 };
 pub use parsed::Parsed;

@@ -1,5 +1,5 @@
 -- Attributes that the tokens of a text spell are sound.
-use Rattle.std.proofs.Common.{ℕ, ◌+◌, ◌≡◌, ◌≢◌, ◌∙◌, refl, sym, subst, List, [], ◌∷◌, ◌++◌, Bool, Option, Some, None}
+use Rattle.std.proofs.Common.{ℕ, ◌+◌, ◌≡◌, ◌∙◌, refl, sym, subst, List, [], ◌∷◌, ◌++◌, Bool, Option, Some, None}
 use Rattle.tsa_base.specs.Tokens.{Lexeme}
 use Rattle.tsa_tree.specs.declared.attr.AttrKind.{AttrKind}
 use Rattle.tsa_tree.specs.attributes.Syntax.{Attribute, taking, a_text, one_expression, expressions, a_try, negative, unquoted}
@@ -7,11 +7,12 @@ use Rattle.tsa_tree.specs.attributes.Spelling.{attribute_or, IsAttribute, of_tex
 use Rattle.tsa_tree.specs.expressions.Syntax.{Arguments, none, more}
 use Rattle.tsa_tree.specs.tokens.Signs.{Aliases, identifier_at}
 use Rattle.tsa_tree.specs.expressions.Spelling.{IsSeries, of_last, of_further}
+use Rattle.tsa_tree.specs.attributes.Sound.{SoundTaken, SoundAttribute, SoundAttributes}
+use Rattle.tsa_tree.proofs.tokens.NamesAndNumbers.{AreTokensOfKinds}
+use Rattle.tsa_tree.proofs.tokens.SignsRead.{text_at}
+use Rattle.tsa_tree.proofs.expressions.ReadSound.{expression_sound, series_sound}
+use Rattle.tsa_tree.proofs.attributes.Negatives.{of_negative, other_taking, excluded_sound}
 use Rattle.tsa_forms.specs.Reading.{all}
-use Rattle.tsa_print.specs.SoundDeclarations.{SoundTaken, SoundAttribute, SoundAttributes}
-use Rattle.tsa_print.proofs.ReadSound.{AreTokensOfKinds, expression_sound, series_sound}
-use Rattle.tsa_print.proofs.SignsRead.{text_at}
-use Rattle.tsa_print.proofs.Negatives.{of_negative, other_taking, excluded_sound}
 
 pub attributes_append : (aliases : Aliases) (xs ys : List Attribute) → SoundAttributes aliases xs → SoundAttributes aliases ys → SoundAttributes aliases (xs ++ ys)
 attributes_append aliases [] ys h k = k

@@ -1,15 +1,13 @@
--- Statements, items and units that the grammar can spell.
-use Rattle.std.specs.Prelude.{◌≡◌, List, [], ◌∷◌, ◌++◌, Bool, true, false, Some, None}
+-- Statements that the grammar can spell, where these names of types are known.
+use Rattle.std.specs.Prelude.{◌≡◌, Bool, true, false, Some, None}
 use Rattle.std.specs.declared.option.Option.{Option}
+use Rattle.tsa_tree.specs.declarations.Sound.{SoundLocal}
+use Rattle.tsa_tree.specs.declarations.Syntax.{Declaration}
 use Rattle.tsa_tree.specs.declared.expr.BinaryOp.{BinaryOp}
 use Rattle.tsa_tree.specs.declared.expr.BinaryOp.TheVariants as op
-use Rattle.tsa_tree.specs.declarations.Syntax.{Declaration}
-use Rattle.tsa_tree.specs.expressions.Syntax.{Identifier}
-use Rattle.tsa_tree.specs.tokens.Signs.{Aliases}
+use Rattle.tsa_tree.specs.expressions.Sound.{is_name, SoundExpression, SoundOptional}
 use Rattle.tsa_tree.specs.statements.Syntax.{Simple, evaluation, assignment, ForInit, no_init, simple_init, local_init, Statement, block, empty, local, simple, if_alone, if_else, while_loop, do_loop, for_loop, switch, case, otherwise, label, break, continue, goto, return, Statements, none, more, ends_short}
-use Rattle.tsa_tree.specs.units.Syntax.{UnitItem, structure_item, alias_item, enumeration_item, global_item, function_item, body_item, names_of_item}
-use Rattle.tsa_print.specs.Writable.{is_name}
-use Rattle.tsa_print.specs.SoundDeclarations.{is_tag_name, SoundExpression, SoundOptional, SoundAttributes, SoundType, SoundMembers, SoundGlobal, SoundLocal, SoundName, SoundHead, SoundConstants}
+use Rattle.tsa_tree.specs.tokens.Signs.{Aliases}
 
 -- the operators that can stand before the `=` of an assignment (C11 6.5.16)
 abbrev pub is_assigning : Option BinaryOp → Bool
@@ -68,28 +66,3 @@ abbrev mutual
   pub SoundStatements : Aliases → Statements → Type 0
   SoundStatements aliases none = Unit {0}
   SoundStatements aliases (more first rest) = SoundStatement aliases true first × SoundStatements aliases rest
-
-abbrev pub SoundTag : Option Identifier → Type 0
-SoundTag None = Unit {0}
-SoundTag (Some tag) = is_tag_name tag.text ≡ true
-
--- a struct without an alias has a tag
-abbrev pub SoundTags : Aliases → (tag alias : Option Identifier) → Type 0
-SoundTags aliases None None = ⊥
-SoundTags aliases tag alias = SoundTag tag × SoundName aliases alias
-
-abbrev pub SoundItem : Aliases → UnitItem → Type 0
-SoundItem aliases (structure_item tag other attrs members span) =
-    SoundTags aliases tag other × SoundAttributes aliases attrs × SoundMembers aliases members
-SoundItem aliases (alias_item name ctype span) =
-    SoundType aliases ctype × (ctype.length ≡ None) × (is_name aliases name.text ≡ true)
-SoundItem aliases (enumeration_item tag other values span) =
-    SoundTag tag × SoundName aliases other × SoundConstants aliases values
-SoundItem aliases (global_item d) = SoundGlobal aliases d
-SoundItem aliases (function_item head) = SoundHead aliases head
-SoundItem aliases (body_item head body close) = SoundHead aliases head × SoundStatements aliases body
-
--- a name of a type is known from the item behind its own one on
-abbrev pub SoundItems : Aliases → List UnitItem → Type 0
-SoundItems aliases [] = Unit {0}
-SoundItems aliases (item ∷ items) = SoundItem aliases item × SoundItems (aliases ++ names_of_item item) items

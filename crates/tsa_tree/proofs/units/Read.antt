@@ -1,21 +1,23 @@
 -- What the tokens of a text spell as a unit is sound.
-use Rattle.std.proofs.Common.{ℕ, sym, subst, refl, List, [], ◌∷◌, ◌++◌, Bool, map}
+use Rattle.std.proofs.Common.{ℕ, ◌≡◌, sym, subst, refl, List, [], ◌∷◌, ◌++◌, Bool, Ok, map}
 use Rattle.std.proofs.lemmas.List.{append_assoc, append-nil}
-use Rattle.tsa_base.specs.Tokens.{Lexeme}
+use Rattle.tsa_base.specs.Tokens.{Lexeme, tokens_of}
 use Rattle.tsa_tree.specs.declarations.Syntax.{Declaration}
 use Rattle.tsa_tree.specs.declarations.ItemSpelling.{of_struct_body, IsItem, of_structure, of_tag_alone, of_structure_alias, of_enumeration, of_enumeration_alias, of_alias_item, of_globals, of_function, of_body_item}
 use Rattle.tsa_tree.specs.tokens.Signs.{Aliases, identifier_at}
 use Rattle.tsa_tree.specs.units.Syntax.{UnitItem, global_item, names_of_item, names_of}
+use Rattle.tsa_tree.specs.units.Answers.{Spells}
+use Rattle.tsa_tree.specs.units.Shapes.{item_shapes}
+use Rattle.tsa_tree.specs.units.SoundLaw.{WellReadIsSound}
 use Rattle.tsa_tree.specs.units.Spelling.{IsItems, no_items, of_items}
+use Rattle.tsa_tree.specs.units.Sound.{SoundItems}
+use Rattle.tsa_tree.proofs.tokens.NamesAndNumbers.{AreTokensOfKinds, tokens_of_kinds, name_at}
+use Rattle.tsa_tree.proofs.tokens.SignsRead.{tag_at}
+use Rattle.tsa_tree.proofs.attributes.Read.{attributes_append, attributes_sound}
+use Rattle.tsa_tree.proofs.declarations.HeadsRead.{head_sound, tag_sound, tags_sound, constants_sound}
+use Rattle.tsa_tree.proofs.declarations.Read.{SoundGlobals, specifier_sound, declarator_sound, globals_sound, members_sound}
+use Rattle.tsa_tree.proofs.statements.Read.{statements_sound}
 use Rattle.tsa_forms.specs.Reading.{all}
-use Rattle.tsa_print.specs.SoundUnits.{SoundItems}
-use Rattle.tsa_print.specs.UnitPrintLaws.{ReadUnitIsSound}
-use Rattle.tsa_print.proofs.ReadSound.{AreTokensOfKinds, tokens_of_kinds, name_at}
-use Rattle.tsa_print.proofs.SignsRead.{tag_at}
-use Rattle.tsa_print.proofs.AttributesRead.{attributes_append, attributes_sound}
-use Rattle.tsa_print.proofs.DeclarationsRead.{SoundGlobals, specifier_sound, declarator_sound, globals_sound, members_sound}
-use Rattle.tsa_print.proofs.StatementsRead.{statements_sound}
-use Rattle.tsa_print.proofs.HeadsRead.{head_sound, tag_sound, tags_sound, constants_sound}
 
 -- items before others are sound where the others are with their names
 items_append : (aliases : Aliases) (xs ys : List UnitItem) → SoundItems aliases xs → SoundItems (aliases ++ names_of xs) ys → SoundItems aliases (xs ++ ys)
@@ -66,5 +68,9 @@ module _ (tokens : List Lexeme) (real : AreTokensOfKinds tokens) where
   items_sound no_items = tt
   items_sound {aliases = aliases} (of_items {xs = xs} {ys = ys} h k) = items_append aliases xs ys (item_sound h) (items_sound k)
 
-pub read_unit_is_sound : ReadUnitIsSound
-read_unit_is_sound text tokens items e h = items_sound tokens (tokens_of_kinds text tokens e) h
+-- a unit that the tokens of a text spell is sound
+pub unit_sound : (text : List ℕ) (tokens : List Lexeme) (items : List UnitItem) → tokens_of text ≡ Ok tokens → Spells tokens all items → SoundItems [] items
+unit_sound text tokens items e h = items_sound tokens (tokens_of_kinds text tokens e) h
+
+pub well_read_sound : WellReadIsSound
+well_read_sound items well = unit_sound well.of_text.text well.tokens (item_shapes items) well.of_text.lexed well.spelled

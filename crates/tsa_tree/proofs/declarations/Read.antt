@@ -6,12 +6,13 @@ use Rattle.tsa_tree.specs.declarations.Syntax.{Base, Specified, Initialiser, Ini
 use Rattle.tsa_tree.specs.declarations.Spelling.{Role, a_member, a_global, IsBase, of_int, of_unsigned, of_unsigned_int, of_signed, of_signed_int, of_void, of_struct, of_enum, of_alias, IsSpecifier, of_specifier, IsStar, no_star, of_star, of_const_star, IsDeclarator, of_declarator, IsLength, no_length, of_length, IsInitialiser, of_value, of_no_values, of_values, IsInitialisers, of_last_value, of_value_and_comma, of_further_value, IsInit, no_init, of_init, IsRest, of_rest, IsDeclarators, of_last_declarator, of_further_declarator, IsMembers, no_member, of_members, IsVariable, of_unset, of_set, IsVariables, of_last_variable, of_further_variable, IsLocals, of_locals}
 use Rattle.tsa_tree.specs.expressions.Syntax.{Expression}
 use Rattle.tsa_tree.specs.tokens.Signs.{Aliases}
+use Rattle.tsa_tree.specs.expressions.Sound.{SoundOptional, is_name}
+use Rattle.tsa_tree.specs.declarations.Sound.{SoundBase, SoundInitialiser, SoundInitialisers, SoundInit, SoundMember, SoundMembers, SoundGlobal, SoundLocal}
+use Rattle.tsa_tree.proofs.tokens.NamesAndNumbers.{AreTokensOfKinds, name_at}
+use Rattle.tsa_tree.proofs.tokens.SignsRead.{tag_at, type_at}
+use Rattle.tsa_tree.proofs.expressions.ReadSound.{expression_sound}
+use Rattle.tsa_tree.proofs.attributes.Read.{attributes_sound}
 use Rattle.tsa_forms.specs.Reading.{all}
-use Rattle.tsa_print.specs.SoundDeclarations.{SoundOptional, SoundBase, SoundInitialiser, SoundInitialisers, SoundInit, SoundMember, SoundMembers, SoundGlobal, SoundLocal}
-use Rattle.tsa_print.specs.Writable.{is_name}
-use Rattle.tsa_print.proofs.ReadSound.{AreTokensOfKinds, expression_sound, name_at}
-use Rattle.tsa_print.proofs.SignsRead.{tag_at, type_at}
-use Rattle.tsa_print.proofs.AttributesRead.{attributes_sound}
 
 abbrev pub SoundGlobals : Aliases → List Declaration → Type 0
 SoundGlobals aliases [] = Unit {0}

@@ -16,9 +16,9 @@ use Rattle.tsa_tree.specs.declared.sign.Sign.{Sign}
 use Rattle.tsa_tree.specs.declared.sign.Sign.TheVariants as sign
 use Rattle.tsa_tree.specs.attributes.Syntax.{unquoted}
 use Rattle.tsa_tree.specs.tokens.Signs.{Aliases, punctuator_signs, punctuator_sign, word_signs, word_sign, listed, sign_or, sign_of, sign_in, sign_at, identifier_in, identifier_at, is_tag, assigns}
-use Rattle.tsa_print.specs.SoundDeclarations.{is_tag_name, is_alias_name}
-use Rattle.tsa_print.specs.SoundUnits.{is_assigning}
-use Rattle.tsa_print.proofs.ReadSound.{AreTokensOfKinds, at_place, word_of_token, number_numeric, is_numeric}
+use Rattle.tsa_tree.specs.expressions.Sound.{is_tag_name, is_alias_name}
+use Rattle.tsa_tree.specs.statements.Sound.{is_assigning}
+use Rattle.tsa_tree.proofs.tokens.NamesAndNumbers.{AreTokensOfKinds, at_place, word_of_token, number_numeric, is_numeric}
 
 -- Facts of all signs that stand in a list.
 

@@ -1,45 +1,11 @@
--- Attributes, declarations and heads that the grammar can spell, where these names of types are known: what canonical text is
--- read again of.
-use Rattle.std.specs.Prelude.{ℕ, ◌≡◌, List, [], ◌∷◌, Bool, true, false, ◌&&◌, ◌||◌, not, Some, None}
-use Rattle.std.specs.List.{list_all, list_any}
-use Rattle.std.specs.Str.{bytes_eq}
+-- Declarations and heads that the grammar can spell, where these names of types are known.
+use Rattle.std.specs.Prelude.{◌≡◌, List, [], ◌∷◌, Bool, true, false, ◌||◌, not, Some, None}
 use Rattle.std.specs.declared.option.Option.{Option}
-use Rattle.tsa_base.specs.Bytes.{is_text_byte}
-use Rattle.tsa_tree.specs.attributes.Syntax.{Attribute, Taking, taking, a_text, one_expression, expressions, a_try, negative}
+use Rattle.tsa_tree.specs.attributes.Sound.{SoundAttributes}
 use Rattle.tsa_tree.specs.declarations.Syntax.{Base, int, unsigned, void, structure, enumerated, alias, DeclaredType, Initialiser, value, list, Initialisers, no_more, one_more, Declaration, Parameter, EnumConstant, Head}
-use Rattle.tsa_tree.specs.expressions.Syntax.{Identifier, Expression, Arguments, none, more}
+use Rattle.tsa_tree.specs.expressions.Sound.{is_name, is_tag_name, is_alias_name, SoundExpression, SoundOptional}
+use Rattle.tsa_tree.specs.expressions.Syntax.{Identifier}
 use Rattle.tsa_tree.specs.tokens.Signs.{Aliases}
-use Rattle.tsa_print.specs.Writable.{is_name, is_sound, are_sound}
-
--- the name of a type can be a tag too
-abbrev pub is_tag_name : List ℕ → Bool
-is_tag_name text = is_name [] text
-
-abbrev pub is_alias_name : Aliases → List ℕ → Bool
-is_alias_name aliases text = is_name [] text && list_any (bytes_eq text) aliases
-
-abbrev pub SoundExpression : Aliases → Expression → Type 0
-SoundExpression aliases x = is_sound aliases x ≡ true
-
-abbrev pub SoundOptional : Aliases → Option Expression → Type 0
-SoundOptional aliases None = Unit {0}
-SoundOptional aliases (Some x) = SoundExpression aliases x
-
--- one text, one expression, one or more, or the result of a try before one or more
-abbrev pub SoundTaken : Aliases → Taking → Option (List ℕ) → Option Bool → Arguments → Type 0
-SoundTaken aliases a_text (Some text) None none = list_all is_text_byte text ≡ true
-SoundTaken aliases one_expression None None (more x none) = SoundExpression aliases x
-SoundTaken aliases expressions None None (more x xs) = are_sound aliases (more x xs) ≡ true
-SoundTaken aliases a_try None (Some result) (more x xs) = are_sound aliases (more x xs) ≡ true
-SoundTaken aliases _ _ _ _ = ⊥
-
--- what requires of each of its locks that it isn't held excludes them, so it isn't there as a requirement
-abbrev pub SoundAttribute : Aliases → Attribute → Type 0
-SoundAttribute aliases a = SoundTaken aliases (taking a.kind) a.text a.success a.args × (negative a.kind a.args ≡ None)
-
-abbrev pub SoundAttributes : Aliases → List Attribute → Type 0
-SoundAttributes aliases [] = Unit {0}
-SoundAttributes aliases (a ∷ others) = SoundAttribute aliases a × SoundAttributes aliases others
 
 abbrev pub SoundBase : Aliases → Base → Type 0
 SoundBase aliases int = Unit {0}

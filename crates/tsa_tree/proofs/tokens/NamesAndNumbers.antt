@@ -1,5 +1,5 @@
--- The names that a tree has from the tokens of a text are names, and its numbers have their types.
-use Rattle.std.proofs.Common.{ℕ, zero, suc, ◌+◌, ◌^◌, ◌≡◌, ◌≢◌, ◌∙◌, ap, sym, subst, refl, arith, List, [], ◌∷◌, ◌++◌, Bool, true, false, ◌&&◌, ◌||◌, not, Some, None, Ok, slice_get, length, nat_lt, nat_le, ◌==◌, if◌then◌else◌}
+-- What the tokens of a text show as names are names, and what they show as numbers fits its type.
+use Rattle.std.proofs.Common.{ℕ, zero, suc, ◌^◌, ◌≡◌, ◌≢◌, ◌∙◌, ap, sym, subst, refl, arith, List, [], ◌∷◌, ◌++◌, Bool, true, false, ◌&&◌, ◌||◌, not, Some, None, Ok, slice_get, length, nat_lt, nat_le, ◌==◌, if◌then◌else◌}
 use Rattle.std.proofs.lemmas.Bool.{and_from, ltb-true, lt-ltb, leb-false}
 use Rattle.std.specs.List.{list_all, list_any, filter_map}
 use Rattle.std.specs.Str.{bytes_eq}
@@ -16,12 +16,8 @@ use Rattle.tsa_base.specs.Words.{is_reserved}
 use Rattle.tsa_base.proofs.TokenPlaces.{texts_fall_into_pieces}
 use Rattle.tsa_tree.specs.declared.sign.Sign.{Sign}
 use Rattle.tsa_tree.specs.declared.sign.Sign.TheVariants as sign
-use Rattle.tsa_tree.specs.expressions.Syntax.{Expression, Arguments}
+use Rattle.tsa_tree.specs.expressions.Sound.{is_name, is_value}
 use Rattle.tsa_tree.specs.tokens.Signs.{Aliases, punctuator_signs, punctuator_sign, word_signs, word_sign, listed, sign_or, sign_of, sign_in, sign_at, identifier_in, identifier_at, value_of, unsigned_of, kind_in, value_at, unsigned_at}
-use Rattle.tsa_tree.specs.expressions.Spelling.{IsExpression, of_unary, of_binary, IsUnary, of_postfix, of_prefix, IsPostfix, of_primary, of_field, of_index, IsPrimary, of_number, of_null, of_name, of_call, of_parentheses, IsArguments, of_none, of_some, IsSeries, of_last, of_further}
-use Rattle.tsa_tree.specs.expressions.Answers.{Part, an_expression, a_unary, Spells}
-use Rattle.tsa_forms.specs.Reading.{all}
-use Rattle.tsa_print.specs.Writable.{is_name, is_value, is_sound, are_sound}
 
 -- its bytes are a token's, of its kind
 abbrev pub IsTokenOfKind : Lexeme → Type 0
@@ -205,41 +201,7 @@ module _ (aliases : Aliases) (tokens : List Lexeme) (real : AreTokensOfKinds tok
   number-in i None at e = cc
   number-in i (Some t) at e = let is = at_place tokens i t real at in of_number_sign aliases t.kind t.text is.1 e
 
-  number_at : (i : ℕ) → sign_at tokens aliases i ≡ sign.Number → is_value (value_at tokens i) (unsigned_at tokens i) ≡ true
+  -- and one that is seen as a number has its type
+  pub number_at : (i : ℕ) → sign_at tokens aliases i ≡ sign.Number → is_value (value_at tokens i) (unsigned_at tokens i) ≡ true
   unfolding sign_at value_at unsigned_at
   number_at i e = number-in i (slice_get tokens i) refl e
-
-  mutual
-    pub expression_sound : {d k : ℕ} {t : Expression} {a b : ℕ} → IsExpression tokens aliases all d k t a b → is_sound aliases t ≡ true
-    expression_sound (of_unary h) = unary_sound h
-    expression_sound (of_binary l e le f r) = and_from _ _ (expression_sound l) (expression_sound r)
-
-    pub unary_sound : {d : ℕ} {t : Expression} {a b : ℕ} → IsUnary tokens aliases all d t a b → is_sound aliases t ≡ true
-    unary_sound (of_postfix h) = postfix_sound h
-    unary_sound (of_prefix e f h) = unary_sound h
-
-    postfix_sound : {d : ℕ} {t : Expression} {a b : ℕ} → IsPostfix tokens aliases all d t a b → is_sound aliases t ≡ true
-    postfix_sound (of_primary h) = primary_sound h
-    postfix_sound (of_field {m = m} h e f n) = and_from _ _ (postfix_sound h) (name_at (m + 1) n)
-    postfix_sound (of_index h e f g i c) = and_from _ _ (postfix_sound h) (expression_sound i)
-
-    primary_sound : {d : ℕ} {t : Expression} {a b : ℕ} → IsPrimary tokens aliases all d t a b → is_sound aliases t ≡ true
-    primary_sound (of_number {a = a} e) = number_at a e
-    primary_sound (of_null e) = refl
-    primary_sound (of_name {a = a} e) = name_at a e
-    primary_sound (of_call {a = a} n o f xs c) = and_from _ _ (name_at a n) (arguments_sound xs)
-    primary_sound (of_parentheses o f h c) = expression_sound h
-
-    arguments_sound : {d : ℕ} {xs : Arguments} {a b : ℕ} → IsArguments tokens aliases all d xs a b → are_sound aliases xs ≡ true
-    arguments_sound of_none = refl
-    arguments_sound (of_some h) = series_sound h
-
-    pub series_sound : {d : ℕ} {xs : Arguments} {a b : ℕ} → IsSeries tokens aliases all d xs a b → are_sound aliases xs ≡ true
-    series_sound (of_last h) = and_from _ _ (expression_sound h) refl
-    series_sound (of_further h e xs) = and_from _ _ (expression_sound h) (series_sound xs)
-
--- a tree that the tokens of a text spell has names for names, and its numbers have their types
-pub read_is_sound : (text : List ℕ) (tokens : List Lexeme) (aliases : Aliases) (p : Part) (depth : ℕ) (tree : Expression) (a b : ℕ) →
-    tokens_of text ≡ Ok tokens → Spells tokens aliases all p depth tree a b → is_sound aliases tree ≡ true
-read_is_sound text tokens aliases an_expression depth tree a b e h = expression_sound aliases tokens (tokens_of_kinds text tokens e) h
-read_is_sound text tokens aliases a_unary depth tree a b e h = unary_sound aliases tokens (tokens_of_kinds text tokens e) h

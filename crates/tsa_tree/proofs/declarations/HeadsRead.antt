@@ -10,14 +10,15 @@ use Rattle.tsa_tree.specs.expressions.Syntax.{Identifier}
 use Rattle.tsa_tree.specs.declarations.ItemSpelling.{IsParameter, of_named, of_unnamed, IsParameterList, of_last_parameter, of_further_parameter, IsParameters, no_parameter, of_lone_void, of_parameters, IsTag, no_tag, of_tag, of_signature, IsHead, of_head, IsConstant, of_name_alone, of_name_and_value, IsConstants, of_last_constant, of_constant_and_comma, of_further_constant, IsEnumBody, of_enum_body}
 use Rattle.tsa_tree.specs.tokens.Signs.{Aliases, sign_at, is_void, is_close}
 use Rattle.tsa_tree.specs.tokens.Signs as signs
+use Rattle.tsa_tree.specs.expressions.Sound.{is_name}
+use Rattle.tsa_tree.specs.declarations.Sound.{SoundParameter, SoundEachParameter, SoundParameters, is_bare_void, is_lone_void, SoundHead, SoundConstant, SoundEachConstant, SoundConstants}
+use Rattle.tsa_tree.specs.units.Sound.{SoundTag, SoundTags}
+use Rattle.tsa_tree.proofs.tokens.NamesAndNumbers.{AreTokensOfKinds, name_at}
+use Rattle.tsa_tree.proofs.tokens.SignsRead.{tag_at}
+use Rattle.tsa_tree.proofs.expressions.ReadSound.{expression_sound}
+use Rattle.tsa_tree.proofs.attributes.Read.{attributes_sound}
+use Rattle.tsa_tree.proofs.declarations.Read.{specifier_sound, star_sound, declarator_sound}
 use Rattle.tsa_forms.specs.Reading.{all}
-use Rattle.tsa_print.specs.SoundDeclarations.{SoundParameter, SoundEachParameter, SoundParameters, is_bare_void, is_lone_void, SoundHead, SoundConstant, SoundEachConstant, SoundConstants}
-use Rattle.tsa_print.specs.SoundUnits.{SoundTag, SoundTags}
-use Rattle.tsa_print.specs.Writable.{is_name}
-use Rattle.tsa_print.proofs.ReadSound.{AreTokensOfKinds, expression_sound, name_at}
-use Rattle.tsa_print.proofs.SignsRead.{tag_at}
-use Rattle.tsa_print.proofs.AttributesRead.{attributes_sound}
-use Rattle.tsa_print.proofs.DeclarationsRead.{specifier_sound, star_sound, declarator_sound}
 
 -- Only a bare `void` is one.
 
