@@ -15,3 +15,5 @@ pub mod Negatives
 pub mod Read
 pub mod Laws
 pub mod Examples
+pub mod NamesRise
+pub mod SpansCover

@@ -19,3 +19,8 @@ pub mod HeadsRead
 pub mod Laws
 pub mod Examples
 pub mod Trees
+pub mod Ahead
+pub mod NamesRise
+pub mod SpansCover
+pub mod HeadsRise
+pub mod HeadsCover

@@ -13,3 +13,5 @@ pub mod OneTree
 pub mod ReadSound
 pub mod Examples
 pub mod Trees
+pub mod NamesRise
+pub mod SpansCover

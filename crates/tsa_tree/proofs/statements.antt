@@ -9,3 +9,5 @@ pub mod Read
 pub mod Laws
 pub mod Examples
 pub mod Trees
+pub mod NamesRise
+pub mod SpansCover

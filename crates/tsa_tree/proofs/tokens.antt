@@ -5,3 +5,7 @@ pub mod ReservedWords
 pub mod Texts
 pub mod NamesAndNumbers
 pub mod SignsRead
+pub mod Rising
+pub mod Places
+pub mod Standing
+pub mod Covering

@@ -4,3 +4,5 @@ pub mod Laws
 pub mod Read
 pub mod Examples
 pub mod FunctionLaws
+pub mod NamesStand
+pub mod SpansLie

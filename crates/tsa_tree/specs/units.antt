@@ -11,3 +11,5 @@ pub mod Shapes
 pub mod WellRead
 pub mod SoundLaw
 pub mod Functions
+pub mod Names
+pub mod Spans

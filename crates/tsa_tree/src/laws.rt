@@ -11,6 +11,8 @@ ghost use Rattle.tsa_tree.specs.units.Answers as units;
 ghost use Rattle.tsa_tree.specs.units.SoundLaw.{WellReadIsSound};
 ghost use Rattle.tsa_tree.specs.points.Examples.{PointsAreInOrder};
 ghost use Rattle.tsa_tree.specs.units.Examples.{UnitsAreRead};
+ghost use Rattle.tsa_tree.specs.units.Names.{NamesStandApart};
+ghost use Rattle.tsa_tree.specs.units.Spans.{SpansLieInText};
 ghost use Rattle.tsa_tree.specs.declarations.Examples.{DeclarationsAreRead};
 
 /// The rows that readers go by spell the same trees as the productions of the grammar, and the same lists begin them.
@@ -160,6 +162,16 @@ pub fn units_have_an_answer()
 #[tactic(auto, using(crate::proofs::units::Read::well_read_sound))]
 pub fn what_is_well_read_is_sound()
     ensures { WellReadIsSound }
+{}
+
+/// No two names that a unit declares or uses begin at the same byte of the text that it is read from.
+pub fn names_stand_apart()
+    ensures { NamesStandApart }
+{}
+
+/// The span of each node and each name of a unit goes forwards, and lies in the text that the unit is read from.
+pub fn spans_lie_in_text()
+    ensures { SpansLieInText }
 {}
 
 /// Units are read as they are written: a text for each production, and one for each kind of refusal.

@@ -15,12 +15,12 @@ pub use laws::{
     attributes_are_as_written, attributes_have_an_answer, declarations_are_as_written,
     declarations_have_an_answer, expressions_are_as_written, first_pieces_begin,
     first_pieces_begin_attributes, first_pieces_begin_declarations, first_pieces_begin_statements,
-    first_pieces_begin_units,
-    one_answer_is_right, one_declaration_is_spelled, one_list_of_attributes_is_spelled,
+    first_pieces_begin_units, names_stand_apart, one_answer_is_right,
+    one_declaration_is_spelled, one_list_of_attributes_is_spelled,
     one_statement_is_spelled, one_tree_is_spelled, one_unit_is_spelled, points_are_as_written,
     rows_are_productions, rows_of_attributes_are_productions, rows_of_declarations_are_productions,
-    rows_of_statements_are_productions, rows_of_units_are_productions, statements_are_as_written,
-    units_are_as_written, units_have_an_answer, what_is_refused_is_no_unit,
-    what_is_well_read_is_sound,
+    rows_of_statements_are_productions, rows_of_units_are_productions, spans_lie_in_text,
+    statements_are_as_written, units_are_as_written, units_have_an_answer,
+    what_is_refused_is_no_unit, what_is_well_read_is_sound,
 };
 pub use parsed::Parsed;

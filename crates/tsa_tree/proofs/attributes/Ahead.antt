@@ -14,7 +14,7 @@ module _ {tokens : List Lexeme} {aliases : Aliases} {fits : ℕ → Bool} where
   ahead-attribute (of_expressions t o f xs c) = omega (arith, ahead-series xs)
   ahead-attribute (of_try t o f v m xs c) = omega (arith, ahead-series xs)
 
-  ahead-balanced : {d a b : ℕ} → IsBalanced tokens aliases fits d a b → a ≤ b
+  pub ahead-balanced : {d a b : ℕ} → IsBalanced tokens aliases fits d a b → a ≤ b
   ahead-balanced of_nothing = omega arith
   ahead-balanced (of_token p rest) = omega (arith, ahead-balanced rest)
   ahead-balanced (of_parentheses o f x c rest) = omega (arith, ahead-balanced x, ahead-balanced rest)
