@@ -65,16 +65,18 @@ pub fn read_groups<'a>(
     Ok((into_arena(items), next))
 }
 
-/// The same at the end of a list: the groups at a token, none or more, behind those that the list has.
+/// A list with the groups at a token, none or more, after those that it has, and the token after them.
 pub fn read_more<'a>(
     reader: Reader<'a, '_>,
     at: u32,
     depth: u32,
-    list: &mut Vec<Attr<'a>, &'a Bump>,
-) -> Result<u32, SyntaxRefusal>
+    list: Vec<Attr<'a>, &'a Bump>,
+) -> Result<(Vec<Attr<'a>, &'a Bump>, u32), SyntaxRefusal>
     requires within { at ≤ length reader.tokens.now }
-    ensures gives { Gives (λ next. (attr_shapes list.new.items, next)) result (after (attr_shapes list.old.items) (read_any (input reader.entry) (named reader.entry) depth at)) }
-    ensures ends { IfOk result (λ next. (at ≤ next) × (next ≤ length reader.entry.tokens.now)) }
+    ensures gives { Gives (λ found. (attr_shapes found.0.items, found.1)) result (after (attr_shapes list.entry.items) (read_any (input reader.entry) (named reader.entry) depth at)) }
+    ensures ends { IfOk result (λ found. (at ≤ found.1) × (found.1 ≤ length reader.entry.tokens.now)) }
 {
-    groups(reader, at, depth, list)
+    let mut list = list;
+    let next = groups(reader, at, depth, &mut list)?;
+    Ok((list, next))
 }

@@ -87,8 +87,7 @@ fn struct_body<'a>(
     let inside = open_brace(reader, at, 0)?;
     let mut list = Vec::new(reader.bump);
     let behind = members(reader, inside, &mut list)?;
-    let mut attrs = attrs;
-    let next = read_more(reader, behind, 0, &mut attrs)?;
+    let (attrs, next) = read_more(reader, behind, 0, attrs)?;
     let members = listed(list);
     let attrs = listed(attrs);
     Ok(Body {

@@ -171,8 +171,7 @@ fn struct_item<'a>(
     ensures pointed { IfOk result (λ begun. HaveTheirPoints list.old.items → HaveTheirPoints list.new.items) }
     ensures ends { IfOk result (λ begun. (at < begun.next) × (begun.next ≤ length reader.entry.tokens.now)) }
 {
-    let mut attrs = Vec::new(reader.bump);
-    let behind = read_more(reader, at + 1, 0, &mut attrs)?;
+    let (attrs, behind) = read_more(reader, at + 1, 0, Vec::new(reader.bump))?;
     let tag = tag(reader, behind)?;
     let next = behind + 1;
     if !begins_group(reader.sign(at + 1)) {
@@ -250,8 +249,7 @@ fn struct_alias<'a>(
     ensures ends { IfOk result (λ next. (at < next) × (next ≤ length reader.entry.tokens.now)) }
 {
     let inside = at + 1 + 1;
-    let mut attrs = Vec::new(reader.bump);
-    let behind = read_more(reader, inside, 0, &mut attrs)?;
+    let (attrs, behind) = read_more(reader, inside, 0, Vec::new(reader.bump))?;
     let opening = opening_at(reader, at, behind)?;
     if !begins_group(reader.sign(inside)) {
         if let Some(tag) = used_tag(reader, opening) {

@@ -8,10 +8,12 @@ use tsa_expr::SyntaxRefusal;
 use tsa_tree::decl::Decl;
 use tsa_tree::item::{AliasDef, EnumDef, FnTree, Item, StructDef};
 
-/// One more at the end of a list, which takes room for one first and then for twice as many: most lists are short.
+/// One more at the end of a list, which takes room for one first and then for twice as many: most lists are short. A refused
+/// call leaves the list as it was.
 pub fn keep<T: Copy, A: Allocator>(list: &mut Vec<T, A>, item: T) -> Result<(), SyntaxRefusal>
     ensures gives { OnOk result (list.new.items ≡ list.old.items ++ item ∷ []) }
     ensures grown { OnOk result (length list.new.items ≡ length list.old.items + 1) }
+    ensures kept { OnErr result (list.new.items ≡ list.old.items) }
     ensures memory { OnErr result (result ≡ Err SyntaxRefusal.NoMemory) }
 {
     if list.len() == list.capacity() {

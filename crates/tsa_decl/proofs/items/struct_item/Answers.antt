@@ -5,22 +5,22 @@ use Rattle.tsa_decl.proofs.BegunLaws.{leads_failed, leads_same}
 use Rattle.tsa_decl.proofs.TagLaws.{fresh_fails, fresh_goes, struct_unmarked, struct_tagless, struct_named}
 use Rattle.tsa_decl.proofs.items.struct_item.Goals as goal
 
-pub returns-in_err-behind-clause-leads : goal.returns-in_err-behind-clause-leads
-returns-in_err-behind-clause-leads c =
+pub returns-in_err-attrs-clause-leads : goal.returns-in_err-attrs-clause-leads
+returns-in_err-attrs-clause-leads c =
     λ bodies.
     leads_failed _ _ _ _ _ c.from_residual.ensures.1
-    (struct_unmarked _ _ bodies c.args.list.now.items c.args.at _ (fresh_fails _ _ _ c.new-attrs.ensures.items c.in_err-behind.ensures.gives))
+    (struct_unmarked _ _ bodies c.args.list.now.items c.args.at _ (fresh_fails _ _ _ c.new.ensures.items c.in_err-attrs.ensures.gives))
 
 pub returns-in_err-tag-clause-leads : goal.returns-in_err-tag-clause-leads
 returns-in_err-tag-clause-leads c =
     λ bodies.
     leads_failed _ _ _ _ _ c.from_residual-in_err-tag.ensures.1
-    (struct_tagless _ _ bodies c.args.list.now.items c.args.at _ _ _ (fresh_goes _ _ _ c.new-attrs.ensures.items c.in_ok-behind.ensures.gives) c.in_err-tag.ensures.gives)
+    (struct_tagless _ _ bodies c.args.list.now.items c.args.at _ _ _ (fresh_goes _ _ _ c.new.ensures.items c.in_ok-attrs.ensures.gives) c.in_err-tag.ensures.gives)
 
 pub returns-in_default-clause-leads : goal.returns-in_default-clause-leads
 returns-in_default-clause-leads c =
     λ bodies.
     leads_same _ _ _ _ _
-    (struct_named (input c.args.reader) (named c.args.reader) bodies c.args.list.now.items c.args.at _ _ _ _ (fresh_goes _ _ _ c.new-attrs.ensures.items c.in_ok-behind.ensures.gives) c.in_ok-tag.ensures.gives
+    (struct_named (input c.args.reader) (named c.args.reader) bodies c.args.list.now.items c.args.at _ _ _ _ (fresh_goes _ _ _ c.new.ensures.items c.in_ok-attrs.ensures.gives) c.in_ok-tag.ensures.gives
     (ap is_attribute_sign (sym c.sign.ensures.is) ∙ sym c.begins_group.ensures ∙ c.if-not-begins_group.true) (search rules) (search rules))
     (c.declared_of.ensures.leads bodies)
