@@ -119,7 +119,10 @@ fn standard_ends_that_fail_in_mid_stream_end_the_run(rt: HostRuntime) -> Result<
         assert_eq!(rt; tool(rt.alloc(), &words, &mut source, &mut sink), status);
     }
     let mut sink = WriterSink::new(Broken::new(0));
-    assert_eq!(rt; (sink.push(b"a").is_ok(), sink.push(b"a").is_ok()), (false, true));
+    assert_eq!(rt;
+        (sink.push(b"a").is_ok(), sink.push(b"a").is_ok()),
+        (false, true)
+    );
     Ok(())
 }
 
@@ -151,7 +154,7 @@ fn put_written(
     put(out, b"|")
 }
 
-// What ends that never fail give and take, behind one byte.
+// What ends that never fail give and take, after one byte.
 fn put_copy(out: &mut Vec<u8>, alloc: Global) -> Result<(), Fail> {
     let mut source = HonestSource::new(alloc, b"abc")?;
     let bytes = read_all(alloc, &mut source)?;

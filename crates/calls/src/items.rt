@@ -78,21 +78,21 @@ struct Given<'a, 't> {
     ghost few: { length tokens.now ≤ INPUT_LIMIT },
 }
 
-// The items of a declaration, and the token behind it.
+// The items of a declaration, and the token after it.
 fn put_declaration(out: &mut Vec<u8>, given: Given<'_, '_>) -> Result<(), Fail> {
     let (items, next) = read_declaration(given.bump, given.tokens, 0, given.names)?;
     put_items(out, given.text, items)?;
     put_number(out, next)
 }
 
-// A head, and the token behind it.
+// A head, and the token after it.
 fn put_whole_head(out: &mut Vec<u8>, given: Given<'_, '_>) -> Result<(), Fail> {
     let (head, next) = read_head(given.bump, given.tokens, 0, given.names)?;
     put_head(out, given.text, head.name.span, head.params)?;
     put_number(out, next)
 }
 
-// The locals of a list, or the one that a `for` declares, and the token behind them.
+// The locals of a list, or the one that a `for` declares, and the token after them.
 fn put_locals(out: &mut Vec<u8>, given: Given<'_, '_>, single: bool) -> Result<(), Fail> {
     let (locals, next) = read_local(given.bump, given.tokens, 0, given.names, 1, single)?;
     put_decls(out, given.text, locals)?;

@@ -8,7 +8,7 @@ use tsa_attr::read_attributes;
 use tsa_expr::{SyntaxCode, SyntaxRefusal, read_expr, read_unary};
 use tsa_print::print_expr;
 
-// The expression that a text begins with: its bytes, the token behind it, and its canonical text. Then the same of the
+// The expression that a text begins with: its bytes, the token after it, and its canonical text. Then the same of the
 // unary expression, without its canonical text.
 fn show_expression(alloc: Global, text: &[u8]) -> Result<Vec<u8>, Fail> {
     let bump = Bump::new(alloc);
@@ -47,7 +47,7 @@ fn an_expression_has_its_span(rt: HostRuntime) -> Result<(), Fail> {
     Ok(())
 }
 
-// The attributes that a text begins with at a depth: the bytes of each and of its expressions, and the token behind them;
+// The attributes that a text begins with at a depth: the bytes of each and of its expressions, and the token after them;
 // or the token where one construct too many is opened.
 fn show_attributes(alloc: Global, text: &[u8], depth: u32) -> Result<Vec<u8>, Fail> {
     let bump = Bump::new(alloc);

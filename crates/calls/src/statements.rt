@@ -148,7 +148,7 @@ fn put_stmt(out: &mut Vec<u8>, stmt: &Stmt<'_>, levels: u32) -> Result<(), Fail>
     put(out, b")")
 }
 
-// Statements one behind another.
+// Statements one after another.
 #[cycle(put_stmt)]
 fn put_stmts(out: &mut Vec<u8>, stmts: &[Stmt<'_>], levels: u32) -> Result<(), Fail> {
     'stmts: for stmt in stmts {

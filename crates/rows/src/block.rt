@@ -36,7 +36,7 @@ impl<'t> Block<'t> {
         }
     }
 
-    /// Takes the line behind a mark.
+    /// Takes the line after a mark.
     pub fn take(&mut self, mark: u8, line: &'t str, fronts: &[Front]) -> Result<(), Fault> {
         match mark {
             b':' => self.front = Some(line),

@@ -88,7 +88,7 @@ impl Tally {
     }
 }
 
-// The lines of an answer to a unit that ends at a place, with a line end behind each.
+// The lines of an answer to a unit that ends at a place, with a line end after each.
 fn answer_of(alloc: Global, lines: &[&str], end: &str) -> Result<Vec<u8>, Fault> {
     let mut answer = Text::new(alloc);
     for line in lines {

@@ -1,4 +1,4 @@
-//! A file of blocks: each is judged at the blank line behind it, or at the end of the file.
+//! A file of blocks: each is judged at the blank line after it, or at the end of the file.
 
 use crate::block::{Block, Front};
 use crate::case::{Case, Status, Tally};
@@ -100,7 +100,7 @@ impl<'t> File<'t> {
     }
 }
 
-// The mark that a line begins with, and what stands behind the blank after it.
+// The mark that a line begins with, and what stands after the blank after it.
 fn split_mark(line: &str) -> Option<(u8, &str)> {
     let (mark, rest) = line.split_at_checked(1)?;
     let mark = *mark.as_bytes().first()?;

@@ -6,10 +6,10 @@
 //! - `#` a sentence that says what the case shows; it holds for the blocks that follow too, up to the next such line
 //! - `$` the words of the command, none or several; they hold as the sentence does
 //! - `@` the name of a front, whose lines stand here
-//! - `|` a line of the unit; lines are joined by line ends, and none stands behind the last one
-//! - `*` a last line of a unit; with several of them each makes a unit of its own behind the lines before
+//! - `|` a line of the unit; lines are joined by line ends, and none stands after the last one
+//! - `*` a last line of a unit; with several of them each makes a unit of its own after the lines before
 //! - `=` the status; with the word `twice` the answer, given as a unit, is its own answer too
-//! - `>` a line of the answer, with a line end behind it
+//! - `>` a line of the answer, with a line end after it
 //!
 //! A block that begins with `:` and a name says a front: its `@` and `|` lines, for all blocks and all files after it.
 //! A block of `#` lines alone is a remark.
@@ -19,7 +19,7 @@
 //! - `\n`, `\t`, `\\`, `\x` with two hexadecimal digits: a byte
 //! - `\{N:` up to `\}`: what stands between, N times; `\#` in it is how often it stood before
 //! - `\|` in a unit: the unit is cut here. A unit with cuts is no case itself; what it is up to each cut is one
-//! - `\e` in an answer: the line and the column behind the last byte of the unit
+//! - `\e` in an answer: the line and the column after the last byte of the unit
 #![tactic(auto)]
 
 mod block;

@@ -40,7 +40,7 @@ pub fn parts_of<'a>(alloc: Global, line: &'a str) -> Result<Vec<Part<'a>>, Fault
     Ok(parts)
 }
 
-// Adds what a backslash and the piece behind it say, and tells whether that was a backslash itself, so that the next piece
+// Adds what a backslash and the piece after it say, and tells whether that was a backslash itself, so that the next piece
 // is text.
 fn push_escape<'a>(parts: &mut Vec<Part<'a>>, piece: &'a str) -> Result<bool, Fault> {
     if piece.is_empty() {

@@ -31,7 +31,7 @@ not_text sign.Text h = absurd (h refl)
 not_text _ h = refl
 
 module _ (ts : List Lexeme) (aliases : Aliases) where
-  -- by what stands behind the name
+  -- by what stands after the name
   attribute_at_sign : (d : ℕ) (k : AttrKind) (m : ℕ) (s : Sign) → sign_at ts aliases (m + 1) ≡ s
       → attribute_at ts aliases d k m
       ≡ choose (lacking_at ts aliases k m s) (Err (refuse (barred lacking) m)) (then (opening ts aliases d (m + 1)) (λ u n. arguments_at ts aliases (d + 1) k m (taking k)))

@@ -79,7 +79,7 @@ module _ (ts : List Lexeme) (aliases : Aliases) where
       ∙ ap (λ ys. Ok (ys, n)) (append-nil (attr_shapes xs))
   entry_ignored xs d m (Err e) w s h = fails_then e _ _ (fails_same e _ _ (entry_is d m mean.Ignored w s) (fails_then e _ _ h))
 
-  -- an entry and those behind it
+  -- an entry and those after it
   known-law : (w l : Bool) (m : ℕ) (x y : Outcome (List Attribute)) (go : List Attribute → ℕ → Outcome (List Attribute)) → x ≡ then y go
       → choose (w && l) (Err (refuse (barred lacking) m)) (choose w x (Err (refuse syntax m)))
       ≡ then (choose w (choose l (Err (refuse (barred lacking) m)) y) (Err (refuse syntax m))) go

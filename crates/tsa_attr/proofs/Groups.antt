@@ -80,7 +80,7 @@ module _ (ts : List Lexeme) (aliases : Aliases) where
       ∙ ap (λ o. going ts some_attributes (within (d + 1 + 1) (o + 1)) (o + 1)) (sym p)
       ∙ ap (λ i. going ts some_attributes (within (d + 1 + 1) i) i) (sym q)
 
-  -- a list up to its second closing parenthesis, which leaves the place behind it
+  -- a list up to its second closing parenthesis, which leaves the place after it
   close_at : (xs : List Attribute) (n : ℕ) → going ts some_attributes (token (a_close aliases) (done xs)) n ≡ then (one_token ts (a_close aliases) n) (λ u e. Ok (xs, e))
   unfolding one_token
   close_at xs n = close-law (sees ts (a_close aliases) n) xs n
@@ -143,7 +143,7 @@ module _ (ts : List Lexeme) (aliases : Aliases) where
       ∙ after-then-as front (read ts some_attributes (group aliases d) m) _ (groups_on d)
       (λ xs n. on-law front xs (is_attribute_sign (sign_at ts aliases n)) n (read ts some_attributes (attributes aliases d) n))
 
-  -- any number of groups, behind those that were there before
+  -- any number of groups, after those that were there before
   any-law : (front : List Attribute) (b : Bool) (n : ℕ) (r : Outcome (List Attribute)) → after front (choose b r (Ok ([], n))) ≡ choose b (after front r) (Ok (front, n))
   unfolding choose then
   any-law front true n r = refl

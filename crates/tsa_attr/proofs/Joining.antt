@@ -1,4 +1,4 @@
--- Outcomes, one behind another.
+-- Outcomes, one after another.
 use Rattle.std.proofs.Common.{ℕ, ◌+◌, ◌≡◌, ap, sym, refl, Bool, true, false, List, [], ◌∷◌, ◌++◌, Ok, Err}
 use Rattle.tsa_forms.specs.Reading.{Outcome, refuse, syntax, deep, then, choose}
 use Rattle.tsa_tree.specs.declared.attr.Attr.{Attr}

@@ -16,7 +16,7 @@ use Rattle.tsa_expr.specs.declared.refusal.SyntaxCode.TheVariants.{SY1, AT1, AT2
 use Rattle.tsa_forms.specs.Form.{done}
 use Rattle.tsa_forms.specs.Reading.{Outcome, refuse, syntax, deep, barred, then, choose, follow}
 
--- the attributes behind those that were there before
+-- the attributes after those that were there before
 abbrev pub after : List Attribute → Outcome (List Attribute) → Outcome (List Attribute)
 after front read = then read (λ xs at. Ok (front ++ xs, at))
 
@@ -31,7 +31,7 @@ module _ (tokens : List Lexeme) (aliases : Aliases) where
   opening d at =
       choose (sees tokens (an_open aliases) at) (choose (below_limit d) (Ok (tt, at + 1)) (Err (refuse deep at))) (Err (refuse syntax at))
 
-  -- what the attribute at m takes, behind its parenthesis
+  -- what the attribute at m takes, after its parenthesis
   unfoldable pub arguments_at : (d : ℕ) → AttrKind → (m : ℕ) → Taking → Outcome (List Attribute)
   arguments_at d k m takes =
       follow (sees tokens) below_limit (read tokens) some_attributes (arguments_row tokens aliases d k m takes (λ x e. done (x ∷ []))) (m + 1 + 1)
@@ -57,7 +57,7 @@ module _ (tokens : List Lexeme) (aliases : Aliases) where
   unfoldable pub entry_at : (d m : ℕ) → Outcome (List Attribute)
   entry_at d m = choose (is_word_at tokens m) (entry_by d m (entry_meaning tokens aliases m)) (Err (refuse syntax m))
 
-  -- the entries behind some that end at e
+  -- the entries after some that end at e
   unfoldable pub entries_on : (d : ℕ) → List Attribute → (e : ℕ) → Outcome (List Attribute)
   entries_on d front e = follow (sees tokens) below_limit (read tokens) some_attributes (entries_end tokens aliases d front e) e
 

@@ -47,6 +47,6 @@ opened_by sign.OpenBracket = Some Bracket
 opened_by sign.OpenBrace = Some Brace
 opened_by _ = None
 
--- a place behind another, in the tokens
+-- a place after another, in the tokens
 abbrev pub IsBehind : Reader → (at next : ℕ) → Type 0
 IsBehind reader at next = (at < next) × (next ≤ length reader.tokens.now)

@@ -52,7 +52,7 @@ fn closer_of(sign: Sign) -> Option<Closer>
     }
 }
 
-/// The place behind balanced tokens and the token that closes them. Each parenthesis, bracket and brace is counted as open.
+/// The place after balanced tokens and the token that closes them. Each parenthesis, bracket and brace is counted as open.
 #[tactic(auto, using(crate::proofs::Balancing::balances))]
 pub fn skip_balanced(
     reader: Reader<'_, '_>,

@@ -19,7 +19,7 @@ use tsa_expr::{Reader, SyntaxCode, SyntaxRefusal, refuse};
 use tsa_tree::attr::Attr;
 use tsa_tree::sign::Sign;
 
-/// The groups at a token, none or more, behind those that the list has, and the token after them.
+/// The groups at a token, none or more, after those that the list has, and the token after them.
 #[tactic(auto, using(crate::proofs::Groups::groups))]
 pub fn groups<'a>(
     reader: Reader<'a, '_>,

@@ -32,7 +32,7 @@ pub fn append_attribute<'a>(
     Ok(reading.next)
 }
 
-/// An attribute, by what stands behind its name.
+/// An attribute, by what stands after its name.
 #[tactic(auto, using(crate::proofs::Contents::attributes))]
 fn attribute<'a>(
     reader: Reader<'a, '_>,

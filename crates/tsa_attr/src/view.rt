@@ -159,7 +159,7 @@ pub fn lacks_inside(reader: Reader<'_, '_>, name: AttributeName) -> bool
     }
 }
 
-/// The place behind a parenthesis that opens a construct.
+/// The place after a parenthesis that opens a construct.
 #[tactic(auto, using(crate::proofs::Openings::openings))]
 pub fn open(reader: Reader<'_, '_>, at: u32, depth: u32) -> Result<u32, SyntaxRefusal>
     ensures gives { Gives passed result (opening (input reader.entry) (named reader.entry) depth at) }
@@ -175,7 +175,7 @@ pub fn open(reader: Reader<'_, '_>, at: u32, depth: u32) -> Result<u32, SyntaxRe
     Ok(at + 1)
 }
 
-/// The place behind a closing parenthesis.
+/// The place after a closing parenthesis.
 #[tactic(auto, using(crate::proofs::Openings::closings))]
 pub fn close(reader: Reader<'_, '_>, at: u32) -> Result<u32, SyntaxRefusal>
     ensures gives { Gives passed result (one_token (input reader.entry) (a_close (named reader.entry)) at) }

@@ -4,7 +4,7 @@ use Rattle.std.proofs.lemmas.Bool.{and_parts, and_from, and_right, eqb-true, eq-
 use Rattle.std.proofs.lemmas.List.{nil_from_length}
 use Rattle.tsa_base.specs.Tokens.{block_end, map_length}
 
--- a rest has its first `*/` behind the inner bytes
+-- a rest has its first `*/` after the inner bytes
 pub record Ends (cs : List ℕ) (n : ℕ) : Type 0 where
   pub inner : List ℕ
   pub behind : List ℕ

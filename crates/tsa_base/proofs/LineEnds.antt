@@ -1,4 +1,4 @@
--- Where a line ends, and that what is behind it has no part in its word.
+-- Where a line ends, and that what is after it has no part in its word.
 use Rattle.std.proofs.Common.{◌≡◌, ℕ, suc, ◌+◌, Bool, true, false, List, [], ◌∷◌, ◌++◌, length, take, drop, refl, arith}
 use Rattle.std.proofs.lemmas.Bool.{and_parts, and_from}
 use Rattle.std.proofs.lemmas.Bool.Decides.{nat_tests}
@@ -71,7 +71,7 @@ unfolding line_word
 line_word-step c cs ds true e ends rest = simp (e, rest)
 line_word-step c cs ds false e ends rest = rw e (front_word-append is_word_byte (c ∷ cs) ds (no_word-behind ds ends))
 
--- what is behind a line isn't of its word
+-- what is after a line isn't of its word
 pub line_word-append : (cs ds : List ℕ) → line_len ds ≡ 0 → line_word (cs ++ ds) ≡ line_word cs
 unfolding line_word
 line_word-append [] ds ends = no_line_word-behind ds ends

@@ -12,7 +12,7 @@ use Rattle.tsa_base.proofs.PieceSteps.{standing, pieces-step, pieces-bad}
 abbrev piece_of : PieceKind → List ℕ → Span → Piece
 piece_of kind text span = record { kind = kind; text = text; span = span }
 
--- pieces before what the rest behind them is
+-- pieces before what the rest after them is
 abbrev after_all : List Piece → Result (List Piece) BadByte → Result (List Piece) BadByte
 after_all [] r = r
 after_all (p ∷ ps) r = after p (after_all ps r)

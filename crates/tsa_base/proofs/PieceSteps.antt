@@ -1,10 +1,10 @@
--- One piece of a text, and then what the rest behind it is.
+-- One piece of a text, and then what the rest after it is.
 use Rattle.std.proofs.Common.{◌≡◌, ℕ, zero, suc, ◌+◌, ◌-◌, List, [], ◌∷◌, ◌++◌, length, take, drop, Ok, Err, refl, sym, ap, ◌∙◌, append_assoc, length-append, arith}
 use Rattle.std.proofs.lemmas.List.{take_at, drop_at}
 use Rattle.tsa_base.specs.declared.token.LexCode.{LexCode}
 use Rattle.tsa_base.specs.Tokens.{PieceKind, Piece, front_of, opens_line, pieces_at, begun, after}
 
--- the piece of these bytes behind those before it
+-- the piece of these bytes after those before it
 abbrev pub standing : List ℕ → PieceKind → List ℕ → Piece
 standing before kind text = record { kind = kind; text = text; span = record { from = length before; to = length before + length text } }
 
@@ -29,7 +29,7 @@ behind-piece before t ts behind =
     let left : drop (length ts) (ts ++ behind) ≡ behind = drop_at ts behind (length ts) refl in
     rw (whole, fewer, covered ((before ++ t ∷ ts) ++ behind) (length before + 1) (length ts) (ts ++ behind), place, left) refl
 
--- where the front is a piece, the pieces are it and those of the rest behind it
+-- where the front is a piece, the pieces are it and those of the rest after it
 pub pieces-step : (before : List ℕ) (kind : PieceKind) (t : ℕ) (ts behind : List ℕ) → front_of (opens_line before) (t ∷ ts ++ behind) ≡ Ok (kind, suc (length ts)) → pieces_at (before ++ (t ∷ ts ++ behind)) (length before) 0 (t ∷ ts ++ behind) ≡ after (standing before kind (t ∷ ts)) (pieces_at ((before ++ t ∷ ts) ++ behind) (length (before ++ t ∷ ts)) 0 behind)
 pieces-step before kind t ts behind front =
     let taken : take (length ts) (ts ++ behind) ≡ ts = take_at ts behind (length ts) refl in

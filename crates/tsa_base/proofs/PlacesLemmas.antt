@@ -51,7 +51,7 @@ line-below-step : (bytes : List ℕ) (at u : ℕ) → at ≤ u → u < length by
 line-below-step bytes at u le lt one true e = omega (arith, line-end bytes u lt e, line-le bytes at u le)
 line-below-step bytes at u le lt one false e = absurd (omega (arith, column-other bytes u lt e, column-some bytes u))
 
--- the first column of a line stands behind all bytes of the lines before
+-- the first column of a line stands after all bytes of the lines before
 line-below : (bytes : List ℕ) (at s : ℕ) → at < s → s ≤ length bytes → column_at bytes s ≡ 1 → line_at bytes at < line_at bytes s
 line-below bytes at s lt le one =
     let same : s - 1 + 1 ≡ s = omega arith in
@@ -74,7 +74,7 @@ column-add bytes s (suc d) le same =
 
 -- The table: the first start, one byte more, and what it tells of a byte.
 
--- what holds of all elements and of one more behind them
+-- what holds of all elements and of one more after them
 each-push : (P : ℕ → ℕ → Type 0) (xs : List ℕ) (x : ℕ) → ((k : ℕ) → k < length xs → P k (get_or xs k 0)) → P (length xs) x
     → (k : ℕ) → k < length (xs ++ x ∷ []) → P k (get_or (xs ++ x ∷ []) k 0)
 each-push P xs x each here k lt =

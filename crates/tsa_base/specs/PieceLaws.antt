@@ -8,7 +8,7 @@ use Rattle.tsa_base.specs.declared.token.LexCode.TheVariants.{LX1, LX2, LX3, LX4
 use Rattle.tsa_base.specs.Bytes.{is_blank, is_line_byte}
 use Rattle.tsa_base.specs.Tokens.{PieceKind, blank, comment, skipped_line, token, Piece, BadByte, Lexeme, lexeme_of, tokens_of, pieces_of, is_token, kind_of, opens_line, line_len, line_word, is_skipped}
 
--- What a piece of each kind is, given the bytes before it and those behind it.
+-- What a piece of each kind is, given the bytes before it and those after it.
 
 -- one byte that is a blank
 pub record IsBlank (text : List ℕ) : Type 0 where
@@ -16,13 +16,13 @@ pub record IsBlank (text : List ℕ) : Type 0 where
   pub alone : text ≡ byte ∷ []
   pub white : is_blank byte ≡ true
 
--- `/*` to the first `*/` behind it (C11 6.4.9p1)
+-- `/*` to the first `*/` after it (C11 6.4.9p1)
 pub record IsBlock (text : List ℕ) : Type 0 where
   pub inner : List ℕ
   pub whole : text ≡ 47 ∷ 42 ∷ inner ++ 42 ∷ 47 ∷ []
   pub first : (u v : List ℕ) → inner ++ 42 ∷ 47 ∷ [] ≡ u ++ 42 ∷ 47 ∷ v → v ≡ []
 
--- no line end is in the text, and one is behind it, or nothing
+-- no line end is in the text, and one is after it, or nothing
 pub record ReachesLineEnd (text behind : List ℕ) : Type 0 where
   pub within : list_all is_line_byte text ≡ true
   pub ends : line_len behind ≡ 0
@@ -47,7 +47,7 @@ begins_comment [] = false
 begins_comment (c ∷ []) = false
 begins_comment (c ∷ d ∷ cs) = (c == 47) && ((d == 42) || (d == 47))
 
--- a token, and no longer front of the text and what is behind it is one (C11 6.4p4)
+-- a token, and no longer front of the text and what is after it is one (C11 6.4p4)
 pub record IsLongest (text behind : List ℕ) : Type 0 where
   pub is : is_token text ≡ true
   pub longest : (front others : List ℕ) → text ++ behind ≡ front ++ others → is_token front ≡ true → length front ≤ length text
@@ -65,13 +65,13 @@ IsPiece before (token kind) text behind = IsNextToken kind text behind
 
 -- What a text falls into.
 
--- a piece stands behind these bytes, and its own and those behind it are the rest
+-- a piece stands after these bytes, and its own and those after it are the rest
 pub record Stands (before rest : List ℕ) (p : Piece) (behind : List ℕ) : Type 0 where
   pub whole : rest ≡ p.text ++ behind
   pub span : ◌≡◌ {A = Span} p.span (record { from = length before; to = length before + length p.text })
   pub is : IsPiece before p.kind p.text behind
 
--- the rest behind these bytes is the pieces, one after another, and then what is left
+-- the rest after these bytes is the pieces, one after another, and then what is left
 unfoldable pub Falls : (before rest : List ℕ) → List Piece → (left : List ℕ) → Type 0
 Falls before rest [] left = rest ≡ left
 Falls before rest (p ∷ ps) left = (behind : List ℕ) × Stands before rest p behind × Falls (before ++ p.text) behind ps left
@@ -99,7 +99,7 @@ pub record BeginsOpenText (rest : List ℕ) : Type 0 where
   pub no_token : BeginsNoToken rest
   pub quote : begins_with (λ c. c == 34) rest ≡ true
 
--- a `/*` without a `*/` behind it
+-- a `/*` without a `*/` after it
 pub record IsOpenComment (rest : List ℕ) : Type 0 where
   pub inner : List ℕ
   pub whole : rest ≡ 47 ∷ 42 ∷ inner
@@ -137,7 +137,7 @@ pub record FallsUpTo (text : List ℕ) (bad : BadByte) : Type 0 where
   pub code : IsBad (take bad.byte text) bad.code left
   pub none : (kind : PieceKind) (piece behind : List ℕ) → left ≡ piece ++ behind → IsPiece (take bad.byte text) kind piece behind → ⊥
 
--- the tokens stand in the text, each with its bytes, and one behind the other
+-- the tokens stand in the text, each with its bytes, and one after the other
 unfoldable pub InOrder : (text : List ℕ) (from : ℕ) → List Lexeme → Type 0
 InOrder text from [] = from ≤ length text
 InOrder text from (t ∷ ts) = (from ≤ t.span.from) × (t.span.from < t.span.to) × (t.text ≡ take (t.span.to - t.span.from) (drop t.span.from text)) × InOrder text t.span.to ts

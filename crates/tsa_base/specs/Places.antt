@@ -20,7 +20,7 @@ place_at bytes at = record { line = line_at bytes at; column = column_at bytes a
 unfoldable pub place_text : Place → List ℕ
 place_text place = decimal place.line ++ codes ":" ++ decimal place.column ++ codes ": "
 
--- The table behind `LineStarts`, which no public clause names: the first bytes of the lines, in order, of all lines that
+-- The table after `LineStarts`, which no public clause names: the first bytes of the lines, in order, of all lines that
 -- begin at a byte or before it.
 pub record AreStarts (bytes : List ℕ) (at : ℕ) (starts : List ℕ) : Type 0 where
   pub all : length starts ≡ line_at bytes at

@@ -10,11 +10,11 @@ pub record SourceScript : Type 0 where
   pub pulls : ℕ
   pub faults : ℕ
 
--- behind a pull of so many bytes
+-- after a pull of so many bytes
 abbrev pub pulled : SourceScript → ℕ → SourceScript
 pulled s n = record s { left = drop n s.left; pulls = one_more s.pulls }
 
--- behind a pull that failed
+-- after a pull that failed
 abbrev pub pull_failed : SourceScript → SourceScript
 pull_failed s = record s { pulls = one_more s.pulls; faults = one_more s.faults }
 
@@ -26,14 +26,14 @@ pub record SinkScript : Type 0 where
   pub pushes : ℕ
   pub faults : ℕ
 
--- behind a push of so many bytes of a piece
+-- after a push of so many bytes of a piece
 abbrev pub pushed : SinkScript → List ℕ → ℕ → SinkScript
 pushed s piece n = record s { taken = s.taken ++ take n piece; pushes = one_more s.pushes }
 
--- behind a push that failed
+-- after a push that failed
 abbrev pub push_failed : SinkScript → SinkScript
 push_failed s = record s { pushes = one_more s.pushes; faults = one_more s.faults }
 
--- behind a push for which there was no memory
+-- after a push for which there was no memory
 abbrev pub push_unstored : SinkScript → SinkScript
 push_unstored s = record s { pushes = one_more s.pushes }

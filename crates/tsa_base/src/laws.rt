@@ -16,7 +16,7 @@ pub fn the_next_token_is_the_longest()
 {}
 
 /// A text is its pieces one after another, in one way only, or it is up to its first bad byte, where none begins: the
-/// tokens stand in it one behind the other, and nothing but blanks, comments and skipped lines is between them.
+/// tokens stand in it one after the other, and nothing but blanks, comments and skipped lines is between them.
 #[tactic(auto, using(crate::proofs::TokenPlaces::texts_fall_into_pieces))]
 pub fn texts_fall_into_pieces()
     ensures { TextsFallIntoPieces }

@@ -29,7 +29,7 @@ pub leads_same : {X Y Z : Type 0} (view : X → Y × ℕ) (x : Result X SyntaxRe
     → r ≡ r' → Leads view x r' rest → Leads view x r rest
 leads_same view x r r' rest q h = subst (λ r. Leads view x r rest) (sym q) h
 
--- one item more, behind others whose points are kept
+-- one item more, after others whose points are kept
 pub pushed : (xs : List Item) (x : Item) → HaveTheirPoints (x ∷ []) → HaveTheirPoints xs → HaveTheirPoints (xs ++ x ∷ [])
 pushed [] x h k = h
 pushed (item.Function f ∷ xs) x h k = (k.0, pushed xs x h k.1)

@@ -41,7 +41,7 @@ gives_failed view (Err y) e o h f = subst (λ e. Fails e o) (sym h) f
 abbrev with_members : List Declaration → List Attribute → ℕ → Outcome StructBody
 with_members ms xs n = Ok (record { members = ms; attrs = xs }, n)
 
--- attributes behind those before the tag
+-- attributes after those before the tag
 abbrev with_front : List Attribute → StructBody → ℕ → Outcome StructBody
 with_front front b n = Ok (record { members = b.members; attrs = front ++ b.attrs }, n)
 

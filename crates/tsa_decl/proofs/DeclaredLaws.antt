@@ -1,4 +1,4 @@
--- What stands behind the name of a member's or a global's declarator: a length, attributes, an initialiser, and a comma or a `;`.
+-- What stands after the name of a member's or a global's declarator: a length, attributes, an initialiser, and a comma or a `;`.
 use Rattle.std.proofs.Common.{ℕ, ◌+◌, ◌≡◌, ◌≢◌, ◌∙◌, ap, sym, refl, Bool, true, false, List, Option, Some, None, Ok, Err, nat_eq}
 use Rattle.tsa_base.specs.declared.token.Span.{Span}
 use Rattle.tsa_base.specs.Tokens.{Lexeme}
@@ -25,7 +25,7 @@ use Rattle.tsa_decl.specs.Seen.{row_role}
 use Rattle.tsa_decl.proofs.TokenLaws.{not_equals}
 use Rattle.tsa_decl.proofs.Pieces.{length_then, attributes_then}
 
--- a piece behind its token, or nothing
+-- a piece after its token, or nothing
 token-option-law : {A B C : Type 0} (b : Bool) (m : ℕ) (r : Outcome A) (g : A → B) (f : Option B → ℕ → Outcome C)
     → choose b (choose b (then r (λ x n. f (Some (g x)) n)) (Err (refuse syntax m))) (f None m)
     ≡ then (choose b (then r (λ x n. Ok (Some (g x), n))) (Ok (None, m))) f
@@ -84,7 +84,7 @@ module _ (ts : List Lexeme) (aliases : Aliases) where
   unfolding delimiter_at
   delimiter_then x m = delimiter-law (sees ts (a_comma aliases) m) (sees ts (a_semicolon aliases) m) m (declares x)
 
-  -- the pieces one behind another
+  -- the pieces one after another
   abbrev suffix : (l : Option Expression) (xs : List Attribute) (i : Option Initialiser) → ℕ → Outcome (Option Expression × List Attribute × Option Initialiser)
   suffix l xs i f = Ok ((l, xs, i), f)
 

@@ -1,4 +1,4 @@
--- The comma or the `;` behind a declaration.
+-- The comma or the `;` after a declaration.
 use Rattle.std.proofs.Common.{ℕ, ◌+◌, ◌≡◌, ◌≢◌, ◌∙◌, ap, true, false, List, Ok, Err, nat_eq}
 use Rattle.tsa_base.specs.Tokens.{Lexeme}
 use Rattle.tsa_forms.proofs.Cases.{chosen, other}

@@ -1,4 +1,4 @@
--- Globals, one behind another.
+-- Globals, one after another.
 use Rattle.std.proofs.Common.{ℕ, ◌≡◌, ◌∙◌, ap, sym, refl, Bool, true, false, List, [], ◌∷◌, ◌++◌, map, Ok, Err}
 use Rattle.tsa_base.specs.Tokens.{Lexeme}
 use Rattle.tsa_forms.proofs.Cases.{chosen, other, goes}
@@ -25,7 +25,7 @@ use Rattle.tsa_decl.proofs.ListLaws.{map-push, after-over, after-more}
 abbrev as_items : List Declaration → ℕ → Outcome (List UnitItem)
 as_items xs e = Ok (map global_item xs, e)
 
--- a declaration is the first of the items, and the declarations behind it are the others
+-- a declaration is the first of the items, and the declarations after it are the others
 first-law : (x : Declaration) (r : Outcome (List Declaration))
     → then r (λ xs n. Ok (global_item x ∷ map global_item xs, n)) ≡ then (then r as_items) (λ xs n. Ok (global_item x ∷ xs, n))
 unfolding then

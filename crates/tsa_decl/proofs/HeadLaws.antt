@@ -108,7 +108,7 @@ module _ (ts : List Lexeme) (aliases : Aliases) where
   unfolding head_end_at
   head_same m n t i c j h r q = head_at m n h ∙ goes _ _ t i r ∙ goes _ _ c j q
 
-  -- behind its declarator
+  -- after its declarator
   pub end_fails : (t : Specified) (c : Declarator) (m : ℕ) (e : SyntaxRefusal) → Fails e (read ts a_signature (signature aliases) m)
       → Fails e (head_end_at ts aliases t c m)
   unfolding head_end_at

@@ -1,4 +1,4 @@
--- Items by their first tokens: whether a function may have a body is told behind its head alone.
+-- Items by their first tokens: whether a function may have a body is told after its head alone.
 use Rattle.std.proofs.Common.{ℕ, ◌+◌, ◌≡◌, ◌≢◌, ◌∙◌, ap, sym, refl, List, Ok, Err, nat_eq, Bool, Some}
 use Rattle.tsa_base.specs.Tokens.{Lexeme}
 use Rattle.tsa_forms.proofs.Cases.{chosen, other, goes}
@@ -31,7 +31,7 @@ head-law (Ok p) make go = refl
 head-law (Err e) make go = refl
 
 module _ (ts : List Lexeme) (aliases : Aliases) (bodies : Bool) where
-  -- behind a type
+  -- after a type
   abbrev function_rest : Specified → Declarator → Signature → ℕ → Outcome (List UnitItem)
   function_rest t c s e = going_items ts (function_end ts aliases bodies (head_of t c s) e) e
 
@@ -75,7 +75,7 @@ module _ (ts : List Lexeme) (aliases : Aliases) (bodies : Bool) where
       → after (item_shapes xs) (read ts some_items (declared aliases bodies t) m) ≡ finished ts aliases bodies (item_shapes xs, Some (head_shape x)) i
   function_begins xs t m c n x i h k l = ap (after (item_shapes xs)) (function_at t m c n h k ∙ goes _ _ (head_shape x) i l)
 
-  -- behind a tag
+  -- after a tag
   declared_of_is : (base : Base) (m : ℕ)
       → going_items ts (declared_of ts aliases bodies base m) m ≡ then (specified_at ts aliases base m) (λ t n. read ts some_items (declared aliases bodies t) n)
   unfolding specified_at
@@ -139,7 +139,7 @@ module _ (ts : List Lexeme) (aliases : Aliases) (bodies : Bool) where
   item_other xs m a b c = ap (after (item_shapes xs)) (item_is m (sign_at ts aliases m) refl ∙ other_row m (sign_at ts aliases m) a b c)
 
 module _ (ts : List Lexeme) (aliases : Aliases) where
-  -- an alias behind a tag
+  -- an alias after a tag
   alias_of_is : (base : Base) (m : ℕ)
       → going_items ts (alias_of ts aliases base m) m ≡ then (specified_at ts aliases base m) (λ t n. going_items ts (alias_end ts aliases t n) n)
   unfolding specified_at
@@ -152,7 +152,7 @@ module _ (ts : List Lexeme) (aliases : Aliases) where
       → after (item_shapes xs) (going_items ts (alias_of ts aliases base m) m) ≡ after (item_shapes xs) (going_items ts (alias_end ts aliases t n) n)
   alias_of_same xs base m t n h = ap (after (item_shapes xs)) (alias_of_is base m ∙ goes _ _ t n h)
 
-  -- behind `typedef`
+  -- after `typedef`
   abbrev alias_behind : (m : ℕ) → Sign → Outcome (List UnitItem)
   alias_behind m s = going_items ts (typedef_row ts aliases m s) (m + 1)
 

@@ -1,4 +1,4 @@
--- Lists that grow from behind, and outcomes behind those that were there before.
+-- Lists that grow from after, and outcomes after those that were there before.
 use Rattle.std.proofs.Common.{ℕ, ◌≡◌, ap, sym, refl, Bool, true, false, List, [], ◌∷◌, ◌++◌, map, Ok, Err}
 use Rattle.tsa_forms.specs.Reading.{Outcome, then, choose}
 use Rattle.tsa_attr.proofs.Joining.{append-nil, append-append}
@@ -32,7 +32,7 @@ unfolding then
 after-after front xs (Ok p) = ap (λ ys. Ok (ys, p.1)) (sym (append-append front xs p.0))
 after-after front xs (Err e) = refl
 
--- what is read behind one part, behind what was there before
+-- what is read after one part, after what was there before
 pub after-over : {A B : Type 0} (front : List B) (r : Outcome A) (f : A → ℕ → Outcome (List B))
     → after front (then r f) ≡ then r (λ x n. after front (f x n))
 unfolding then

@@ -23,7 +23,7 @@ use Rattle.tsa_decl.proofs.ListLaws.{map-push, after-nothing, after-over, after-
 use Rattle.tsa_decl.proofs.TokenLaws.{not_equals}
 use Rattle.tsa_decl.proofs.Pieces.{length_then}
 
--- an expression behind its `=`, or nothing
+-- an expression after its `=`, or nothing
 value-law : {A B C : Type 0} (b : Bool) (m : ℕ) (r : Outcome A) (g : A → B) (f : Option B → ℕ → Outcome C)
     → choose b (choose b (then r (λ x n. f (Some (g x)) n)) (Err (refuse syntax m))) (f None m)
     ≡ then (choose b (then (then r (λ x n. Ok (g x, n))) (λ x n. Ok (Some x, n))) (Ok (None, m))) f
@@ -101,7 +101,7 @@ module _ (ts : List Lexeme) (aliases : Aliases) where
       ∙ ap (λ s. Ok (declaration t c l [] v s, b)) (sym r)
       ∙ ap (λ x. Ok (x, b)) (sym q)
 
-  -- locals behind their type
+  -- locals after their type
   abbrev pair_list : Declaration × List Declaration → ℕ → Outcome (List Declaration)
   pair_list xs n = Ok (xs.0 ∷ xs.1, n)
 

@@ -1,4 +1,4 @@
--- Declarators behind a type, one by one, and lists of members.
+-- Declarators after a type, one by one, and lists of members.
 use Rattle.std.proofs.Common.{ℕ, ◌+◌, ◌≡◌, ◌∙◌, ap, sym, refl, Bool, true, false, List, [], ◌∷◌, ◌++◌, Ok, Err}
 use Rattle.tsa_base.specs.Tokens.{Lexeme}
 use Rattle.tsa_forms.proofs.Cases.{chosen, other, goes}
@@ -19,7 +19,7 @@ use Rattle.tsa_decl.specs.Outcomes.{after}
 use Rattle.tsa_decl.proofs.ListLaws.{map-push, after-over, after-then, after-after, after-none, after-more}
 
 module _ (ts : List Lexeme) (aliases : Aliases) where
-  -- behind a declaration and its comma or `;`
+  -- after a declaration and its comma or `;`
   abbrev declarators_on : Role → (d : ℕ) → Specified → List Declaration → Declared → ℕ → Outcome (List Declaration)
   declarators_on r d t front x e =
       choose x.goes_on (after (front ++ x.declaration ∷ []) (read ts some_declarations (declarators aliases r d t) e)) (Ok (front ++ x.declaration ∷ [], e))

@@ -48,7 +48,7 @@ close-mark : (s : Sign) → is_close s ≡ true → nat_eq (mark s) 7 ≡ true
 close-mark sign.Close e = refl
 close-mark _ e = cc
 
--- a lone `void` and the parenthesis behind it stand in the list of tokens
+-- a lone `void` and the parenthesis after it stand in the list of tokens
 pub lone_within : (tokens : List Token) (aliases : Aliases) (m : ℕ) → is_lone_void (lexemes tokens) aliases m ≡ true → m + 1 < length tokens
 lone_within tokens aliases m v =
     let both = both-true (is_void (sign_at (lexemes tokens) aliases m)) (is_close (sign_at (lexemes tokens) aliases (m + 1))) v in

@@ -1,4 +1,4 @@
--- Items behind `struct` and `enum`, by their tags and braces.
+-- Items after `struct` and `enum`, by their tags and braces.
 use Rattle.std.proofs.Common.{ℕ, ◌+◌, ◌≡◌, ◌≢◌, ◌∙◌, ap, sym, subst, refl, Bool, true, false, List, [], option_map, Some, None, Ok, Err, nat_eq}
 use Rattle.std.specs.declared.option.Option.{Option}
 use Rattle.tsa_base.specs.Tokens.{Lexeme}
@@ -68,7 +68,7 @@ twice-law true x y z = refl
 twice-law false x y z = refl
 
 module _ (ts : List Lexeme) (aliases : Aliases) where
-  -- by the tag, and by the brace behind it
+  -- by the tag, and by the brace after it
   abbrev at_tag : (Option Identifier → ℕ → Outcome (List UnitItem)) → (Identifier → ℕ → Outcome (List UnitItem)) → Option Identifier → ℕ → Outcome (List UnitItem)
   at_tag body uses None n = body None n
   at_tag body uses (Some tag) n = choose (sees ts (an_open_brace aliases) n) (body (Some tag) n) (uses tag n)
@@ -111,7 +111,7 @@ module _ (ts : List Lexeme) (aliases : Aliases) where
   at_use body uses None x n e = none_use (sees ts (an_open_brace aliases) n) x _ _ e
   at_use body uses (Some t) x n e = some_use (sees ts (an_open_brace aliases) n) t x _ (λ tag. uses tag n) e
 
-  -- behind `typedef enum`
+  -- after `typedef enum`
   abbrev enum_alias_at : ℕ → Outcome (List UnitItem)
   enum_alias_at m = going_items ts (enumeration_alias_row ts aliases m) (m + 1 + 1)
 
@@ -141,7 +141,7 @@ module _ (ts : List Lexeme) (aliases : Aliases) where
       → after (item_shapes xs) (enum_alias_at m) ≡ after (item_shapes xs) (going_items ts (alias_of ts aliases (enumerated (name_shape x)) n) n)
   enum_alias_named xs m t x n h e = ap (after (item_shapes xs)) (enum_alias_is m ∙ goes _ _ (option_map name_shape t) n h ∙ at_use (enumeration_at ts aliases true m) alias_of_enum t x n e)
 
-  -- behind `typedef struct`
+  -- after `typedef struct`
   abbrev struct_alias_at : ℕ → Outcome (List UnitItem)
   struct_alias_at m = going_items ts (structure_alias_row ts aliases m) (m + 1 + 1)
 
@@ -204,7 +204,7 @@ module _ (ts : List Lexeme) (aliases : Aliases) where
       ap (after (item_shapes xs)) (struct_alias_open m ys n t i h k ∙ other _ _ _ a ∙ at_use (structure_at ts aliases true m ys) alias_of_struct t x i e)
 
 module _ (ts : List Lexeme) (aliases : Aliases) (bodies : Bool) where
-  -- behind `struct`
+  -- after `struct`
   abbrev struct_by : (m : ℕ) → Bool → List Attribute → ℕ → Outcome (List UnitItem)
   struct_by m marked xs n =
       then (tag_at ts aliases n) (λ tag e. choose marked (structure_at ts aliases false m xs (Some tag) e)
@@ -269,7 +269,7 @@ module _ (ts : List Lexeme) (aliases : Aliases) (bodies : Bool) where
       ap (after (item_shapes xs))
       (struct_plain m ys n tag i h k a ∙ other _ _ _ (not_open_brace (sign_at ts aliases i) b) ∙ other _ _ _ (not_semicolon (sign_at ts aliases i) c))
 
-  -- behind `enum`
+  -- after `enum`
   abbrev enum_at : ℕ → Outcome (List UnitItem)
   enum_at m = going_items ts (enumeration_row ts aliases bodies m) (m + 1)
 

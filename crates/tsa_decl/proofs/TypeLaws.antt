@@ -1,4 +1,4 @@
--- Types up to before their declarators: a base with `const` before and behind it.
+-- Types up to before their declarators: a base with `const` before and after it.
 use Rattle.std.proofs.Common.{ℕ, zero, suc, ◌+◌, ◌<◌, ◌≤◌, ◌≡◌, ◌≢◌, ◌∙◌, ap, refl, sym, arith, Bool, true, false, ◌||◌, List, length, Ok, Err, nat_eq}
 use Rattle.tsa_base.specs.Tokens.{Lexeme}
 use Rattle.tsa_forms.proofs.Cases.{chosen, other, goes}
@@ -53,7 +53,7 @@ module _ (ts : List Lexeme) (aliases : Aliases) where
   pub sign_more : (m : ℕ) (s : Sign) → s ≡ sign_at ts aliases m → is_keyword key.Const s ≡ true → consts_at ts aliases m ≡ consts_at ts aliases (m + 1)
   sign_more m s e c = consts_more m (ap (is_keyword key.Const) (sym e) ∙ c)
 
-  -- `int` behind a sign
+  -- `int` after a sign
   pub int_there : (m : ℕ) → sees ts (a_keyword aliases key.Int) m ≡ true → m + 1 ≡ behind_int ts aliases m
   int_there m e = sym (chosen _ _ _ e)
 
@@ -157,7 +157,7 @@ module _ (ts : List Lexeme) (aliases : Aliases) where
   tag_law true m x make = refl
   tag_law false m x make = refl
 
-  -- behind the word before a tag
+  -- after the word before a tag
   tag_row : (m : ℕ) (make : Identifier → Base)
       → choose (is_tag (sign_at ts aliases m)) (going ts a_specifier (specified ts aliases (make (identifier_at ts m)) (m + 1)) (m + 1)) (Err (refuse syntax m))
       ≡ then (then (tag_at ts aliases m) (λ x n. Ok (make x, n))) (λ b n. specified_at ts aliases b n)
@@ -190,7 +190,7 @@ module _ (ts : List Lexeme) (aliases : Aliases) where
   row_const m (sign.Keyword _) e c = cc
   row_const m _ e c = cc
 
-  -- the words `const` and the type behind them
+  -- the words `const` and the type after them
   abbrev behind : ℕ → Bool → Outcome Specified
   behind n before = then (from n) (λ t e. Ok (marked before t, e))
 
@@ -221,7 +221,7 @@ module _ (ts : List Lexeme) (aliases : Aliases) where
   type_at : (m n : ℕ) → consts_at ts aliases m ≡ Ok (tt, n) → read ts a_specifier (specifier aliases) m ≡ behind n (is_const_at m)
   type_at m n h = type_behind (length ts) m n (is_const_at m) refl (omega arith) h
 
-  -- where the sign behind the words is s
+  -- where the sign after the words is s
   base_there : (n : ℕ) (s : Sign) → s ≡ sign_at ts aliases n → base_at ts aliases n ≡ base_by ts aliases n s
   unfolding base_at
   base_there n s q = ap (base_by ts aliases n) (sym q)

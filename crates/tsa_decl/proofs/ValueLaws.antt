@@ -40,7 +40,7 @@ shape-list items span =
     let row = row_of (init_list items span) in
     ap (λ xs. list xs span) (row-shapes row.0 row.1 ∙ ap init_shapes (items_hidden-the_row-Init-0 items.now))
 
--- initialisers behind others
+-- initialisers after others
 joined-nothing : (front : Initialisers) → joined front no_more ≡ front
 joined-nothing no_more = refl
 joined-nothing (one_more x front) = ap (one_more x) (joined-nothing front)

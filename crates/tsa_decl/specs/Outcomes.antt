@@ -20,7 +20,7 @@ use Rattle.tsa_tree.specs.tokens.Signs.{Aliases, sign_at, identifier_at, is_tag,
 use Rattle.tsa_forms.specs.Form.{done, part}
 use Rattle.tsa_forms.specs.Reading.{Outcome, refuse, syntax, deep, then, choose, follow}
 
--- a list behind what was there before
+-- a list after what was there before
 abbrev pub after : {A : Type 0} → List A → Outcome (List A) → Outcome (List A)
 after front read = then read (λ xs at. Ok (front ++ xs, at))
 
@@ -71,7 +71,7 @@ module _ (tokens : List Lexeme) (aliases : Aliases) where
   unfoldable pub storage_at : (m : ℕ) → Outcome (Unit {0})
   storage_at m = choose (is_storage (sign_at tokens aliases m)) (read tokens a_skip (storage aliases) m) (Ok (tt, m))
 
-  -- the place behind an `int` that may stand at one
+  -- the place after an `int` that may stand at one
   abbrev pub behind_int : (m : ℕ) → ℕ
   behind_int m = choose (sees tokens (a_keyword aliases key.Int) m) (m + 1) m
 
@@ -93,7 +93,7 @@ module _ (tokens : List Lexeme) (aliases : Aliases) where
   unfoldable pub specified_at : Base → (m : ℕ) → Outcome Specified
   specified_at base m = then (consts_at m) (λ u n. Ok (record { base = base; is_const = sees tokens (a_keyword aliases key.Const) m }, n))
 
-  -- whether a star stands there, whether `const` stands behind it, and the place behind both
+  -- whether a star stands there, whether `const` stands after it, and the place after both
   unfoldable pub star_at : (m : ℕ) → Bool × Bool × ℕ
   star_at m =
       choose (is_star (sign_at tokens aliases m))
@@ -135,7 +135,7 @@ module _ (tokens : List Lexeme) (aliases : Aliases) where
   suffix_at r d m =
       then (length_at d m) (λ l n. then (read_any tokens aliases d n) (λ xs e. then (init_at r d e) (λ i f. Ok ((l, xs, i), f))))
 
-  -- globals from behind their first declarator on
+  -- globals from after their first declarator on
   unfoldable pub globals_at : Specified → Declarator → (m : ℕ) → Outcome (List UnitItem)
   globals_at t c m = going_items tokens (part a_declared (declared_rest aliases a_global 0 t c) (λ x e. behind_global tokens aliases t x)) m
 
@@ -145,7 +145,7 @@ module _ (tokens : List Lexeme) (aliases : Aliases) where
       choose (sees tokens (an_equals aliases) m)
       (then (expression_at d (m + 1)) (λ x n. Ok (Some x, n))) (Ok (None, m))
 
-  -- locals behind their type
+  -- locals after their type
   unfoldable pub variables_at : (single : Bool) (d : ℕ) → Specified → (m : ℕ) → Outcome (List Declaration)
   variables_at false d t m = then (read tokens some_variables (variables aliases d t) m) (λ xs n. Ok (xs.0 ∷ xs.1, n))
   variables_at true d t m = then (read tokens a_variable (variable aliases d t) m) (λ x n. Ok (x ∷ [], n))
@@ -167,11 +167,11 @@ module _ (tokens : List Lexeme) (aliases : Aliases) where
   unfoldable pub parameter_at : (m : ℕ) → Outcome Parameter
   parameter_at m = then (read tokens a_specifier (specifier aliases) m) (λ t n. parameter_by m n t (star_at n))
 
-  -- a function's head behind its declarator
+  -- a function's head after its declarator
   unfoldable pub head_end_at : Specified → Declarator → (m : ℕ) → Outcome Head
   head_end_at t c m = then (read tokens a_signature (signature aliases) m) (λ s n. Ok (head_of t c s, n))
 
-  -- a struct's body, its attributes behind those before the tag
+  -- a struct's body, its attributes after those before the tag
   unfoldable pub body_at : List Attribute → (m : ℕ) → Outcome StructBody
   body_at front m =
       then (read tokens a_struct_body (struct_body aliases) m) (λ b n. Ok (record { members = b.members; attrs = front ++ b.attrs }, n))
@@ -200,7 +200,7 @@ module _ (tokens : List Lexeme) (aliases : Aliases) where
       going_items tokens
       (behind_storage tokens aliases m (part a_specifier (specifier aliases) (λ t n. part some_items (declared aliases bodies t) (λ xs e. done xs)))) m
 
-  -- what is left of an item behind what was begun: nothing, or what stands behind a function's head
+  -- what is left of an item after what was begun: nothing, or what stands after a function's head
   abbrev pub finished : (bodies : Bool) → List UnitItem × Option Head → (m : ℕ) → Outcome (List UnitItem)
   finished bodies (xs, None) m = Ok (xs, m)
   finished bodies (xs, Some head) m = after xs (going_items tokens (function_end tokens aliases bodies head m) m)

@@ -48,7 +48,7 @@ row_type r = record { base = base_shape r.base; is_const = r.is_const }
 abbrev pub seen_specified : read_specified.Specified → Specified × ℕ
 seen_specified r = (row_type r, r.next)
 
--- whether there is a star, whether `const` stands behind it, and the place behind both
+-- whether there is a star, whether `const` stands after it, and the place after both
 abbrev pub seen_star : Star → Bool × Bool × ℕ
 seen_star r = (r.pointer, r.constant, r.next)
 

@@ -74,7 +74,7 @@ pub fn opening_at<'a>(
     })
 }
 
-/// Members in their braces, and the attributes behind them, which follow those before the tag.
+/// Members in their braces, and the attributes after them, which follow those before the tag.
 #[tactic(auto, using(crate::proofs::BodyLaws::bodies))]
 fn struct_body<'a>(
     reader: Reader<'a, '_>,
@@ -174,7 +174,7 @@ pub fn enumeration<'a>(
     Ok(next)
 }
 
-/// The declarator of an alias behind its type, and its `;`, at the end of a list of items.
+/// The declarator of an alias after its type, and its `;`, at the end of a list of items.
 #[tactic(auto, using(crate::proofs::BodyLaws::plain))]
 pub fn plain_alias<'a>(
     reader: Reader<'a, '_>,

@@ -141,7 +141,7 @@ pub fn no_initialiser<'a>(next: u32) -> Initialisation<'a>
     Initialisation { init: None, next }
 }
 
-/// The comma or the `;` behind a declaration: whether it is the comma.
+/// The comma or the `;` after a declaration: whether it is the comma.
 #[tactic(auto, using(crate::proofs::DelimiterLaws::delimiters))]
 fn delimiter(reader: Reader<'_, '_>, at: u32) -> Result<bool, SyntaxRefusal>
     ensures gives { Gives (λ goes_on. (goes_on, at + 1)) result (delimiter_at (input reader.entry) (named reader.entry) at) }

@@ -200,7 +200,7 @@ fn function<'a>(
     }
 }
 
-/// A function behind its declarator, up to before its `;` or block.
+/// A function after its declarator, up to before its `;` or block.
 #[tactic(auto, using(crate::proofs::HeadLaws::ends))]
 pub fn head_behind<'a>(
     reader: Reader<'a, '_>,

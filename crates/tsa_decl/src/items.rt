@@ -92,7 +92,7 @@ fn plain_item<'a>(
     globals_or_head(reader, specified, list)
 }
 
-/// The globals behind a type with their `;`, or the rest of a function's head.
+/// The globals after a type with their `;`, or the rest of a function's head.
 #[tactic(auto, using(crate::proofs::ItemLaws::declared_items))]
 fn globals_or_head<'a>(
     reader: Reader<'a, '_>,
@@ -146,7 +146,7 @@ fn alias_of<'a>(
     plain_alias(reader, specified, list)
 }
 
-/// The tag of a type that is used and not declared: one with no brace behind it.
+/// The tag of a type that is used and not declared: one with no brace after it.
 #[tactic(auto, using(crate::proofs::TagLaws::used))]
 fn used_tag<'a>(reader: Reader<'_, '_>, opening: Opening<'a>) -> Option<Name<'a>>
     ensures { result ≡ choose (sees (input reader.entry) (an_open_brace (named reader.entry)) opening.entry.next) None opening.entry.tag }

@@ -21,7 +21,7 @@ use tsa_expr::{Reader, SyntaxRefusal};
 use tsa_tree::decl::Decl;
 use tsa_tree::item::Item;
 
-/// The declarators of members behind their type, at the end of a list, and their `;`.
+/// The declarators of members after their type, at the end of a list, and their `;`.
 #[tactic(auto, using(crate::proofs::MemberLaws::one_by_one))]
 fn member_declarators<'a>(
     reader: Reader<'a, '_>,
@@ -76,7 +76,7 @@ pub fn members<'a>(
     }
 }
 
-/// Globals, from behind their first declarator on, at the end of a list of items, and their `;`.
+/// Globals, from after their first declarator on, at the end of a list of items, and their `;`.
 #[tactic(auto, using(crate::proofs::GlobalLaws::lists))]
 pub fn globals<'a>(
     reader: Reader<'a, '_>,

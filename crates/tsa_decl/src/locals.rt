@@ -69,7 +69,7 @@ fn variable<'a>(
     })
 }
 
-/// Locals behind their type, at the end of a list: one or more, or one alone where `single` is true.
+/// Locals after their type, at the end of a list: one or more, or one alone where `single` is true.
 #[tactic(auto, using(crate::proofs::LocalLaws::lists))]
 fn variables<'a>(
     reader: Reader<'a, '_>,

@@ -97,7 +97,7 @@ pub fn in_arena<'a, T: Copy, A: Allocator>(
     Ok(kept)
 }
 
-/// A list, kept in the arena, and the token behind it.
+/// A list, kept in the arena, and the token after it.
 pub fn in_arena_before<'a, T: Copy, A: Allocator>(
     bump: &'a Bump,
     items: &Vec<T, A>,

@@ -38,7 +38,7 @@ pub struct BaseReading<'a> {
     pub next: u32,
 }
 
-/// A type: a base with `const` before and behind it.
+/// A type: a base with `const` before and after it.
 #[tactic(auto, using(crate::proofs::TypeLaws::specifiers))]
 pub fn specifier<'a>(reader: Reader<'a, '_>, at: u32) -> Result<Specified<'a>, SyntaxRefusal>
     ensures gives { Gives seen_specified result (read (input reader.entry) a_specifier (specifier_call (named reader.entry)) at) }

@@ -1,4 +1,4 @@
--- Binary operators behind a left operand.
+-- Binary operators after a left operand.
 use Rattle.std.proofs.Common.{ℕ, ◌+◌, ◌<◌, ◌≤◌, ◌≡◌, ◌∙◌, ap, sym, refl, List, Option, Some, None, Ok, Err, nat_eq}
 use Rattle.tsa_base.specs.Tokens.{Lexeme}
 use Rattle.tsa_forms.proofs.Cases.{chosen, other, goes}

@@ -45,7 +45,7 @@ unfolding then
 after_none (Ok p) = refl
 after_none (Err e) = refl
 
--- behind an empty list nothing is put in front
+-- after an empty list nothing is put in front
 pub list_whole : (zs : List Expr) (r : Outcome Arguments) (xs : Arguments) (n : ℕ) → zs ≡ [] → after (shapes zs) r ≡ Ok (xs, n) → r ≡ Ok (xs, n)
 list_whole zs r xs n z h = sym (after_none r) ∙ ap (λ zs. after (shapes zs) r) (sym z) ∙ h
 

@@ -29,7 +29,7 @@ abbrev pub Gives : {X Y : Type 0} → (X → Y × ℕ) → Result X SyntaxRefusa
 Gives view (Ok x) read = read ≡ Ok (view x)
 Gives view (Err e) read = Fails e read
 
--- the whole is what is still to be read, from behind what was read on
+-- the whole is what is still to be read, from after what was read on
 abbrev pub Leads : {X Y Z : Type 0} → (X → Y × ℕ) → Result X SyntaxRefusal → (whole : Outcome Z) → (rest : Y → ℕ → Outcome Z) → Type 0
 Leads view (Ok x) whole rest = whole ≡ rest (view x).0 (view x).1
 Leads view (Err e) whole rest = Fails e whole

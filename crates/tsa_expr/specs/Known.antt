@@ -10,6 +10,6 @@ abbrev pub known : Option (Bor Aliases) → Aliases
 known None = []
 known (Some names) = names.now
 
--- one name more, behind the others, where it is not among them
+-- one name more, after the others, where it is not among them
 abbrev pub with_name : Aliases → List ℕ → Aliases
 with_name names name = if list_any (bytes_eq name) names then names else names ++ name ∷ []

@@ -18,6 +18,6 @@ abbrev pub joined : Arguments → Arguments → Arguments
 joined none others = others
 joined (more first rest) others = more first (joined rest others)
 
--- the arguments behind those that were there before
+-- the arguments after those that were there before
 abbrev pub after : Arguments → Outcome Arguments → Outcome Arguments
 after front read = then read (λ args at. Ok (joined front args, at))

@@ -33,7 +33,7 @@ impl Aliases {
         }
     }
 
-    /// Adds a name behind the others, where it is not among them.
+    /// Adds a name after the others, where it is not among them.
     pub fn add(&mut self, name: &[u8]) -> Result<(), NoMemory>
         ensures added { OnOk result (self.new ≡ with_name self.old name.now) }
         ensures refused { OnErr result (self.new ≡ self.old) }

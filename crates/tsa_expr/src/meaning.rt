@@ -27,7 +27,10 @@ const OF_FOURTEEN: [([u8; 14], Meaning); 3] = [
 ];
 
 const OF_FIFTEEN: [([u8; 15], Meaning); 3] = [
-    (*b"acquired_before", Meaning::Known(AttrKind::AcquiredBefore)),
+    (
+        *b"acquired_before",
+        Meaning::Known(AttrKind::AcquiredBefore),
+    ),
     (*b"scoped_lockable", Meaning::LeftOut),
     (*b"unlock_function", Meaning::LeftOut),
 ];
@@ -96,7 +99,7 @@ const OF_TWENTY_NINE: [([u8; 29], Meaning); 1] = [(
     Meaning::Known(AttrKind::TryAcquireShared),
 )];
 
-/// What a word means in a list of attributes. Two underscores before it and behind it make no difference.
+/// What a word means in a list of attributes. Two underscores before it and after it make no difference.
 #[tactic(auto, unfolding(tsa_tree::specs::tokens::Signs::meaning_of))]
 pub fn meaning_of(text: &[u8]) -> Meaning
     ensures { result ≡ spec_meaning text.now }

@@ -1,4 +1,4 @@
-//! Members behind `.` and `->`.
+//! Members after `.` and `->`.
 ghost use Rattle.std.specs.Prelude.{◌≡◌, ◌+◌, ◌≤◌, ◌<◌, length, Some, IfOk};
 ghost use Rattle.tsa_tree.specs.Reads.{read_behind};
 ghost use Rattle.tsa_tree.specs.expressions.Shapes.{shape};
@@ -16,7 +16,7 @@ use tsa_tree::sign::Sign;
 impl<'a, 't> Reader<'a, 't> {
     ghost use Rattle.tsa_expr.specs.Source.{input, named};
 
-    /// A member's name behind an operand and its `.` or `->`.
+    /// A member's name after an operand and its `.` or `->`.
     #[tactic(auto, using(crate::proofs::Accesses::members))]
     pub fn member(
         self,

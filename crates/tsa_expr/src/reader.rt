@@ -1,5 +1,5 @@
 //! Expressions are read, one token ahead. At most `NESTING_LIMIT` constructs are open at once, and the recursion is as
-//! deep as that: operators behind an operand are read by loops.
+//! deep as that: operators after an operand are read by loops.
 ghost use Rattle.std.specs.Prelude.{◌≡◌, ◌+◌, ◌≤◌, ◌<◌, length, max, None, Ok, IfOk};
 ghost use Rattle.tsa_base.specs.declared.limits.TheConstants.{NESTING_LIMIT};
 ghost use Rattle.tsa_tree.specs.expressions.Syntax.{heights};
@@ -49,7 +49,7 @@ impl<'a, 't> Reader<'a, 't> {
         self.operations(depth, 0, left)
     }
 
-    /// The binary operators behind a left operand that bind tight enough, each with its right operand.
+    /// The binary operators after a left operand that bind tight enough, each with its right operand.
     #[cycle(reader)]
     #[tactic(auto, using(crate::proofs::Climbing::operations))]
     fn operations(
@@ -220,7 +220,7 @@ impl<'a, 't> Reader<'a, 't> {
         }
     }
 
-    /// The postfix operators behind an operand.
+    /// The postfix operators after an operand.
     #[cycle(reader)]
     #[tactic(auto, using(crate::proofs::Accesses::accesses))]
     fn accesses(self, depth: u32, base: Reading<'a>) -> Result<Reading<'a>, SyntaxRefusal>
@@ -241,7 +241,7 @@ impl<'a, 't> Reader<'a, 't> {
         }
     }
 
-    /// An index in brackets behind an operand.
+    /// An index in brackets after an operand.
     #[cycle(reader)]
     #[tactic(auto, using(crate::proofs::Accesses::elements))]
     fn element(self, depth: u32, base: Reading<'a>) -> Result<Reading<'a>, SyntaxRefusal>

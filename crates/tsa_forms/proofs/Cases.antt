@@ -26,7 +26,7 @@ unfolding choose
 on_choose P true x y h k = h refl
 on_choose P false x y h k = k refl
 
--- What holds of the rest behind each part, and of each refusal, holds of the whole.
+-- What holds of the rest after each part, and of each refusal, holds of the whole.
 pub on_then : {A B : Type 0} (P : Outcome B → Type 0) (r : Outcome A) (go : A → ℕ → Outcome B)
     → ((y : A) (m : ℕ) → r ≡ Ok (y, m) → P (go y m)) → ((e : Refusal) → r ≡ Err e → P (Err e)) → P (then r go)
 unfolding then

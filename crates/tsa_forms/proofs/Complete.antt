@@ -83,7 +83,7 @@ module _ {S : Type 0} {C N : S → Type 0} {K : Type 0} (sees : K → ℕ → Bo
     complete_goes {s = s} c w (goes_right {p = p} h) g e =
         let q = g.1 (next (Ends s c) h (λ z. e)) in other p _ _ q ∙ complete_goes c w h (g.3 q) e
 
-  -- A reader of a form stops at the place where it begins, or behind it.
+  -- A reader of a form stops at the place where it begins, or after it.
   pub forward : (s : S) (c : C s) (w : Bool) (f : Form S C N K s) (a : ℕ) → Good sees First Ends Moves rank s c w f a
       → a ≤ stop (follow sees fits go s f a)
   forward s c w f a g =
@@ -94,7 +94,7 @@ module _ {S : Type 0} {C N : S → Type 0} {K : Type 0} (sees : K → ℕ → Bo
       at false (Ok p) h = h.0
       at w (Err e) h = h.0
 
-  -- Reading the rest of a form does not go back behind the part that was read.
+  -- Reading the rest of a form does not go back after the part that was read.
   pub rest : (s u : S) (c : C s) (d : C u) (k : N u → ℕ → Form S C N K s) (w : Bool) (a b : ℕ)
       → Good sees First Ends Moves rank s c w (part u d k) a → b ≤ stop (go u d a)
       → b ≤ stop (then (go u d a) (λ y m. follow sees fits go s (k y m) m))
@@ -105,7 +105,7 @@ module _ {S : Type 0} {C N : S → Type 0} {K : Type 0} (sees : K → ℕ → Bo
       (λ x e. subst (λ r. b ≤ stop r) e h)
 
   mutual
-    -- What is spelled ends where it begins, or behind that place.
+    -- What is spelled ends where it begins, or after that place.
     pub ahead : {s : S} {c : C s} {x : N s} {a b : ℕ} → Spells rule sees fits s c x a b → a ≤ b
     ahead (by_rule g) = ahead_goes g
 
@@ -152,7 +152,7 @@ module _ {S : Type 0} {C N : S → Type 0} {K : Type 0} (sees : K → ℕ → Bo
       ih
 
   mutual
-    -- A reader stops behind everything that is spelled.
+    -- A reader stops after everything that is spelled.
     pub reach_spells : {s : S} {c : C s} {x : N s} {a b : ℕ} → Spells rule sees fits s c x a b → b ≤ stop (go s c a)
     reach_spells {s = s} {c = c} {a = a} {b = b} (by_rule g) =
         subst (λ r. b ≤ stop r) (sym (steps s c a)) (reach_goes c true g (good s c a))

@@ -69,11 +69,11 @@ module _ {S : Type 0} {C N : S → Type 0} {K : Type 0} (sees : K → ℕ → Bo
   pub agreed : (s : S) (c : C s) (a : ℕ) → Agrees (read s c a) (free s c a)
   agreed s c a = agree sees fits rule First Ends Moves rank size inside firsts good low moves read free stepped free_ok free_stepped s c a
 
-  -- A reader without limits stops behind all that begins its part, and at the first bar.
+  -- A reader without limits stops after all that begins its part, and at the first bar.
   pub reached : (s : S) (c : C s) (a b : ℕ) (w : Option ℕ) → Begins rule sees all s c a b w → Reached b w (free s c a)
   reached s c a b w h = reach sees all rule First Ends Moves rank size inside firsts good free free_ok free_stepped h
 
-  -- A reader within limits stops behind all that begins its part within them, and at the first bar.
+  -- A reader within limits stops after all that begins its part within them, and at the first bar.
   pub within : (s : S) (c : C s) (a b : ℕ) (w : Option ℕ) → Begins rule sees fits s c a b w → Reached b w (read s c a)
   within s c a b w h = reach sees fits rule First Ends Moves rank size inside firsts good read ok stepped h
 
@@ -90,7 +90,7 @@ module _ {S : Type 0} {C N : S → Type 0} {K : Type 0} (sees : K → ℕ → Bo
   pub broken_free : (s : S) (c : C s) (a i : ℕ) → read s c a ≡ Err (refuse syntax i) → free s c a ≡ Err (refuse syntax i)
   broken_free s c a i e = subst (λ r. Agrees r (free s c a)) e (agreed s c a)
 
-  -- A reader without limits stops behind all that is spelled.
+  -- A reader without limits stops after all that is spelled.
   pub whole_to : (s : S) (c : C s) (x : N s) (a b : ℕ) → Spells rule sees all s c x a b → b ≤ stop (free s c a)
   whole_to s c x a b h =
       reach_spells sees all rule First Ends Moves rank size inside firsts good free free_ok free_stepped h

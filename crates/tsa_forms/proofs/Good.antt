@@ -47,7 +47,7 @@ module _ {S : Type 0} {C N : S → Type 0} {K : Type 0} (sees : K → ℕ → Bo
   Lower true L = L
   Lower false L = Unit {0}
 
-  -- A token comes next, whatever the form is behind it.
+  -- A token comes next, whatever the form is after it.
   abbrev pub IsToken : (s : S) → Form S C N K s → Type 0
   IsToken s (token t f) = Unit {0}
   IsToken s _ = ⊥

@@ -9,7 +9,7 @@ use Rattle.tsa_forms.proofs.Cases.{chosen, goes, on_choose}
 use Rattle.tsa_forms.proofs.Complete.{first, complete, forward, rest, ahead, reach_spells}
 use Rattle.tsa_forms.proofs.Runs.{Right}
 
--- A refusal with this code at i is at b or behind it, or it is a bar's.
+-- A refusal with this code at i is at b or after it, or it is a bar's.
 abbrev pub Far : ℕ → Code → ℕ → Type 0
 Far b (barred q) i = Unit {0}
 Far b syntax i = b ≤ i
@@ -61,7 +61,7 @@ module _ {S : Type 0} {C N : S → Type 0} {K : Type 0} (sees : K → ℕ → Bo
     (go : (u : S) → C u → ℕ → Outcome (N u))
     (right : (u : S) (d : C u) (i : ℕ) → Right sees fits rule First Ends Moves rank size u d i (go u d i))
     (steps : (s : S) (c : C s) (a : ℕ) → go s c a ≡ follow sees fits go s (rule s c a) a) where
-  -- A reader of a form stops at the place where it begins, or behind it.
+  -- A reader of a form stops at the place where it begins, or after it.
   onward : (s : S) (c : C s) (w : Bool) (f : Form S C N K s) (a : ℕ)
       → Good sees First Ends Moves rank s c w f a → a ≤ stop (follow sees fits go s f a)
   onward s c w f a g = forward sees fits rule First Ends Moves rank size inside firsts good go right steps s c w f a g
@@ -133,7 +133,7 @@ module _ {S : Type 0} {C N : S → Type 0} {K : Type 0} (sees : K → ℕ → Bo
       ]
 
   mutual
-    -- What begins a part ends where it begins, or behind that place.
+    -- What begins a part ends where it begins, or after that place.
     ahead_begun : {s : S} {c : C s} {a b : ℕ} {z : Option ℕ} → Begins rule sees fits s c a b z → a ≤ b
     ahead_begun (begins_rule h) = ahead_started h
 
@@ -150,7 +150,7 @@ module _ {S : Type 0} {C N : S → Type 0} {K : Type 0} (sees : K → ℕ → Bo
     ahead_started (starts_left h) = ahead_started h
     ahead_started (starts_right h) = ahead_started h
 
-  -- Where a token comes next, a bar stands behind it.
+  -- Where a token comes next, a bar stands after it.
   bar_behind : {s : S} {f : Form S C N K s} {a b : ℕ} {z : Option ℕ} (q : ℕ) → Starts rule sees fits s f a b z
       → IsToken sees First Ends Moves rank s f → z ≡ Some q → a < b
   bar_behind q starts_here t e = cc
@@ -188,7 +188,7 @@ module _ {S : Type 0} {C N : S → Type 0} {K : Type 0} (sees : K → ℕ → Bo
       ih
 
   mutual
-    -- A reader stops behind everything that begins the part, and at the first bar.
+    -- A reader stops after everything that begins the part, and at the first bar.
     pub reach : {s : S} {c : C s} {a b : ℕ} {z : Option ℕ} → Begins rule sees fits s c a b z → Reached b z (go s c a)
     reach {s = s} {c = c} {a = a} {b = b} {z = z} (begins_rule h) =
         subst (Reached b z) (sym (steps s c a)) (reach_started c true h (good s c a))

@@ -7,13 +7,13 @@ use Rattle.tsa_forms.specs.Reading.{Code, syntax, deep, barred, Outcome, all}
 
 module _ {S : Type 0} {C N : S → Type 0} {K : Type 0}
     (rule : (s : S) → C s → ℕ → Form S C N K s) (sees : K → ℕ → Bool) (fits : ℕ → Bool) (s : S) (c : C s) (a : ℕ) where
-  -- The longest beginning ends at e and is a whole part that spells x. It passes no limit, and no bar stands in it or behind it.
+  -- The longest beginning ends at e and is a whole part that spells x. It passes no limit, and no bar stands in it or after it.
   pub record IsRead (x : N s) (e : ℕ) : Type 0 where
     pub spelled : Spells rule sees fits s c x a e
     pub longest : (b : ℕ) → Begins rule sees all s c a b None → b ≤ e
     pub no_bar : (b : ℕ) (q : ℕ) → Begins rule sees all s c a b (Some q) → ⊥
 
-  -- The longest beginning ends at i. It passes no limit, and no bar stands in it or behind it.
+  -- The longest beginning ends at i. It passes no limit, and no bar stands in it or after it.
   pub record IsBroken (i : ℕ) : Type 0 where
     pub begins : Begins rule sees fits s c a i None
     pub longest : (b : ℕ) → Begins rule sees all s c a b None → b ≤ i

@@ -30,7 +30,7 @@ brace_law false c m x h = cc
 abbrev initial : ForInit → ℕ → Outcome ForInit
 initial x n = Ok (x, n)
 
--- statements behind others
+-- statements after others
 pub joined-nothing : (front : Statements) → joined front none ≡ front
 joined-nothing none = refl
 joined-nothing (more x front) = ap (more x) (joined-nothing front)
@@ -48,7 +48,7 @@ unfolding then
 after-nothing (Ok p) = refl
 after-nothing (Err e) = refl
 
--- what is put before the rest is put behind the front
+-- what is put before the rest is put after the front
 after-more : (front middle : Statements) (r : Outcome Statements)
     → statements_after front (statements_after middle r) ≡ statements_after (joined front middle) r
 unfolding then

@@ -166,7 +166,7 @@ module _ (ts : List Lexeme) (aliases : Aliases) where
       ∙ token_at (a_colon aliases) (m + 1) (λ k. going (body ts aliases d k (λ b e. done (otherwise b (span_over ts m e)))) k)
       ∙ then-same (one_token ts (a_colon aliases) (m + 1)) _ _ (λ u k. body_is d k (λ b e. done (otherwise b (span_over ts m e))))
 
-  -- behind `for (`
+  -- after `for (`
   abbrev pub for_at : (d m : ℕ) → ForInit → (n : ℕ) → Outcome Statement
   for_at d m i n =
       then (value_or_none_at ts aliases (d + 1) n) (λ x k. then (step_at ts aliases (d + 1) k) (λ s e.

@@ -1,4 +1,4 @@
--- Simple statements: what their first token and the one behind the first operand decide.
+-- Simple statements: what their first token and the one after the first operand decide.
 use Rattle.std.proofs.Common.{ℕ, ◌+◌, ◌≡◌, ◌∙◌, ap, sym, refl, Bool, true, false, List, Option, Some, None, Ok, Err, nat_eq, nat_le}
 use Rattle.tsa_base.specs.Tokens.{Lexeme}
 use Rattle.tsa_forms.proofs.Cases.{chosen, goes}
@@ -29,7 +29,7 @@ is_step : (s : Sign) (op : BinaryOp) → step_in s ≡ Some op → s ≡ sign.St
 is_step (sign.Step o) op h = cc
 is_step _ op h = cc
 
--- what goes on behind an operand, or doesn't
+-- what goes on after an operand, or doesn't
 rest-law : {A B : Type 0} (b : Bool) (r : Outcome A) (x : A) (m : ℕ) (f : A → ℕ → Outcome B)
     → choose b (then r f) (f x m) ≡ then (choose b (then r (λ y e. Ok (y, e))) (Ok (x, m))) f
 unfolding choose then
@@ -99,7 +99,7 @@ module _ (ts : List Lexeme) (aliases : Aliases) where
       → simple_at ts aliases d start ≡ then (going (behind d start l m (sign_at ts aliases m)) m) dropped
   begun d start l m h k = unstepped d start h ∙ goes _ _ l m k
 
-  -- a step behind it
+  -- a step after it
   pub step_behind : (d start : ℕ) (l : Expression) (m : ℕ) (op : BinaryOp) (y : Expression) (r : read_simple.Simple)
       → step_in (sign_at ts aliases start) ≡ None → read ts an_expression (operand aliases d) start ≡ Ok (l, m)
       → step_in (sign_at ts aliases m) ≡ Some op → y ≡ one_at ts m

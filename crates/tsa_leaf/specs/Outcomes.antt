@@ -59,7 +59,7 @@ test_at tokens aliases depth at =
     then (opening tokens aliases depth at) (λ u n. then (read tokens an_expression (expression aliases (depth + 1) 0) n) (λ x e.
     then (one_token tokens (a_close aliases) e) (λ u f. Ok (x, f))))
 
--- an expression or nothing, and the `;` behind it
+-- an expression or nothing, and the `;` after it
 unfoldable pub value_or_none_at : List Lexeme → Aliases → (depth at : ℕ) → Outcome (Option Expression)
 value_or_none_at tokens aliases depth at =
     choose (sees tokens (a_semicolon aliases) at)
@@ -73,7 +73,7 @@ body_at tokens aliases depth at =
     (choose (below_limit depth) (read tokens a_statement (statement aliases (depth + 1)) at) (Err (refuse deep at)))
     (Err (refuse syntax at))
 
--- the third part of a `for` or nothing, and the parenthesis behind it
+-- the third part of a `for` or nothing, and the parenthesis after it
 unfoldable pub step_at : List Lexeme → Aliases → (depth at : ℕ) → Outcome (Option Simple)
 step_at tokens aliases depth at =
     choose (sees tokens (a_close aliases) at)
@@ -84,6 +84,6 @@ abbrev pub joined : Statements → Statements → Statements
 joined none others = others
 joined (more first rest) others = more first (joined rest others)
 
--- statements behind others
+-- statements after others
 abbrev pub statements_after : Statements → Outcome Statements → Outcome Statements
 statements_after front read = then read (λ xs at. Ok (joined front xs, at))

@@ -52,7 +52,7 @@ pub fn colon(reader: Reader<'_, '_>, at: u32) -> Result<u32, SyntaxRefusal>
     }
 }
 
-/// Behind the `while` that has to stand behind the body of a `do`.
+/// Behind the `while` that has to stand after the body of a `do`.
 #[tactic(auto, using(crate::proofs::ConditionLaws::whiles))]
 pub fn while_word(reader: Reader<'_, '_>, at: u32) -> Result<u32, SyntaxRefusal>
     ensures gives { Gives passed result (one_token (input reader.entry) (a_keyword (named reader.entry) key.While) at) }
@@ -88,7 +88,7 @@ pub fn test<'a>(reader: Reader<'a, '_>, at: u32, depth: u32) -> Result<Tested<'a
     Ok(Tested { tree, next })
 }
 
-/// An expression or nothing, and the `;` behind it.
+/// An expression or nothing, and the `;` after it.
 #[tactic(auto, using(crate::proofs::ConditionLaws::values))]
 pub fn value_or_none<'a>(
     reader: Reader<'a, '_>,

@@ -123,7 +123,7 @@ pub fn for_init<'a>(
     })
 }
 
-/// What stands behind the second `;` of a `for`, and the parenthesis that closes it.
+/// What stands after the second `;` of a `for`, and the parenthesis that closes it.
 #[tactic(auto, using(crate::proofs::PartLaws::steps))]
 pub fn for_step<'a>(
     reader: Reader<'a, '_>,
@@ -150,7 +150,7 @@ pub fn for_step<'a>(
     })
 }
 
-/// Locals behind other statements of a block, each with its point.
+/// Locals after other statements of a block, each with its point.
 #[tactic(auto, using(crate::proofs::MarkLaws::declared))]
 pub fn declare<'a>(
     decls: &'a [Decl<'a>],
@@ -168,7 +168,7 @@ pub fn declare<'a>(
     Ok(())
 }
 
-/// Locals of a block and their `;`, behind its other statements.
+/// Locals of a block and their `;`, after its other statements.
 #[tactic(auto, using(crate::proofs::MarkLaws::blocks))]
 pub fn locals<'a>(
     reader: Reader<'a, '_>,

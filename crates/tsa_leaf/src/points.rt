@@ -23,7 +23,7 @@ pub struct Read<'a> {
     pub next: u32,
 }
 
-/// Keeps a point behind the others, and gives its number: more of them than a `u32` counts are want of memory.
+/// Keeps a point after the others, and gives its number: more of them than a `u32` counts are want of memory.
 pub fn mark<'a>(
     points: &mut Vec<Point<'a>>,
     action: Action<'a>,

@@ -62,7 +62,7 @@ fn spanned<'a>(reader: Reader<'_, '_>, start: u32, kind: SimpleKind<'a>, next: u
     }
 }
 
-/// The simple statement that begins at a token with this sign, as long as it can be: `++` and `--` stand before or behind an operand.
+/// The simple statement that begins at a token with this sign, as long as it can be: `++` and `--` stand before or after an operand.
 #[tactic(auto, using(crate::proofs::SimpleLaws::simples))]
 pub fn read_simple<'a>(
     reader: Reader<'a, '_>,
@@ -91,7 +91,7 @@ pub fn read_simple<'a>(
     }
 }
 
-/// The simple statement that begins with an operand, behind that.
+/// The simple statement that begins with an operand, after that.
 #[tactic(auto, using(crate::proofs::SimpleLaws::behind_operands))]
 fn behind_operand<'a>(
     reader: Reader<'a, '_>,

@@ -98,7 +98,7 @@ none_is_some n = grind (arith, nat_tests)
 same_more : (n m : ℕ) → (suc n == suc m) ≡ (n == m)
 same_more n m = grind (arith, nat_tests)
 
--- the same from the back: behind a line end, or from the start, spaces and tabs alone
+-- the same from the back: after a line end, or from the start, spaces and tabs alone
 opens_turned-step : (y : ℕ) (ys : List ℕ) (ends skips : Bool) → (y == 10) ≡ ends → is_indent y ≡ skips
     → list_all is_indent (take (prefix_len is_line_byte ys) ys) ≡ ((prefix_len is_indent ys == length ys) || (get_or ys (prefix_len is_indent ys) 0 == 10))
     → list_all is_indent (take (prefix_len is_line_byte (y ∷ ys)) (y ∷ ys)) ≡ ((prefix_len is_indent (y ∷ ys) == length (y ∷ ys)) || (get_or (y ∷ ys) (prefix_len is_indent (y ∷ ys)) 0 == 10))

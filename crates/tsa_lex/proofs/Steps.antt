@@ -27,7 +27,7 @@ token_piece : (p : Piece) (l : Lexeme) (r : Result (List Piece) BadByte) → lex
 token_piece p l (Ok ps) is = rw is refl
 token_piece p l (Err bad) is = refl
 
--- One front, and the rest behind it.
+-- One front, and the rest after it.
 
 bad_begun : (at : ℕ) (cs : List ℕ) (r : Result (PieceKind × ℕ) LexCode) (code : LexCode) (behind : ℕ → Result (List Piece) BadByte) → ◌≡◌ {A = Result (Option TokenKind × ℕ) LexCode} (seen r) (Err code) → tokens_among (begun at cs r behind) ≡ Err (record { code = code; byte = at })
 bad_begun at cs (Ok (kind, n)) code behind e = cc

@@ -13,7 +13,7 @@ use tsa_base::{LexCode, TokenKind};
 /// The kind of a token, or none for what only separates tokens, and how many bytes it has.
 pub type Front = (Option<TokenKind>, usize);
 
-/// What a text begins with that isn't empty and stands behind some bytes, or why nothing can begin there (C11 6.4).
+/// What a text begins with that isn't empty and stands after some bytes, or why nothing can begin there (C11 6.4).
 pub fn front(before: &[u8], text: &[u8]) -> Result<Front, LexCode>
     requires some { 0 < length text.now }
     requires short { length text.now ≤ INPUT_LIMIT }

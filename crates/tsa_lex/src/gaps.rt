@@ -96,7 +96,7 @@ fn is(word: &[u8], known: &[u8]) -> bool
     word == known
 }
 
-/// A preprocessing line is skipped; the text begins behind its `#`.
+/// A preprocessing line is skipped; the text begins after its `#`.
 #[tactic(auto, using(crate::proofs::GapLemmas::word_at))]
 pub fn line_is_skipped(text: &[u8]) -> bool
     ensures { result ≡ is_skipped (line_word text.now) }

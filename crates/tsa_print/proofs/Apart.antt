@@ -1,4 +1,4 @@
--- Pieces that stay tokens of their own where they are written one behind the other.
+-- Pieces that stay tokens of their own where they are written one after the other.
 use Rattle.std.proofs.Common.{ℕ, ◌≡◌, ◌==◌, List, [], ◌∷◌, Bool, true, false, ◌&&◌, ◌||◌, not}
 use Rattle.std.specs.List.{list_all}
 use Rattle.tsa_base.specs.declared.token.TokenKind.{TokenKind}
@@ -33,7 +33,7 @@ is_good (quoted text) = list_all is_text_byte text
 is_good (assigned o) = is_assigning o
 is_good _ = true
 
--- the byte may stand behind the piece: with it, the piece is no front of a longer token
+-- the byte may stand after the piece: with it, the piece is no front of a longer token
 abbrev pub follows : Piece → ℕ → Bool
 follows (word text) c = not (is_word_byte c)
 follows (numeral value unsigned) c = not (is_run_byte c)
@@ -48,7 +48,7 @@ abbrev pub follows_first : Piece → List ℕ → Bool
 follows_first p [] = true
 follows_first p (c ∷ cs) = follows p c
 
--- Which pieces go behind which.
+-- Which pieces go after which.
 
 abbrev pub is_dot : Piece → Bool
 is_dot (access arrow) = not arrow
@@ -58,7 +58,7 @@ abbrev pub is_name_piece : Piece → Bool
 is_name_piece (word text) = true
 is_name_piece _ = false
 
--- what stands behind a prefix operator can begin with these
+-- what stands after a prefix operator can begin with these
 abbrev pub is_tight : Piece → Bool
 is_tight (word text) = true
 is_tight (numeral value unsigned) = true
@@ -71,7 +71,7 @@ is_equality (operator o) = true
 is_equality (assigned o) = true
 is_equality _ = false
 
--- the second piece may stand behind the first one
+-- the second piece may stand after the first one
 abbrev pub safe : Piece → Piece → Bool
 safe (numeral value unsigned) q = not (is_dot q)
 safe (operator o) q = not (binds_left q)

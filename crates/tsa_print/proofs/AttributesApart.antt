@@ -23,7 +23,7 @@ use Rattle.tsa_print.proofs.Apart.{is_word}
 use Rattle.tsa_print.proofs.CanonicalApart.{word_of_name, joins_arguments, joins_further}
 use Rattle.tsa_print.proofs.Joins.{is_closed, Joins, joins_none, joins_loose, joins_append, joins_behind, joins_between}
 
--- none of them has a `.` behind a number
+-- none of them has a `.` after a number
 abbrev pub ArePlain : List Expression → Type 0
 ArePlain xs = list_all has_plain_bases xs ≡ true
 

@@ -24,7 +24,7 @@ pub word_of_name : (aliases : Aliases) (text : List ℕ) → is_name aliases tex
 word_of_name aliases [] e = cc
 word_of_name aliases (c ∷ cs) e = (both e).0
 
--- An expression may stand behind an operator and behind `=`.
+-- An expression may stand after an operator and after `=`.
 
 start_loose : (p : Piece) → is_start p ≡ true → not (binds_left p) ≡ true
 start_loose (word text) s = refl

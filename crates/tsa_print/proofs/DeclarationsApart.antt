@@ -60,7 +60,7 @@ star_dot : (pointer pointer_const : Bool) → begins_dot (star_pieces pointer po
 star_dot false pointer_const = refl
 star_dot true pointer_const = refl
 
--- these may stand behind the star of a declarator
+-- these may stand after the star of a declarator
 abbrev pub behind_star : List Piece → Bool
 behind_star qs = begins (λ q. safe (mark marks.Star) q) qs
 
@@ -76,7 +76,7 @@ dots_filled : (qs rs : List Piece) → behind_star qs ≡ true → begins_dot qs
 dots_filled [] rs may dot = absurd (cc)
 dots_filled (q ∷ qs) rs may dot = dot
 
--- a type goes well before pieces that may stand behind its star
+-- a type goes well before pieces that may stand after its star
 pub joins_type : (aliases : Aliases) (t : DeclaredType) (qs : List Piece) → SoundType aliases t → behind_star qs ≡ true → Joins true qs →
     Joins true (type_pieces t ++ qs)
 joins_type aliases t qs sound may joins = (
@@ -120,7 +120,7 @@ module _ (aliases : Aliases) where
         (joins_append true (initialiser_pieces first) (further_pieces rest) refl (joins_initialiser first sound.0 parts.0)
         (joins_further_pieces rest sound.1 parts.1))
 
--- an expression behind `=`
+-- an expression after `=`
 pub joins_assigned : (aliases : Aliases) (o : Option BinaryOp) (x : Expression) → is_assigning o ≡ true → SoundExpression aliases x →
     has_plain_bases x ≡ true → Joins true (assigned o ∷ pieces x 0)
 joins_assigned aliases o x good sound plain =

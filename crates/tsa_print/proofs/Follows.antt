@@ -1,4 +1,4 @@
--- What is written behind a piece may follow it, where the next piece may stand behind it.
+-- What is written after a piece may follow it, where the next piece may stand after it.
 use Rattle.std.proofs.Common.{ℕ, ◌≡◌, ◌<◌, List, [], ◌∷◌, ◌++◌, length, Bool, true, false, ◌||◌, not, ◌==◌, refl, ap, ◌∙◌, arith}
 use Rattle.std.specs.Fmt.{decimal}
 use Rattle.std.proofs.lemmas.Bool.{and_parts, not-true}
@@ -34,7 +34,7 @@ before_numeral p value unsigned rest may good =
     ap (follows_first p) (append_assoc (decimal value) (suffix unsigned) rest)
     ∙ before_digits p (decimal value) (suffix unsigned ++ rest) may written.some written.digits
 
--- Behind a prefix operator, and behind `.` and `->`.
+-- Behind a prefix operator, and after `.` and `->`.
 
 prefix_digits : (o : UnaryOp) → FollowsDigits (prefix o)
 prefix_digits o c cs digit = go (is_letter c) (is_digit c) (c == 40) digit
@@ -135,7 +135,7 @@ star_gap (access true) rest good other = refl
 star_gap (access false) rest good other = refl
 star_gap (mark k) rest good other = star_mark k rest
 
--- Behind a word and behind a number.
+-- Behind a word and after a number.
 
 word_mark : (text : List ℕ) (k : Mark) (rest : List ℕ) → follows_first (word text) (gap (word text) (mark k) ++ (mark_text k ++ rest)) ≡ true
 word_mark text marks.Comma rest = refl
@@ -221,7 +221,7 @@ mark_gap marks.CloseBlock q rest good may = free_follows (mark marks.CloseBlock)
 mark_gap marks.CloseBody q rest good may = free_follows (mark marks.CloseBody) (λ c. refl) (gap (mark marks.CloseBody) q ++ (piece_text q ++ rest))
 mark_gap marks.CloseStruct q rest good may = free_follows (mark marks.CloseStruct) (λ c. refl) (gap (mark marks.CloseStruct) q ++ (piece_text q ++ rest))
 
--- what stands behind a piece in a line may follow it
+-- what stands after a piece in a line may follow it
 pub follows-gap : (p q : Piece) (rest : List ℕ) → is_good q ≡ true → safe p q ≡ true → follows_first p (gap p q ++ (piece_text q ++ rest)) ≡ true
 follows-gap (word text) q rest good may = word_gap text q rest
 follows-gap (numeral value unsigned) q rest good may = numeral_gap value unsigned q rest may
@@ -251,7 +251,7 @@ mark_lead marks.CloseBlock q levels rest good may = refl
 mark_lead marks.CloseBody q levels rest good may = mark_gap marks.CloseBody q rest good may
 mark_lead marks.CloseStruct q levels rest good may = mark_gap marks.CloseStruct q rest good may
 
--- and behind a piece and the end of its line
+-- and after a piece and the end of its line
 pub follows-lead : (p q : Piece) (levels : ℕ) (rest : List ℕ) → is_good q ≡ true → safe p q ≡ true →
     follows_first p (line_end p ++ (lead levels (behind_of p) q ++ (piece_text q ++ rest))) ≡ true
 follows-lead (word text) q levels rest good may = follows-gap (word text) q rest good may

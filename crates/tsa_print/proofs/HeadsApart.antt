@@ -17,7 +17,7 @@ use Rattle.tsa_print.proofs.CanonicalApart.{word_of_name}
 use Rattle.tsa_print.proofs.DeclarationsApart.{behind_star, joins_type, joins_assigned}
 use Rattle.tsa_print.proofs.Joins.{Joins, joins_none, joins_append}
 
--- Parameters: behind one without a name stands a comma or a parenthesis.
+-- Parameters: after one without a name stands a comma or a parenthesis.
 
 joins_named : (aliases : Aliases) (t : DeclaredType) (name : Option Identifier) (qs : List Piece) → SoundType aliases t → SoundName aliases name →
     behind_star qs ≡ true → Joins true qs → Joins true (type_pieces t ++ (name_pieces name ++ qs))

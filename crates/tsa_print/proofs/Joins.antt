@@ -18,7 +18,7 @@ abbrev pub begins : (Piece → Bool) → List Piece → Bool
 begins test [] = false
 begins test (p ∷ ps) = test p
 
--- any piece may stand behind these, but a `.` behind a number
+-- any piece may stand after these, but a `.` after a number
 abbrev pub is_closed : Piece → Bool
 is_closed (word text) = true
 is_closed (numeral value unsigned) = true
@@ -67,13 +67,13 @@ joins_append last ps qs filled on_ps on_qs = (
   λ rs e apart. subst Apart (sym (append_assoc ps qs rs)) (on_ps.1 (qs ++ rs) (no_dot last qs rs on_qs.0 filled e) (on_qs.1 rs e apart)),
 )
 
--- behind a piece that must have certain ones behind it
+-- after a piece that must have certain ones after it
 pub joins_before : (last : Bool) (p : Piece) (ps : List Piece) → is_good p ≡ true → is_dot p ≡ false → begins (λ q. safe p q) ps ≡ true →
     Joins last ps → Joins last (p ∷ ps)
 joins_before last p [] good dot may joins = absurd (cc)
 joins_before last p (q ∷ ps) good dot may joins = (dot, λ rs e apart. (good, may, joins.1 rs e apart))
 
--- behind a piece that may have any behind it
+-- after a piece that may have any after it
 mark_open : (k : Mark) (qs : List Piece) → is_closed (mark k) ≡ true → safe_before (mark k) qs ≡ true
 mark_open k [] closed = refl
 mark_open marks.Comma (q ∷ qs) closed = refl

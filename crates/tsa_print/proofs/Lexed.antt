@@ -16,12 +16,12 @@ use Rattle.tsa_print.proofs.Follows.{follows-gap, follows-lead, follows-end}
 use Rattle.tsa_print.proofs.PieceTokens.{word-next, numeral-next, text-next}
 use Rattle.tsa_print.proofs.PunctPieces.{punct-next}
 
--- what is written behind a piece
+-- what is written after a piece
 abbrev behind : Piece → List Piece → List ℕ
 behind p [] = []
 behind p (q ∷ qs) = gap p q ++ written (q ∷ qs)
 
--- a piece is the next token of the text that begins with it, if what is behind it may follow it
+-- a piece is the next token of the text that begins with it, if what is after it may follow it
 pub piece-next : (p : Piece) (rest : List ℕ) → is_good p ≡ true → follows_first p rest ≡ true → IsNextToken (piece_kind p) (piece_text p) rest
 piece-next (word text) rest good may = word-next text rest good may
 piece-next (numeral value unsigned) rest good may = numeral-next value unsigned rest good may
@@ -32,7 +32,7 @@ piece-next (assigned o) rest good may = punct-next (assigned o) rest refl good m
 piece-next (access arrow) rest good may = punct-next (access arrow) rest refl good may
 piece-next (mark k) rest good may = punct-next (mark k) rest refl good may
 
--- what a text falls into behind other bytes, with the pieces for its tokens
+-- what a text falls into after other bytes, with the pieces for its tokens
 record FallsInto (before text : List ℕ) (ps : List Piece) : Type 0 where
   fronts : List Front
   falls : Falls before text fronts []

@@ -5,7 +5,7 @@ use Rattle.std.specs.List.{list_all}
 use Rattle.tsa_base.specs.Tokens.{is_token}
 use Rattle.tsa_base.specs.PieceLaws.{IsLongest, begins_comment}
 
--- a front that goes on behind a text
+-- a front that goes on after a text
 pub record GoesBeyond (text behind front : List ℕ) : Type 0 where
   pub byte : ℕ
   pub more : List ℕ
@@ -24,7 +24,7 @@ beyond-more c f text behind front same (inr long) = inr (record {
   front_is = let tail = long.front_is in cc;
 })
 
--- a front is no longer than the text, or goes on behind it
+-- a front is no longer than the text, or goes on after it
 pub front-cases : (text behind front others : List ℕ) → text ++ behind ≡ front ++ others → (length front ≤ length text) ⊎ GoesBeyond text behind front
 front-cases text behind [] others whole = inl (omega arith)
 front-cases [] behind (f ∷ front) others whole = inr (record { byte = f; more = front; rest = front ++ others; behind_is = whole; front_is = refl })

@@ -1,4 +1,4 @@
--- Pieces that are put on a page one behind another, and the text of a page.
+-- Pieces that are put on a page one after another, and the text of a page.
 use Rattle.std.proofs.Common.{ℕ, ◌≡◌, ◌+◌, ◌-◌, List, [], ◌∷◌, ◌++◌, Bool, false, if◌then◌else◌, Option, refl, sym, ap, ◌∙◌, zero, suc, ◌*◌, ◌≤◌, take, replicate, arith}
 use Rattle.std.proofs.lemmas.List.{append_assoc, append-nil, take-replicate, replicate-append-replicate}
 use Rattle.tsa_tree.specs.declared.expr.BinaryOp.{BinaryOp}
@@ -13,7 +13,7 @@ pub put_append : (page : Page) (ps qs : List Piece) → put page (ps ++ qs) ≡ 
 put_append page [] qs = refl
 put_append page (p ∷ ps) qs = put_append (put_one page p) ps qs
 
--- what is put on a page is laid out behind its text
+-- what is put on a page is laid out after its text
 pub put_laid : (page : Page) (ps : List Piece) → (put page ps).text ≡ page.text ++ laid page.levels page.behind ps
 unfolding put_one laid
 put_laid page [] = sym (append-nil page.text)
@@ -79,7 +79,7 @@ pub put_mark : (page : Page) (k : Mark) → put_one page (mark k) ≡
     }
 put_mark page k = put_parts page (mark k)
 
--- a page with a text behind a blank or an indentation
+-- a page with a text after a blank or an indentation
 abbrev pub with_plain : Page → List ℕ → Page
 with_plain page text = record { text = (page.text ++ lead_by page.levels page.behind false false) ++ text; levels = page.levels; behind = Loose }
 

@@ -50,7 +50,7 @@ as_many [] (t ∷ ts) h = absurd h
 as_many (p ∷ ps) [] h = absurd h
 as_many (p ∷ ps) (t ∷ ts) h = ap suc (as_many ps ts h.2)
 
--- what stands behind some pieces stands so many places on
+-- what stands after some pieces stands so many places on
 pub split : (ts : List Lexeme) (a : ℕ) (ps qs : List Piece) → Shows ts a (ps ++ qs) → Shows ts a ps × Shows ts (a + length ps) qs
 split ts a [] qs h = (tt, rw add-zero h)
 split ts a (p ∷ ps) qs h =

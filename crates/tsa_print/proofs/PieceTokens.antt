@@ -15,7 +15,7 @@ use Rattle.tsa_print.proofs.Apart.{is_word, follows, follows_first}
 use Rattle.tsa_print.proofs.Longer.{IsClosed, closed-longest, no-slash, all-broken}
 use Rattle.tsa_print.proofs.Numerals.{IsDecimal, decimal-IsDecimal, suffix, number-read, value-small}
 
--- the byte behind a piece may follow it
+-- the byte after a piece may follow it
 pub first-follows : (p : Piece) (behind : List ℕ) (byte : ℕ) (rest : List ℕ) → follows_first p behind ≡ true → behind ≡ byte ∷ rest → follows p byte ≡ true
 first-follows p [] byte rest may same = absurd (cc)
 first-follows p (c ∷ cs) byte rest may same = let one : byte ≡ c = cc in rw one may
@@ -92,7 +92,7 @@ text_closes (c ∷ cs) all =
     let inside : is_text_byte c ≡ true = parts.0 in
     rw inside (text_closes cs parts.1)
 
--- nothing goes on behind the quote
+-- nothing goes on after the quote
 text_ends : (cs : List ℕ) (byte : ℕ) (more : List ℕ) → list_all is_text_byte cs ≡ true → closes is_text_byte 34 ((cs ++ 34 ∷ []) ++ byte ∷ more) ≡ false
 text_ends [] byte more all = let no : (length (byte ∷ more) == 0) ≡ false = grind (arith, nat_tests) in no
 text_ends (c ∷ cs) byte more all =

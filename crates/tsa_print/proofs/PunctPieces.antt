@@ -19,7 +19,7 @@ use Rattle.tsa_print.proofs.Apart.{piece_kind, is_good, follows, follows_first}
 use Rattle.tsa_print.proofs.Longer.{closed-longest, no-slash, not-of-kind}
 use Rattle.tsa_print.proofs.PieceTokens.{first-follows}
 
--- a byte that no operator goes on with behind a prefix operator
+-- a byte that no operator goes on with after a prefix operator
 abbrev follows_prefix : ℕ → Bool
 follows_prefix c = is_word_byte c || (c == 40)
 

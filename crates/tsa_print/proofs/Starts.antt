@@ -51,7 +51,7 @@ starts-pieces (field base name arrow span) place =
 starts-pieces (index base at span) place =
     starts-append (pieces base 11) (mark marks.OpenBracket ∷ (pieces at 0 ++ mark marks.CloseBracket ∷ [])) (starts-pieces base 11)
 
--- binary expressions behind a prefix operator or before a postfix one are in parentheses
+-- binary expressions after a prefix operator or before a postfix one are in parentheses
 wrapped-binary : (o : BinaryOp) (ps : List Piece) → tight (wrapped (nat_lt (level o) 11) ps) ≡ true
 wrapped-binary op.Or ps = refl
 wrapped-binary op.And ps = refl
@@ -70,7 +70,7 @@ wrapped-binary op.Times ps = refl
 wrapped-binary op.Divide ps = refl
 wrapped-binary op.Remainder ps = refl
 
--- behind a prefix operator there is no other one
+-- after a prefix operator there is no other one
 pub tight-bare : (tree : Expression) → tight (pieces tree 11) ≡ true
 tight-bare (number value unsigned span) = refl
 tight-bare (null span) = refl

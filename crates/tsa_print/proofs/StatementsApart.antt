@@ -21,7 +21,7 @@ use Rattle.tsa_print.proofs.CanonicalApart.{word_of_name, joins_expression}
 use Rattle.tsa_print.proofs.DeclarationsApart.{joins_assigned, joins_local}
 use Rattle.tsa_print.proofs.Joins.{is_closed, Joins, joins_none, joins_loose, joins_append, joins_then, joins_between}
 
--- pieces and a closed mark behind them
+-- pieces and a closed mark after them
 pub joins_ended : (k : Mark) (ps : List Piece) → is_closed (mark k) ≡ true → Joins true ps → Joins true (ps ++ mark k ∷ [])
 joins_ended k ps closed joins = joins_loose false (ps ++ mark k ∷ []) (joins_then k ps closed joins)
 
@@ -51,7 +51,7 @@ joins_local_in : (aliases : Aliases) (in_block : Bool) (d : Declaration) → Sou
 joins_local_in aliases true d sound plain = joins_local aliases d sound plain
 joins_local_in aliases false d sound plain = absurd sound
 
--- a test, and what is behind it
+-- a test, and what is after it
 joins_test : (aliases : Aliases) (x : Expression) (ps : List Piece) → SoundExpression aliases x → has_plain_bases x ≡ true → Joins true ps →
     Joins true (test_pieces x ++ ps)
 joins_test aliases x ps sound plain joins =
@@ -59,12 +59,12 @@ joins_test aliases x ps sound plain joins =
     (joins_loose false (test_pieces x)
     (joins_between marks.OpenParenthesis marks.CloseParenthesis (pieces x 0) refl refl (joins_expression aliases x 0 sound plain))) joins
 
--- a word, a test and what is behind them
+-- a word, a test and what is after them
 joins_tested : (aliases : Aliases) (text : List ℕ) (x : Expression) (ps : List Piece) → is_word text ≡ true → SoundExpression aliases x →
     has_plain_bases x ≡ true → Joins true ps → Joins true (word text ∷ (test_pieces x ++ ps))
 joins_tested aliases text x ps good sound plain joins = joins_word text (test_pieces x ++ ps) good (joins_test aliases x ps sound plain joins)
 
--- the head of a `for`, and what is behind it
+-- the head of a `for`, and what is after it
 joins_for : (aliases : Aliases) (init : ForInit) (test : Option Expression) (step : Option Simple) (ps : List Piece) →
     SoundForInit aliases init → SoundOptional aliases test → SoundForStep aliases step →
     ArePlain (in_for_init init) → ArePlain (in_optional test) → ArePlain (in_for_step step) → Joins true ps →
@@ -83,7 +83,7 @@ joins_for aliases init test step ps on_init on_test on_step plain_init plain_tes
     (joins_append true (for_step_pieces step) (mark marks.CloseParenthesis ∷ ps) refl (joins_for_step aliases step on_step plain_step)
     (joins_mark_before marks.CloseParenthesis ps refl joins)))))))
 
--- `else`, or the `while` of a `do`, behind a statement
+-- `else`, or the `while` of a `do`, after a statement
 joins_else : (text : List ℕ) (ps qs : List Piece) → is_word text ≡ true → Joins true ps → Joins true qs → Joins true (ps ++ (word text ∷ qs))
 joins_else text ps qs good on_ps on_qs = joins_append true ps (word text ∷ qs) refl on_ps (joins_word text qs good on_qs)
 
@@ -91,7 +91,7 @@ joins_else text ps qs good on_ps on_qs = joins_append true ps (word text ∷ qs)
 pub semicolon : Joins true (mark marks.Semicolon ∷ [])
 semicolon = joins_mark_before marks.Semicolon [] refl (joins_none true)
 
--- `return`, and what is behind it
+-- `return`, and what is after it
 joins_return : (aliases : Aliases) (x : Option Expression) → SoundOptional aliases x → ArePlain (in_optional x) →
     Joins true (word (codes "return") ∷ (optional_pieces x ++ mark marks.Semicolon ∷ []))
 joins_return aliases x sound plain =

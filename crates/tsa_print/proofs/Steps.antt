@@ -1,11 +1,11 @@
--- The pieces of a list's elements, put one element behind another.
+-- The pieces of a list's elements, put one element after another.
 use Rattle.std.proofs.Common.{ℕ, ◌≡◌, ◌<◌, ◌≤◌, ◌+◌, ◌-◌, List, [], ◌∷◌, ◌++◌, length, take, drop, get_or, sym, ap, ◌∙◌, suc, arith}
 use Rattle.std.proofs.lemmas.List.{take_all, drop_more}
 use Rattle.tsa_print.specs.Canonical.{Piece}
 use Rattle.tsa_print.specs.Sheets.{Page, put, put_one}
 use Rattle.tsa_print.proofs.Pages.{put_append}
 
--- an element, and those behind it
+-- an element, and those after it
 pub put_element : {X : Type 0} (pieces_of : List X → List Piece) (each : X → List Piece) → ((x : X) (xs : List X) → pieces_of (x ∷ xs) ≡ each x ++ pieces_of xs)
     → (page next : Page) (xs rest : List X) (x : X) → xs ≡ x ∷ rest → next ≡ put page (each x) → put next (pieces_of rest) ≡ put page (pieces_of xs)
 put_element pieces_of each is page next xs rest x h e =
@@ -14,7 +14,7 @@ put_element pieces_of each is page next xs rest x h e =
     ∙ ap (put page) (sym (is x rest))
     ∙ sym (ap (λ ys. put page (pieces_of ys)) h)
 
--- an element with a piece before it, and those behind it
+-- an element with a piece before it, and those after it
 pub put_element_behind : {X : Type 0} (pieces_of : List X → List Piece) (first : Piece) (each : X → List Piece)
     → ((x : X) (xs : List X) → pieces_of (x ∷ xs) ≡ first ∷ (each x ++ pieces_of xs))
     → (page middle next : Page) (xs rest : List X) (x : X) → xs ≡ x ∷ rest → middle ≡ put_one page first → next ≡ put middle (each x)
@@ -22,7 +22,7 @@ pub put_element_behind : {X : Type 0} (pieces_of : List X → List Piece) (first
 put_element_behind pieces_of first each is page middle next xs rest x h m e =
     put_element pieces_of (λ x. first ∷ each x) is page next xs rest x h (e ∙ ap (λ p. put p (each x)) m)
 
--- an element with a piece behind it, and those behind that
+-- an element with a piece after it, and those after that
 pub put_element_before : {X : Type 0} (pieces_of : List X → List Piece) (last : Piece) (each : X → List Piece)
     → ((x : X) (xs : List X) → pieces_of (x ∷ xs) ≡ each x ++ last ∷ pieces_of xs)
     → (page middle next : Page) (xs rest : List X) (x : X) → xs ≡ x ∷ rest → middle ≡ put page (each x) → next ≡ put_one middle last

@@ -41,7 +41,7 @@ tags_parts aliases None (Some name) sound = sound
 tags_parts aliases (Some tag) None sound = sound
 tags_parts aliases (Some tag) (Some name) sound = sound
 
--- what stands behind the closing brace of a struct or an enum
+-- what stands after the closing brace of a struct or an enum
 joins_behind_brace : (aliases : Aliases) (other : Option Identifier) → SoundName aliases other → Joins true (name_pieces other ++ mark marks.Semicolon ∷ [])
 joins_behind_brace aliases other sound = joins_ended marks.Semicolon (name_pieces other) refl (joins_name aliases other sound)
 

@@ -10,7 +10,7 @@ use Rattle.tsa_print.specs.declared.mark.Mark.TheVariants as marks
 use Rattle.tsa_print.specs.Canonical.{Piece, word, numeral, quoted, assigned, operator, prefix, access, mark, piece_text, operator_text, prefix_text, gap, binds_left, binds_right, written, pieces, wrapped, arguments, further}
 use Rattle.tsa_print.proofs.Starts.{starts, starts-append, starts-pieces}
 
--- the last piece is one that a blank may stand behind
+-- the last piece is one that a blank may stand after
 abbrev pub closes : List Piece → Bool
 closes [] = false
 closes (p ∷ []) = not (binds_right p)
@@ -45,7 +45,7 @@ closes-pieces (index base at span) place =
     closes-append (pieces base 11) (mark marks.OpenBracket ∷ (pieces at 0 ++ mark marks.CloseBracket ∷ []))
     (closes-append (mark marks.OpenBracket ∷ pieces at 0) (mark marks.CloseBracket ∷ []) refl)
 
--- no blank stands behind a piece that binds right
+-- no blank stands after a piece that binds right
 tight-behind : (p : Piece) (qs : List Piece) → binds_right p ≡ true → written (p ∷ qs) ≡ piece_text p ++ written qs
 unfolding written
 tight-behind p [] e = sym (append-nil (piece_text p))
@@ -85,7 +85,7 @@ blank-before (p ∷ r ∷ ps) o qs e =
     ∙ ap (λ x. piece_text p ++ x) (sym (append_assoc (gap p r) (written (r ∷ ps)) (32 ∷ written (operator o ∷ qs))))
     ∙ sym (append_assoc (piece_text p) (gap p r ++ written (r ∷ ps)) (32 ∷ written (operator o ∷ qs)))
 
--- and behind one, and behind a comma
+-- and after one, and after a comma
 blank-behind : (p : Piece) (qs : List Piece) → binds_right p ≡ false → starts qs ≡ true → written (p ∷ qs) ≡ piece_text p ++ 32 ∷ written qs
 unfolding written
 blank-behind p [] e s = cc

@@ -20,7 +20,7 @@ pub data Piece : Type 0 where
   quoted : (text : List ℕ) → Piece
   operator : BinaryOp → Piece
   prefix : UnaryOp → Piece
-  -- `=`, or that behind an operator
+  -- `=`, or that after an operator
   assigned : Option BinaryOp → Piece
   -- `.`, or `->` where there is an arrow
   access : (arrow : Bool) → Piece
@@ -96,7 +96,7 @@ wrapped true ps = mark marks.OpenParenthesis ∷ (ps ++ mark marks.CloseParenthe
 wrapped false ps = ps
 
 -- An expression is in parentheses where it binds looser than its place needs. Right of a binary operator, a place needs
--- more than the operator itself binds; behind a prefix operator and before a postfix one it needs a primary or a postfix
+-- more than the operator itself binds; after a prefix operator and before a postfix one it needs a primary or a postfix
 -- expression.
 abbrev mutual
   pub pieces : Expression → (place : ℕ) → List Piece
@@ -118,7 +118,7 @@ abbrev mutual
   further none = []
   further (more first rest) = mark marks.Comma ∷ (pieces first 0 ++ further rest)
 
--- no blank stands behind these
+-- no blank stands after these
 abbrev pub binds_right : Piece → Bool
 binds_right (prefix o) = true
 binds_right (access arrow) = true

@@ -85,7 +85,7 @@ abbrev pub init_pieces : Option Initialiser → List Piece
 init_pieces None = []
 init_pieces (Some x) = assigned None ∷ initialiser_pieces x
 
--- attributes stand behind the declarator; each declarator has a declaration of its own
+-- attributes stand after the declarator; each declarator has a declaration of its own
 abbrev pub declaration_pieces : Declaration → List Piece
 declaration_pieces d =
     type_pieces d.ctype ++ (word d.name.text ∷ (length_pieces d.ctype.length ++ (attributes_pieces d.attrs ++ init_pieces d.init)))

@@ -5,7 +5,7 @@ use Rattle.tsa_print.specs.declared.sheet.Behind.{Behind}
 use Rattle.tsa_print.specs.declared.sheet.Behind.TheVariants.{LineStart, Tight, Loose}
 use Rattle.tsa_print.specs.Canonical.{Piece, mark, piece_text, binds_left, binds_right}
 
--- a line ends behind the `{` of a block or struct, the `}` of a block unless the `while` of its `do` follows, and a `;`
+-- a line ends after the `{` of a block or struct, the `}` of a block unless the `while` of its `do` follows, and a `;`
 -- outside the parentheses of a `for`
 abbrev pub ends_line : Piece → Bool
 ends_line (mark marks.OpenBlock) = true
@@ -24,7 +24,7 @@ abbrev pub opens_level : Piece → Bool
 opens_level (mark marks.OpenBlock) = true
 opens_level _ = false
 
--- how many blocks and structs are open behind a piece
+-- how many blocks and structs are open after a piece
 abbrev pub levels_behind : ℕ → Piece → ℕ
 levels_behind levels p = if opens_level p then levels + 1 else (if closes_level p then levels - 1 else levels)
 
@@ -33,7 +33,7 @@ unfoldable pub indentation : ℕ → List ℕ
 indentation zero = []
 indentation (suc levels) = 32 ∷ 32 ∷ indentation levels
 
--- what the next piece stands behind
+-- what the next piece stands after
 abbrev pub behind_of : Piece → Behind
 behind_of p = if ends_line p then LineStart else (if binds_right p then Tight else Loose)
 

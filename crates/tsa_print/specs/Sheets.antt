@@ -14,7 +14,7 @@ use Rattle.tsa_print.specs.declared.mark.Mark.TheVariants as marks
 use Rattle.tsa_print.specs.UnitPieces.{optional_pieces, for_init_pieces, for_step_pieces, statement_pieces}
 use Rattle.tsa_print.specs.Layout.{indentation, levels_behind, behind_of, lead, line_end}
 
--- a text, how many blocks and structs are open behind it, and what the next piece stands behind
+-- a text, how many blocks and structs are open after it, and what the next piece stands after
 pub record Page : Type 0 where
   pub text : List ℕ
   pub levels : ℕ

@@ -61,7 +61,7 @@ abbrev mutual
   statements_pieces none = []
   statements_pieces (more first rest) = statement_pieces marks.CloseBlock first ++ statements_pieces rest
 
--- attributes of a struct stand behind the word `struct`
+-- attributes of a struct stand after the word `struct`
 abbrev pub item_pieces : UnitItem → List Piece
 item_pieces (structure_item tag other attrs members span) =
     typedef_pieces other

@@ -13,7 +13,7 @@ use tsa_base::NoMemory;
 use tsa_tree::attr::{Attr, AttrKind};
 use tsa_tree::expr::{Expr, Name};
 
-/// Puts arguments behind another one.
+/// Puts arguments after another one.
 pub fn put_further(sheet: &mut Sheet, args: &[Expr<'_>]) -> Result<(), NoMemory>
     ensures { OnOk result (page_of sheet.new ≡ put (page_of sheet.old) (further (shapes args.now))) }
 {
@@ -91,7 +91,7 @@ fn put_attribute(sheet: &mut Sheet, attr: &Attr<'_>) -> Result<(), NoMemory>
     sheet.put_mark(Mark::CloseParenthesis)
 }
 
-/// Puts attributes one behind another.
+/// Puts attributes one after another.
 pub fn put_attributes(sheet: &mut Sheet, attrs: &[Attr<'_>]) -> Result<(), NoMemory>
     ensures { OnOk result (page_of sheet.new ≡ put (page_of sheet.old) (attributes_pieces (attr_shapes attrs.now))) }
 {

@@ -112,7 +112,7 @@ fn put_initialisers(sheet: &mut Sheet, items: &[Init<'_>]) -> Result<(), NoMemor
     }
 }
 
-// Puts initialisers behind another one.
+// Puts initialisers after another one.
 #[cycle(initialisers)]
 fn put_further_initialisers(sheet: &mut Sheet, items: &[Init<'_>]) -> Result<(), NoMemory>
     ensures { OnOk result (page_of sheet.new ≡ put (page_of sheet.old) (further_pieces (init_shapes items.now))) }

@@ -128,7 +128,7 @@ fn put_typedef(sheet: &mut Sheet, alias: Option<Name<'_>>) -> Result<(), NoMemor
     }
 }
 
-// Puts an alias, where there is one, and the semicolon behind it.
+// Puts an alias, where there is one, and the semicolon after it.
 #[tactic(auto, using(crate::proofs::Pages::put_append))]
 fn put_alias_end(sheet: &mut Sheet, alias: Option<Name<'_>>) -> Result<(), NoMemory>
     ensures { OnOk result (page_of sheet.new ≡ put (page_of sheet.old) (name_pieces (option_map name_shape alias.entry) ++ mark marks.Semicolon ∷ [])) }

@@ -8,7 +8,7 @@ ghost use Rattle.tsa_print.specs.Layout.{ends_line, opens_level, closes_level};
 pub enum Mark {
     Comma,
     OpenParenthesis,
-    /// The parenthesis behind a callee, a function's name or a macro word.
+    /// The parenthesis after a callee, a function's name or a macro word.
     OpenCall,
     CloseParenthesis,
     OpenBracket,
@@ -67,7 +67,7 @@ impl Mark {
         }
     }
 
-    /// Whether no blank stands behind it.
+    /// Whether no blank stands after it.
     pub fn binds_right(self) -> bool
         ensures { result ≡ binds_right (mark self) }
     {

@@ -74,7 +74,7 @@ pub fn append(out: &mut Vec<u8>, text: &[u8]) -> Result<(), NoMemory>
     Ok(())
 }
 
-/// Appends a number in decimal, with `u` behind an unsigned one.
+/// Appends a number in decimal, with `u` after an unsigned one.
 pub fn write_number(out: &mut Vec<u8>, value: u32, unsigned: bool) -> Result<(), NoMemory>
     ensures { OnOk result (out.new.items ≡ out.old.items ++ piece_text (numeral value unsigned)) }
 {

@@ -12,7 +12,7 @@ use std::alloc::Global;
 use tsa_base::NoMemory;
 use tsa_tree::expr::{BinaryOp, Expr};
 
-/// What the next token stands behind: the beginning of a line, a token behind which no blank stands, or any other one.
+/// What the next token stands after: the beginning of a line, a token after which no blank stands, or any other one.
 #[derive(Clone, Copy)]
 pub enum Behind {
     LineStart,
@@ -20,7 +20,7 @@ pub enum Behind {
     Loose,
 }
 
-/// A text, how many blocks and structs are open behind it, and what its next token stands behind.
+/// A text, how many blocks and structs are open after it, and what its next token stands after.
 #[derive(Drop)]
 pub struct Sheet {
     pub text: Vec<u8>,
@@ -45,7 +45,7 @@ fn indent(text: &mut Vec<u8>, levels: u32) -> Result<(), NoMemory>
     Ok(())
 }
 
-// How many blocks and structs are open behind a token.
+// How many blocks and structs are open after a token.
 fn levels_behind(levels: u32, token: Mark) -> Result<u32, NoMemory>
     ensures { IfOk result (λ n. n ≡ levels_behind levels (mark token)) }
 {
@@ -70,7 +70,7 @@ fn kind_behind(token: Mark) -> Behind
     Behind::Loose
 }
 
-// Appends `=`, behind an operator where there is one.
+// Appends `=`, after an operator where there is one.
 fn write_assigned(text: &mut Vec<u8>, op: Option<BinaryOp>) -> Result<(), NoMemory>
     ensures { OnOk result (text.new.items ≡ text.old.items ++ assign_text op) }
 {
@@ -161,7 +161,7 @@ impl Sheet {
         Ok(())
     }
 
-    /// Puts `=`, behind an operator where there is one.
+    /// Puts `=`, after an operator where there is one.
     #[tactic(auto, using(crate::proofs::Pages::put_assigned))]
     pub fn put_assigned(&mut self, op: Option<BinaryOp>) -> Result<(), NoMemory>
         ensures { OnOk result (page_of self.new ≡ put_one (page_of self.old) (assigned op)) }

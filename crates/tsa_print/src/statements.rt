@@ -105,7 +105,7 @@ fn put_tested(sheet: &mut Sheet, text: &[u8], test: &Expr<'_>) -> Result<(), NoM
     sheet.put_mark(Mark::CloseParenthesis)
 }
 
-// Puts a word, and a colon behind it.
+// Puts a word, and a colon after it.
 fn put_labelled(sheet: &mut Sheet, text: &[u8]) -> Result<(), NoMemory>
     ensures { OnOk result (page_of sheet.new ≡ put (page_of sheet.old) (word text.now ∷ (mark marks.Colon ∷ []))) }
 {

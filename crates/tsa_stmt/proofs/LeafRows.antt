@@ -86,7 +86,7 @@ module _ (ts : List Lexeme) (aliases : Aliases) where
       ∙ sym (then-then (read ts a_simple (simple aliases d) m) (λ x n. Ok (x.simple, n))
       (λ x n. then (one_token ts (a_semicolon aliases) n) (λ u e. answered (plain.simple (spanning x (span_over ts m e))) e)))
 
-  -- behind a name, where no colon stands there
+  -- after a name, where no colon stands there
   pub unlabelled_is : (d m : ℕ) → sign_at ts aliases m ≡ sign.Name → sees ts (a_colon aliases) (m + 1) ≡ false
       → stmt ts aliases d m ≡ simple_statement_at ts aliases d m
   unlabelled_is d m e c = row_is ts aliases d m _ e ∙ other _ _ _ c ∙ simply d m

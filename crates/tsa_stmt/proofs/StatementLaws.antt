@@ -144,7 +144,7 @@ pub one_pointed : (start old new : List Point) (list longer : List Stmt) (x : Re
 one_pointed start old new list longer (Ok r) n h p k = subst (ArePointed start new) (sym k.0) (pushed start old new list r.stmt h p)
 one_pointed start old new list longer (Err e) n h p k = absurd k
 
--- the token behind a statement that was kept
+-- the token after a statement that was kept
 pub kept_behind : (list longer : List Stmt) (x : Result Read SyntaxRefusal) (at n limit : ℕ) → IfOk x (λ r. (at < r.next) × (r.next ≤ limit))
     → IsKept list longer x (Ok n) → (at < n) × (n ≤ limit)
 kept_behind list longer (Ok r) at n limit h k = subst (λ n. (at < n) × (n ≤ limit)) (sym k.1) h

@@ -85,7 +85,7 @@ module _ (tokens : List Lexeme) (aliases : Aliases) (d start : ℕ) where
   abbrev pub ended_at : Head → (n : ℕ) → Outcome Statement
   ended_at head n = then (body_at tokens aliases d n) (λ body e. Ok (ended head body (span_over tokens start e), e))
 
-  -- behind the arm of an `if`
+  -- after the arm of an `if`
   abbrev pub arm_at : Expression → Statement → (n : ℕ) → Outcome Statement
   arm_at x arm n =
       choose (sees tokens (a_keyword aliases key.Else) n)
@@ -96,7 +96,7 @@ module _ (tokens : List Lexeme) (aliases : Aliases) (d start : ℕ) where
   abbrev pub arms_at : Expression → (n : ℕ) → Outcome Statement
   arms_at x n = then (body_at tokens aliases d n) (λ arm e. arm_at x arm e)
 
-  -- behind the body of a `do`
+  -- after the body of a `do`
   abbrev pub do_end_at : Statement → (n : ℕ) → Outcome Statement
   do_end_at body n =
       then (one_token tokens (a_keyword aliases key.While) n) (λ u k. then (test_at tokens aliases d k) (λ x e.

@@ -6,7 +6,7 @@ use Rattle.tsa_expr.specs.declared.refusal.SyntaxRefusal.{SyntaxRefusal}
 use Rattle.tsa_expr.specs.declared.refusal.SyntaxRefusal.TheVariants.{NoMemory}
 use Rattle.tsa_leaf.specs.declared.points.Read.{Read}
 
--- the statement stands behind the others, and the token is the one behind it; else what was read was refused, or memory wanted
+-- the statement stands after the others, and the token is the one after it; else what was read was refused, or memory wanted
 abbrev pub IsKept : (old new : List Stmt) → Result Read SyntaxRefusal → Result ℕ SyntaxRefusal → Type 0
 IsKept old new (Ok r) (Ok next) = (new ≡ old ++ r.stmt ∷ []) × (next ≡ r.next)
 IsKept old new (Ok r) (Err refusal) = refusal ≡ NoMemory

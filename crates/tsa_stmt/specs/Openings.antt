@@ -19,7 +19,7 @@ module _ (tokens : List Lexeme) (aliases : Aliases) (d at : ℕ) where
       then (opening_brace tokens aliases d at) (λ u n. then (read tokens some_statements (statements aliases (d + 1)) n) (λ xs e.
       Ok (block xs (span_over tokens at e), e)))
 
-  -- a `do` from behind its word on
+  -- a `do` from after its word on
   abbrev pub do_at : Outcome Statement
   do_at = then (body_at tokens aliases d (at + 1)) (λ body n. do_end_at tokens aliases d at body n)
 

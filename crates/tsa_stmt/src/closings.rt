@@ -1,4 +1,4 @@
-//! Statements are made of what stands before their bodies, the bodies, and what stands behind them.
+//! Statements are made of what stands before their bodies, the bodies, and what stands after them.
 ghost use Rattle.std.specs.Prelude.{◌≡◌, ◌≤◌, ◌<◌, List, length, IfOk};
 ghost use Rattle.tsa_tree.specs.declared.stmt.Point.{Point as point_type};
 ghost use Rattle.tsa_base.specs.declared.token.Span.{Span as span_type};
@@ -18,7 +18,7 @@ use tsa_expr::{Reader, SyntaxRefusal};
 use tsa_leaf::{Body, Read, while_word};
 use tsa_tree::stmt::{Point, Stmt, StmtKind};
 
-/// The arms of an `if`, the second where there is one, and the token behind them.
+/// The arms of an `if`, the second where there is one, and the token after them.
 #[derive(Clone, Copy)]
 pub struct Arms<'a> {
     pub yes: &'a Stmt<'a>,
@@ -102,7 +102,7 @@ pub fn if_with_arms<'a>(
     }
 }
 
-/// A `do` from behind its body on: its test, whose point follows those of the body.
+/// A `do` from after its body on: its test, whose point follows those of the body.
 #[tactic(auto, using(crate::proofs::ClosingLaws::dos))]
 pub fn do_with_test<'a>(
     reader: Reader<'a, '_>,

@@ -48,7 +48,7 @@ pub struct Headed<'a> {
     pub next: u32,
 }
 
-/// A test in its parentheses, the number of its point, and the token behind it.
+/// A test in its parentheses, the number of its point, and the token after it.
 #[derive(Clone, Copy)]
 pub struct Marked<'a> {
     pub test: Expr<'a>,
@@ -150,7 +150,7 @@ impl<'a, 't> TextReader<'a, 't> {
     }
 }
 
-/// The head of a `for` with its three parts, the body behind the third one.
+/// The head of a `for` with its three parts, the body after the third one.
 fn for_parts<'a>(
     init: Option<&'a Stmt<'a>>,
     test: &Value<'a>,

@@ -31,7 +31,7 @@ use tsa_leaf::{
 use tsa_tree::sign::{Keyword, Sign};
 use tsa_tree::stmt::{Point, Stmt};
 
-/// A statement that was read stands behind the others, and the token behind it is given; a refusal is handed on.
+/// A statement that was read stands after the others, and the token after it is given; a refusal is handed on.
 fn keep_statement<'a>(
     list: &mut Vec<Stmt<'a>>,
     read: Result<Read<'a>, SyntaxRefusal>,
@@ -95,7 +95,7 @@ impl<'a, 't> TextReader<'a, 't> {
         }
     }
 
-    /// A statement that begins with a name: a label where a colon stands behind it, and else a simple statement.
+    /// A statement that begins with a name: a label where a colon stands after it, and else a simple statement.
     #[cycle(statements)]
     #[tactic(auto, using(crate::proofs::OpeningLaws::names))]
     fn name_statement(

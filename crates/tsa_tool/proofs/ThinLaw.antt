@@ -28,7 +28,7 @@ use Rattle.tsa_tool.proofs.FormedItems.{items_formed}
 pub trees_law : ThinTreesAreSeen
 trees_law = record { seen = items_seen; formed = items_formed }
 
--- each item fits behind those before it, where all do
+-- each item fits after those before it, where all do
 fits_at : (text : List ℕ) (front before : List Item) (item : Item) (behind : List Item) → all_fit text front (before ++ item ∷ behind) ≡ true → fits text (front ++ before) item ≡ true
 fits_at text front [] item behind all = ap (λ is. fits text is item) (append-nil front) ∙ (both (fits text front item) _ all).0
 fits_at text front (i ∷ before) item behind all =

@@ -13,7 +13,7 @@ use Rattle.tsa_tool.specs.declared.thin.ThinStep.{ThinStep}
 use Rattle.tsa_tool.specs.Items.{Item}
 use Rattle.tsa_tool.specs.Trees.{argument_in, has_none, step_in, steps_in, item_in, thin_of}
 
--- what follows, behind what was found before
+-- what follows, after what was found before
 abbrev pub after : {A : Type 0} → List A → Option (List A) → Option (List A)
 after front rest = option_map (λ xs. front ++ xs) rest
 

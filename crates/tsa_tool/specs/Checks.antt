@@ -30,7 +30,7 @@ abbrev pub lexed : Result (List Lexeme) BadByte → Result (List Lexeme) Refusal
 lexed (Ok tokens) = Ok tokens
 lexed (Err bad) = Err (Lex bad.code bad.byte)
 
--- the byte with which a token begins; behind the last token it is the end of the input
+-- the byte with which a token begins; after the last token it is the end of the input
 abbrev pub byte_of : List ℕ → List Lexeme → ℕ → ℕ
 byte_of bytes tokens number = option_map_or (λ token. token.span.from) (slice_get tokens number) (length bytes)
 
@@ -52,7 +52,7 @@ tree_in bytes = do
   tree ← placed bytes tokens (unit_of tokens)
   Ok tree
 
--- the items of an input, whether or not they may stand behind each other
+-- the items of an input, whether or not they may stand after each other
 unfoldable pub items_in : List ℕ → Result (List Item) Refusal
 items_in bytes = do
   tree ← tree_in bytes

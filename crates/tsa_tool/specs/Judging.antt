@@ -40,7 +40,7 @@ entry_with lock is h = if h.lock == lock then record { lock = lock; is_held = is
 abbrev pub with_held : List Held → ℕ → Bool → List Held
 with_held row lock is = map (entry_with lock is) row
 
--- the row behind a point
+-- the row after a point
 abbrev pub row_after : PointAction → List Held → List Held
 row_after (Take lock) row = with_held row lock true
 row_after (Give lock) row = with_held row lock false

@@ -22,6 +22,6 @@ items_are_within items = nat_le (count_by is_function items) FUNCTION_LIMIT && n
 unfoldable pub body_is_within : UnitBody → Bool
 body_is_within b = nat_le (length b.code.actions) POINT_LIMIT && nat_le (length (paths_of b.code)) CAPABILITY_LIMIT
 
--- the items are a thin unit: each may stand behind those before it, and no limit is passed
+-- the items are a thin unit: each may stand after those before it, and no limit is passed
 unfoldable pub is_thin_unit : List ℕ → List Item → Bool
 is_thin_unit bytes items = all_fit bytes [] items && (items_are_within items && list_all body_is_within (bodies_of bytes items))

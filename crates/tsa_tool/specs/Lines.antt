@@ -93,7 +93,7 @@ pub record Warned : Type 0 where
   pub text : List ℕ
   pub count : ℕ
 
--- those of a body behind others
+-- those of a body after others
 abbrev pub with_body : List ℕ → List Item → Warned → UnitBody → Warned
 with_body bytes items w b = record { text = w.text ++ body_lines bytes items b; count = w.count + length (warnings_of bytes items b) }
 

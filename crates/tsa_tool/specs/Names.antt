@@ -85,7 +85,7 @@ is_new bytes before name = is_none (named bytes before (span_text bytes name))
 abbrev pub has_struct : List ℕ → List Item → Span → Bool
 has_struct bytes before tag = is_some (struct_named bytes before (span_text bytes tag))
 
--- what the item itself names, its statements aside, may stand behind the items before it
+-- what the item itself names, its statements aside, may stand after the items before it
 unfoldable pub head_fits : List ℕ → List Item → Item → Bool
 head_fits bytes before (lock kind tag member) = not (has_struct bytes before tag)
 head_fits bytes before (lock_function name tag param takes argument) =
@@ -103,11 +103,11 @@ steps_of (mutex tag name) = []
 steps_of (number name guard) = []
 steps_of (body name steps end) = steps
 
--- the item may stand behind those before it
+-- the item may stand after those before it
 abbrev pub fits : List ℕ → List Item → Item → Bool
 fits bytes before item = head_fits bytes before item && list_all (step_fits bytes before) (steps_of item)
 
--- each item may stand behind those before it
+-- each item may stand after those before it
 abbrev pub all_fit : List ℕ → List Item → List Item → Bool
 all_fit bytes before [] = true
 all_fit bytes before (item ∷ items) = fits bytes before item && all_fit bytes (before ++ item ∷ []) items

@@ -66,7 +66,7 @@ item_bodies bytes before (mutex tag name) = []
 item_bodies bytes before (number name guard) = []
 item_bodies bytes before (body name steps close) = unit_body bytes before name steps close ∷ []
 
--- the bodies of the items behind some others, in order of the text
+-- the bodies of the items after some others, in order of the text
 abbrev pub bodies_behind : List ℕ → List Item → List Item → List UnitBody
 bodies_behind bytes before [] = []
 bodies_behind bytes before (item ∷ items) = item_bodies bytes before item ++ bodies_behind bytes (before ++ item ∷ []) items

@@ -16,7 +16,7 @@ use Rattle.tsa_tool.specs.Lines.{Warned, unit_warned}
 use Rattle.tsa_tool.specs.Checks.{byte_of, warned_in}
 use Rattle.tsa_tool.specs.ThinTrees.{AreItems}
 
--- the text has tokens, they are a unit, its tree is of the items, each item may stand behind those before it, and no limit is
+-- the text has tokens, they are a unit, its tree is of the items, each item may stand after those before it, and no limit is
 -- passed
 pub record IsThin (text : List ℕ) (items : List Item) : Type 0 where
   pub tokens : List Lexeme

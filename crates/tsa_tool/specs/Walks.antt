@@ -4,7 +4,7 @@ use Rattle.std.specs.declared.option.Option.{Option}
 use Rattle.tsa_tool.specs.declared.rules.Rule.{Rule}
 use Rattle.tsa_tool.specs.Rules.{Body, Path, Status, Outcome, Next, Yes, No, Rest, entry, effect, breaks}
 
--- control: the point behind a point, by its outcome; a body of writes and calls goes straight on to its end
+-- control: the point after a point, by its outcome; a body of writes and calls goes straight on to its end
 unfoldable pub behind : Body → ℕ → Outcome → Option ℕ
 behind b p Next = if nat_lt (p + 1) (length b.actions) then Some (p + 1) else None
 behind b p Yes = None

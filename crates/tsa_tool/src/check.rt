@@ -121,11 +121,7 @@ fn tree_of<'a>(
 
 // The unit of an input, in an arena.
 #[tactic(auto, unfolding(crate::specs::Checks::tree_in))]
-fn read_tree<'a>(
-    alloc: Global,
-    bump: &'a Bump,
-    bytes: &[u8],
-) -> Result<Parsed<'a>, ToolRefusal>
+fn read_tree<'a>(alloc: Global, bump: &'a Bump, bytes: &[u8]) -> Result<Parsed<'a>, ToolRefusal>
     requires { length bytes.now ≤ INPUT_LIMIT }
     ensures tree { IfOk result (λ parsed. tree_in bytes.now ≡ Ok (item_shapes parsed.unit.now.items.now)) }
     ensures refused { (r : _) → IsErrOf result (ToolRefusal.Refused r) → tree_in bytes.now ≡ Err r }

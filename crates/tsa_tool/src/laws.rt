@@ -11,7 +11,7 @@ pub fn thin_trees_are_seen()
     ensures { ThinTreesAreSeen }
 {}
 
-/// What `check` warns of is exactly the thin units: their tokens are a unit of thin items, each item may stand behind
+/// What `check` warns of is exactly the thin units: their tokens are a unit of thin items, each item may stand after
 /// those before it, and no limit is passed. Any other text is refused by its first bad byte, by its syntax, or as not
 /// built exactly where its tokens are a unit.
 #[tactic(auto, using(crate::proofs::ThinLaw::thin_law))]

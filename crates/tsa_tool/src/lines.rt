@@ -38,7 +38,7 @@ impl Rule {
         }
     }
 
-    // What the rule's text says behind the lock.
+    // What the rule's text says after the lock.
     fn behind_path(self) -> &'static [u8]
         ensures { result.now ≡ behind_path self }
     {

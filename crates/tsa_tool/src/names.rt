@@ -114,7 +114,7 @@ fn take_item<'s>(
     Ok(true)
 }
 
-/// The bodies of a unit with their names resolved, or `None` where an item may not stand behind those before it.
+/// The bodies of a unit with their names resolved, or `None` where an item may not stand after those before it.
 pub fn resolve(
     alloc: Global,
     bytes: &[u8],

@@ -17,7 +17,7 @@ pub enum ThinItem<'a> {
         tag: Span,
         member: Span,
     },
-    /// A function that takes the lock behind its parameter, or gives it back, with what its attribute names.
+    /// A function that takes the lock after its parameter, or gives it back, with what its attribute names.
     LockFunction {
         name: Span,
         tag: Span,

@@ -1,4 +1,4 @@
--- What is known of the token where a part begins, and of the token behind a part.
+-- What is known of the token where a part begins, and of the token after a part.
 use Rattle.std.proofs.Common.{ℕ, suc, ◌+◌, ◌-◌, ◌<◌, ◌≡◌, ◌∙◌, ap, sym, subst, refl, Bool, true, false, ◌&&◌, ◌||◌, Option, Some, None, List, [], ◌∷◌, length, slice_get, arith, inl, inr, nat_eq, nat_le}
 use Rattle.std.proofs.lemmas.Bool.{cases_lt, eqb-true}
 use Rattle.std.proofs.lemmas.Option.{slice_get_past}
@@ -36,7 +36,7 @@ abbrev pub begins_initialiser : Sign → Bool
 begins_initialiser sign.OpenBrace = true
 begins_initialiser s = begins_operand s
 
--- This can stand behind the name of a member or a global.
+-- This can stand after the name of a member or a global.
 abbrev pub begins_rest : Sign → Bool
 begins_rest sign.OpenBracket = true
 begins_rest sign.Equals = true
@@ -123,7 +123,7 @@ module _ (tokens : List Lexeme) where
   First _ (statement aliases d) m = begins_statement (sign_at tokens aliases m) ≡ true
   First _ (statements aliases d) m = begins_inner (sign_at tokens aliases m) ≡ true
 
-  -- A type is over where no `const` stands, nor `int` right behind `unsigned` or `signed`.
+  -- A type is over where no `const` stands, nor `int` right after `unsigned` or `signed`.
   abbrev pub Settled : Aliases → ℕ → Type 0
   Settled aliases m =
       (is_keyword key.Const (sign_at tokens aliases m) ≡ false)
@@ -159,7 +159,7 @@ module _ (tokens : List Lexeme) where
   EndsSimple aliases (by_operand x) m = Ended aliases x m
   EndsSimple aliases by_step m = Unit {0}
 
-  -- No `else` stands behind a statement to which it would belong.
+  -- No `else` stands after a statement to which it would belong.
   abbrev pub EndsStatement : Aliases → Statement → ℕ → Type 0
   EndsStatement aliases s m = ends_short s ≡ true → is_keyword key.Else (sign_at tokens aliases m) ≡ false
 
@@ -167,7 +167,7 @@ module _ (tokens : List Lexeme) where
   abbrev pub Bare : Aliases → ℕ → Type 0
   Bare aliases m = is_attribute_sign (sign_at tokens aliases m) ≡ false
 
-  -- This is known of the place behind a part that is as long as it can be. Every other part ends with a token of its own.
+  -- This is known of the place after a part that is as long as it can be. Every other part ends with a token of its own.
   abbrev pub Ends : (s : Sort) → Call s → Node s → ℕ → Type 0
   Ends _ (expression aliases d k) x m = Ended aliases x m × Loose aliases k m
   Ends _ (operation aliases d k start l) x m = Ended aliases x m × Loose aliases k m

@@ -56,7 +56,7 @@ module _ (tokens : List Lexeme) where
   next_climb aliases d k top start l m (Some o) e (inl h) = before_operator aliases l m o e
   next_climb aliases d k top start l m (Some o) e (inr h) = h.0
 
-  -- No operator that belongs to a right operand stands behind it.
+  -- No operator that belongs to a right operand stands after it.
   ends_right : (aliases : Aliases) (d k top start : ℕ) (l : Expression) (m : ℕ) (o : Option BinaryOp)
       → operator (sign_at tokens aliases m) ≡ o → k ≤ top
       → Next tokens an_expression (λ x e. Ended tokens aliases x e × Loose tokens aliases k e)
@@ -68,7 +68,7 @@ module _ (tokens : List Lexeme) where
   ends_right aliases d k top start l m (Some o) e le (inr h) =
       λ p q. lt-leb (top + 1) (level p) (omega (arith, leb-false k (level p) (h.1 p q)))
 
-  -- behind an operand
+  -- after an operand
   good_climb : (c : Call an_expression) (aliases : Aliases) (d k top start : ℕ) (l : Expression) (m : ℕ) (o : Option BinaryOp)
       → operator (sign_at tokens aliases m) ≡ o
       → ((x : Expression) (n : ℕ) → Ended tokens aliases x n × Loose tokens aliases k n → Ends tokens an_expression c x n)
@@ -125,7 +125,7 @@ module _ (tokens : List Lexeme) where
     (λ p q. never tokens m q),
   )
 
-  -- behind a primary or a postfix operator
+  -- after a primary or a postfix operator
   good_post : (c : Call an_expression) (aliases : Aliases) (d start : ℕ) (base : Expression) (m : ℕ)
       → ((x : Expression) (n : ℕ) → Ended tokens aliases x n → Ends tokens an_expression c x n)
       → ((x : Expression) (n : ℕ) → Ends tokens an_expression c x n → Ended tokens aliases x n)
@@ -180,7 +180,7 @@ module _ (tokens : List Lexeme) where
   good_prefix aliases d m q None e = λ z. never tokens m z
   good_prefix aliases d m q (Some o) e = (e, λ z. (tt, λ x n. ((λ h. h), (λ h. h))))
 
-  -- behind a callee and its parenthesis
+  -- after a callee and its parenthesis
   good_call : (aliases : Aliases) (d m : ℕ) → Good tokens an_expression (operand aliases d) false (call_row tokens aliases d m) (m + 1 + 1)
   good_call aliases d m = (
     (λ h. h),

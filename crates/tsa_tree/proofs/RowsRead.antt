@@ -187,7 +187,7 @@ module _ (tokens : List Lexeme) where
       answers.one_tree (sees tokens) all (rule tokens) (First tokens) (Ends tokens) (Moves tokens) rank (length tokens)
       (inside tokens) (firsts tokens) (good tokens) low (moves tokens) s c x y a b h k e e'
 
-  -- A reader without limits stops behind all that is spelled.
+  -- A reader without limits stops after all that is spelled.
   pub whole_to : (s : Sort) (c : Call s) (x : Node s) (a b : ℕ) → Spells (rule tokens) (sees tokens) all s c x a b
       → b ≤ stop (free s c a)
   whole_to s c x a b h =
@@ -213,7 +213,7 @@ module _ (tokens : List Lexeme) where
   stops s clear c a b (Ok p) h f = f
   stops s clear c a b (Err e) h f = far s clear c a b e.code e.token h f
 
-  -- A reader without limits stops behind all that begins an expression or a series.
+  -- A reader without limits stops after all that begins an expression or a series.
   pub reached_free : (s : Sort) → IsClear s → (c : Call s) (a b : ℕ) → Begins (rule tokens) (sees tokens) all s c a b None
       → b ≤ stop (free s c a)
   reached_free s clear c a b h =

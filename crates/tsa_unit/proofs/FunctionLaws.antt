@@ -74,7 +74,7 @@ module _ (ts : List Lexeme) (aliases : Aliases) where
       (sym (ap end_of p ∙ end_push old (record { action = End; span = span }) ∙ q))
       ∙ ap (λ body. Ok (shape_with whole (option_map (λ (b : Bor (List Stmt)). b.now) body) ∷ [], e)) (sym b)
 
-  -- a function behind other items
+  -- a function after other items
   kept : (old new : List Item) (whole : FnTree) (r : Outcome (List UnitItem)) (n : ℕ) → r ≡ Ok (function_shape whole ∷ [], n)
       → new ≡ old ++ item.Function whole ∷ [] → after (item_shapes old) r ≡ Ok (item_shapes new, n)
   unfolding then

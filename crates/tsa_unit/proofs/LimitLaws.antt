@@ -77,7 +77,7 @@ pub ruleset functions = (goes_past, one_less, one_too_many)
 abbrev pub points_from : ℕ → List Item → Option Identifier
 points_from n items = past_points (item_shapes (drop n items))
 
--- a function comes before those behind it where its own points are too many
+-- a function comes before those after it where its own points are too many
 abbrev points_first : Option FnTree → Option Identifier → Option Identifier
 points_first None rest = rest
 points_first (Some f) rest = if nat_lt 4096 (length f.points.now) then Some (name_shape f.name) else rest

@@ -10,4 +10,3 @@ use Rattle.tsa_tree.proofs.tokens.Texts.{text_few}
 
 pub text_room : (tokens : List Token) → AreOfText (lexemes tokens) → length tokens ≤ INPUT_LIMIT
 text_room tokens of = subst (λ n. n ≤ INPUT_LIMIT) (length-map tokens lexeme) (text_few (lexemes tokens) of)
-

@@ -1,4 +1,4 @@
--- Items of a unit, one behind another, where the names of types that each one gives are known behind it.
+-- Items of a unit, one after another, where the names of types that each one gives are known after it.
 use Rattle.std.proofs.Common.{ℕ, ◌+◌, ◌<◌, ◌≤◌, ◌≡◌, ◌∙◌, ap, sym, refl, Bool, true, false, List, [], ◌∷◌, ◌++◌, length, drop, Ok, Err, nat_le, arith}
 use Rattle.std.proofs.lemmas.Bool.{le-leb, lt-leb}
 use Rattle.std.proofs.lemmas.List.{length-map, length-append}
@@ -30,7 +30,7 @@ abbrev made : {A : Type 0} → List A → Outcome (List A) → List A
 made otherwise (Ok p) = p.0
 made otherwise (Err e) = otherwise
 
--- what an outcome behind others is, without them
+-- what an outcome after others is, without them
 split : {A : Type 0} (front whole : List A) (n : ℕ) (r : Outcome (List A)) → after front r ≡ Ok (whole, n)
     → (xs : List A) × (r ≡ Ok (xs, n)) × (whole ≡ front ++ xs)
 unfolding then
@@ -42,7 +42,7 @@ unfolding then
 failed front x (Ok p) h = cc
 failed front x (Err e) h = h
 
--- what fails behind others fails
+-- what fails after others fails
 fails_behind : {A : Type 0} (front : List A) (e : SyntaxRefusal) (r : Outcome (List A)) → Fails e (after front r) → Fails e r
 fails_behind front (refusal.At code.SY1 n) r h = failed front _ r h
 fails_behind front (refusal.At code.LM2 n) r h = failed front _ r h

@@ -1,4 +1,4 @@
--- What reading by the rows gives for items one behind another.
+-- What reading by the rows gives for items one after another.
 use Rattle.std.specs.Prelude.{ℕ, List, [], Ok}
 use Rattle.tsa_base.specs.Tokens.{Lexeme}
 use Rattle.tsa_tree.specs.declared.item.Item.{Item}

@@ -46,7 +46,7 @@ pub fn item<'a>(
     function(source, begun.next, head, list)
 }
 
-/// A function from behind its head on, at the end of a list: a `;`, or its body with the body's points, the last of which
+/// A function from after its head on, at the end of a list: a `;`, or its body with the body's points, the last of which
 /// is its end.
 #[tactic(auto, using(crate::proofs::FunctionLaws::functions))]
 fn function<'a>(

@@ -84,7 +84,7 @@ fn in_parsed<'a>(bump: &'a Bump, list: &Vec<Item<'a>>) -> Result<Parsed<'a>, Syn
     Ok(Parsed::new(unit))
 }
 
-/// The items one behind another, up to the last token.
+/// The items one after another, up to the last token.
 #[tactic(auto, using(crate::proofs::UnitLaws::whole))]
 fn read_items<'a>(
     alloc: Global,
@@ -103,7 +103,7 @@ fn read_items<'a>(
     Ok(list)
 }
 
-/// One item, and the names of types that it gives are known behind it.
+/// One item, and the names of types that it gives are known after it.
 #[tactic(auto, using(crate::proofs::UnitLaws::steps))]
 fn next_item<'a>(
     bump: &'a Bump,

@@ -61,7 +61,7 @@ module _ (tokens : List Lexeme) (aliases : Aliases) (fits : ℕ → Bool) where
   pub whole : {d : ℕ} {xs : List Attribute} {a b : ℕ} → IsAttributes tokens aliases fits d xs a b → BeginsAttributes tokens aliases fits d a b
   whole h = group_behind h begins_no_group
 
-  -- where a group can begin behind a list, it begins more of the list, or it is one that is left out
+  -- where a group can begin after a list, it begins more of the list, or it is one that is left out
   pub on_sign : {d : ℕ} {xs : List Attribute} {a : ℕ} (i : ℕ) (s : Sign) → sign_at tokens aliases i ≡ s → is_attribute_sign s ≡ true
       → IsAttributes tokens aliases fits d xs a i → BeginsAttributes tokens aliases fits d a (i + 1) ⊎ RefusesAttributes tokens aliases fits d a i left_out
   on_sign i sign.Attribute e h sp = inl (group_behind sp (begins_word e))
@@ -82,7 +82,7 @@ module _ (tokens : List Lexeme) (aliases : Aliases) (d a : ℕ) where
       clash _ _ _ (completed tokens rows.some_attributes (attributes aliases d) xs a i ((attributes_spell tokens aliases all d xs a i lt).0 sp) h)
       (broken_free tokens below_limit rows.some_attributes (attributes aliases d) a i r)
 
-  -- Where a group can begin behind a list, that isn't the longest beginning, or an attribute is refused.
+  -- Where a group can begin after a list, that isn't the longest beginning, or an attribute is refused.
   pub going_on : (xs : List Attribute) (i : ℕ) → is_attribute_sign (sign_at tokens aliases i) ≡ true → IsAttributes tokens aliases all d xs a i
       → ((b : ℕ) → BeginsAttributes tokens aliases all d a b → b ≤ i) → ((j q : ℕ) → RefusesAttributes tokens aliases all d a j q → ⊥) → ⊥
   going_on xs i h sp longest free =

@@ -25,7 +25,7 @@ pub given : (v : Option Bool) → is_given v ≡ true → (b : Bool) × (v ≡ S
 given None e = never e
 given (Some b) e = (b, refl)
 
--- Balanced tokens behind balanced tokens are balanced.
+-- Balanced tokens after balanced tokens are balanced.
 pub and_balanced : {tokens : List Lexeme} {aliases : Aliases} {fits : ℕ → Bool} {d a m b : ℕ}
     → IsBalanced tokens aliases fits d a m → IsBalanced tokens aliases fits d m b → IsBalanced tokens aliases fits d a b
 and_balanced of_nothing j = j
@@ -43,7 +43,7 @@ module _ (tokens : List Lexeme) (aliases : Aliases) (fits : ℕ → Bool) where
       subst (λ n. IsAttribute tokens aliases fits d k (attribute_of tokens k xs m n) m n) (sym closed.3)
       (of_expressions t open_ fit closed.1 closed.2)
 
-  -- And so behind the result of a try.
+  -- And so after the result of a try.
   pub closed_try : {d : ℕ} {k : AttrKind} {m : ℕ} → taking k ≡ takes.a_try → sign_at tokens aliases (m + 1) ≡ sign.Open → fits d ≡ true
       → (v : Bool) → try_value (identifier_at tokens (m + 1 + 1)).text ≡ Some v → sign_at tokens aliases (m + 1 + 1 + 1) ≡ sign.Comma
       → (xs : Arguments) (n : ℕ) → Closed tokens fits aliases (d + 1) xs (m + 1 + 1 + 1 + 1) n
@@ -108,7 +108,7 @@ module _ (tokens : List Lexeme) (aliases : Aliases) (fits : ℕ → Bool) where
             go _ n (closed_try t open_ fit g.0 g.1 (shows_comma tokens aliases (m + 1 + 1 + 1) comma) xs n closed),
       )
 
-  -- An attribute keeps to its production where what comes behind it does.
+  -- An attribute keeps to its production where what comes after it does.
   keeps_attribute : (d : ℕ) (k : AttrKind) (m : ℕ) (refused : Bool) (spelled : Kind) (P : List Attribute → ℕ → Type 0)
       (end : Attribute → ℕ → Row some_attributes)
       → (sees tokens spelled m ≡ true → (x : Attribute) (e : ℕ) → IsAttribute tokens aliases fits d k x m e

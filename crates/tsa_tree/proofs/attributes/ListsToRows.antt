@@ -53,7 +53,7 @@ module _ (tokens : List Lexeme) (aliases : Aliases) (fits : ℕ → Bool) where
       → Starts (entry_row tokens aliases d a w) a b q → EntriesStart d a b q
   entries_start d a b q w e g = begins_rule (subst (λ w. Starts (entry_row tokens aliases d a w) a b q) (sym e) g)
 
-  -- Entries go on where what stands behind the first one does.
+  -- Entries go on where what stands after the first one does.
   entry_goes : {d : ℕ} {xs : List Attribute} {a m : ℕ} → IsEntry tokens aliases fits d xs a m → (ys : List Attribute) (b : ℕ)
       → Goes (entries_end tokens aliases d xs m) ys m b → EntriesGo d ys a b
   entry_goes {d = d} {a = a} (of_known {k = k} word q i) ys b g =
@@ -120,7 +120,7 @@ module _ (tokens : List Lexeme) (aliases : Aliases) (fits : ℕ → Bool) where
       → Starts (group_row tokens aliases d a s) a b w → GroupStarts d a b w
   group_start d a b w s e g = begins_rule (subst (λ s. Starts (group_row tokens aliases d a s) a b w) (sym e) g)
 
-  -- what stands behind `__attribute__((`
+  -- what stands after `__attribute__((`
   abbrev Inside : (d a : ℕ) → Row some_attributes
   Inside d a =
       either (sees tokens (kind aliases 6) (a + 1 + 1 + 1)) (token (kind aliases 6) (token (kind aliases 6) (done [])))
@@ -182,7 +182,7 @@ module _ (tokens : List Lexeme) (aliases : Aliases) (fits : ℕ → Bool) where
   group_refused {d = d} {a = a} {b = b} {q = r} (in_list o h) =
       inside_starts d a b (Some r) o (starts_right (starts_in (entries_refused h)))
 
-  -- The rows spell a group with all that come behind it.
+  -- The rows spell a group with all that come after it.
   groups_rows : {d : ℕ} {xs ys : List Attribute} {a m b : ℕ} → IsGroup tokens aliases fits d xs a m
       → IsAttributes tokens aliases fits d ys m b → AttributesGo d (xs ++ ys) a b
   groups_rows g of_no_group = by_rule (goes_part (group_rows g) (goes_right goes_done))

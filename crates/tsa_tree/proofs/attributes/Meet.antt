@@ -17,7 +17,7 @@ use Rattle.tsa_tree.proofs.RowFacts.{begins_no_close, ended, Good, Barren, Start
 use Rattle.tsa_tree.proofs.attributes.Facts.{both, no_closer, open_no_closing, bracket_no_closing, brace_no_closing, plain_no_closing, close_no_text, word_at_no_close, close_no_result}
 
 module _ (tokens : List Lexeme) where
-  -- Nothing is whole behind `(` where `)` stands there, or a result alone before `)`.
+  -- Nothing is whole after `(` where `)` stands there, or a result alone before `)`.
   barren_arguments : (aliases : Aliases) (d : ℕ) (k : AttrKind) (m : ℕ) (t : Taking) (end : Attribute → ℕ → Row some_attributes)
       → (sees tokens (a_close aliases) (m + 1 + 1) ≡ true)
       ⊎ ((takes_result t && (sees tokens a_result (m + 1 + 1) && sees tokens (a_close aliases) (m + 1 + 1 + 1))) ≡ true)

@@ -107,7 +107,7 @@ module _ (tokens : List Lexeme) (aliases : Aliases) (fits : ℕ → Bool) where
         ),
   )
 
-  -- What begins an attribute does so by its row, where what comes behind it does.
+  -- What begins an attribute does so by its row, where what comes after it does.
   opens_attribute : (d : ℕ) (k : AttrKind) (m : ℕ) (refused : Bool) (spelled : Kind) (B : ℕ → Type 0) (R : ℕ → ℕ → Type 0)
       (end : Attribute → ℕ → Row some_attributes)
       → (refused ≡ true → R m lacking) → B m

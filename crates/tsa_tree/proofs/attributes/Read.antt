@@ -34,19 +34,19 @@ module _ (aliases : Aliases) (tokens : List Lexeme) (real : AreTokensOfKinds tok
 
   attribute_sound : {d : ℕ} {k : AttrKind} {x : Attribute} {a b : ℕ} → IsAttribute tokens aliases all d k x a b → SoundAttribute aliases x
   attribute_sound (of_text {k = k} {a = a} t o f s c) = (
-        subst (λ t. SoundTaken aliases t (Some (unquoted (identifier_at tokens (a + 1 + 1)).text)) None none) (sym t)
+    subst (λ t. SoundTaken aliases t (Some (unquoted (identifier_at tokens (a + 1 + 1)).text)) None none) (sym t)
         (text_at aliases tokens real (a + 1 + 1) s),
-        other_taking k none (λ h. let never : a_text ≡ expressions = sym t ∙ h in cc),
-      )
+    other_taking k none (λ h. let never : a_text ≡ expressions = sym t ∙ h in cc),
+  )
   attribute_sound (of_one {k = k} {x = x} t o f h c) = (
-        subst (λ t. SoundTaken aliases t None None (more x none)) (sym t) (expression_sound aliases tokens real h),
-        other_taking k (more x none) (λ h. let never : one_expression ≡ expressions = sym t ∙ h in cc),
-      )
+    subst (λ t. SoundTaken aliases t None None (more x none)) (sym t) (expression_sound aliases tokens real h),
+    other_taking k (more x none) (λ h. let never : one_expression ≡ expressions = sym t ∙ h in cc),
+  )
   attribute_sound (of_expressions {k = k} {xs = xs} {a = a} {b = b} t o f h c) = listed_sound k xs a (b + 1) t (several h) (negative k xs) refl
   attribute_sound (of_try {k = k} {v = v} {xs = xs} t o f e m h c) = (
-        subst (λ t. SoundTaken aliases t None (Some v) xs) (sym t) (several_tried v h),
-        other_taking k xs (λ h. let never : a_try ≡ expressions = sym t ∙ h in cc),
-      )
+    subst (λ t. SoundTaken aliases t None (Some v) xs) (sym t) (several_tried v h),
+    other_taking k xs (λ h. let never : a_try ≡ expressions = sym t ∙ h in cc),
+  )
 
   entry_sound : {d : ℕ} {xs : List Attribute} {a b : ℕ} → IsEntry tokens aliases all d xs a b → SoundAttributes aliases xs
   entry_sound (of_known w m h) = (attribute_sound h, tt)

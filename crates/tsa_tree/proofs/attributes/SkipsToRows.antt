@@ -67,7 +67,7 @@ module _ (tokens : List Lexeme) (aliases : Aliases) (fits : ℕ → Bool) where
       (goes_part (balanced_rows i closing_brace (seen tokens aliases 17 m sign.CloseBrace close refl))
       (goes_part (balanced_rows r closer s) goes_done))))
 
-  -- What begins more of them behind balanced tokens begins them.
+  -- What begins more of them after balanced tokens begins them.
   behind_balanced : {d a m : ℕ} → IsBalanced tokens aliases fits d a m → (closer : Closer) (b : ℕ) → Skipping d closer m b → Skipping d closer a b
   behind_balanced of_nothing closer b h = h
   behind_balanced {d = d} {a = a} (of_token q i) closer b h =

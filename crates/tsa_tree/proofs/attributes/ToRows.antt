@@ -73,7 +73,7 @@ module _ (tokens : List Lexeme) (aliases : Aliases) (fits : ℕ → Bool) where
       starts_bar (starts_token s (starts_left (starts_limit fit (starts_token (seen tokens aliases 5 (a + 1) sign.Open o refl)
       (subst (λ t. Starts (arguments_row tokens aliases (d + 1) k a t end) (a + 1 + 1) e w) (sym q) g)))))
 
-  -- Where the rows go on behind an attribute, its row goes on to the same.
+  -- Where the rows go on after an attribute, its row goes on to the same.
   pub attribute_goes : {d : ℕ} {k : AttrKind} {x : Attribute} {a b : ℕ} → IsAttribute tokens aliases fits d k x a b
       → (refused : Bool) (spelled : Kind) (end : Attribute → ℕ → Row some_attributes) (y : List Attribute) (e : ℕ)
       → sees tokens spelled a ≡ true → Goes (end x b) y b e → Goes (attribute_row tokens aliases d k a refused spelled end) y a e

@@ -34,7 +34,7 @@ module _ (tokens : List Lexeme) (aliases : Aliases) where
   abbrev Starts : (s : Sort) → Row s → (a b : ℕ) → Option ℕ → Type 0
   Starts s f a b w = forms.Starts (rule tokens) (sees tokens) all s f a b w
 
-  -- A row starts behind a length, or nothing, where it does behind that.
+  -- A row starts after a length, or nothing, where it does after that.
   length_starts : {s : Sort} {d : ℕ} {l : Option Expression} {a m : ℕ} → IsLength tokens aliases all d l a m
       → (end : Option Expression → ℕ → Row s) (b : ℕ) (w : Option ℕ)
       → Starts s (end l m) m b w → Starts s (behind_length tokens aliases d a end) a b w
@@ -44,7 +44,7 @@ module _ (tokens : List Lexeme) (aliases : Aliases) where
       (starts_over (expression_rows tokens aliases all i (omega arith))
       (starts_token (seen tokens aliases 8 n sign.CloseBracket close refl) g))))
 
-  -- A row starts behind any number of storage words where it does behind them all.
+  -- A row starts after any number of storage words where it does after them all.
   storage_starts : {a m : ℕ} → IsStorage tokens aliases a m → {s : Sort} (end : Row s) (b : ℕ) (w : Option ℕ)
       → Starts s end m b w → Starts s (behind_storage tokens aliases a end) a b w
   storage_starts no_storage end b w g = starts_right g
@@ -53,7 +53,7 @@ module _ (tokens : List Lexeme) (aliases : Aliases) where
 
   -- locals ------------------------------------------------------------------------
 
-  -- what stands behind the length of a local's declarator
+  -- what stands after the length of a local's declarator
   abbrev Local : (d : ℕ) → Specified → Declarator → Option Expression → ℕ → Row a_variable
   Local d t c l n =
       either (sees tokens (an_equals aliases) n)
@@ -64,7 +64,7 @@ module _ (tokens : List Lexeme) (aliases : Aliases) where
   abbrev VariableOn : (d : ℕ) → Specified → (a b : ℕ) → Type 0
   VariableOn d t a b = Begins a_variable (variable aliases d t) a (b + 1) None
 
-  -- `=` behind a local that isn't initialised
+  -- `=` after a local that isn't initialised
   equals_on : {d : ℕ} {t : Specified} {c : Declarator} {l : Option Expression} {a m b : ℕ}
       → IsDeclarator tokens aliases c a m → IsLength tokens aliases all d l m b → sees tokens (an_equals aliases) b ≡ true
       → VariableOn d t a b
@@ -72,7 +72,7 @@ module _ (tokens : List Lexeme) (aliases : Aliases) where
       begins_rule (starts_over (declarator_rows tokens aliases all i)
       (length_starts length (Local d t c) (b + 1) None (starts_left (starts_token q starts_here))))
 
-  -- `[` behind a local's name
+  -- `[` after a local's name
   bracket_on : {d : ℕ} {t : Specified} {c : Declarator} {a b : ℕ}
       → IsDeclarator tokens aliases c a b → sees tokens (an_open_bracket aliases) b ≡ true → VariableOn d t a b
   bracket_on i q =
@@ -87,7 +87,7 @@ module _ (tokens : List Lexeme) (aliases : Aliases) where
   unset_ends_or_on false true q q' i no_length = inr (bracket_on i q')
   unset_ends_or_on false bracket q q' i (of_length o fit x close) = inl q
 
-  -- behind a local: it ends, or the next token goes on with it
+  -- after a local: it ends, or the next token goes on with it
   variable_ends_or_on : {d : ℕ} {t : Specified} {x : Declaration} {a b : ℕ} → IsVariable tokens aliases all d t x a b
       → EndsVariable tokens aliases x b ⊎ VariableOn d t a b
   variable_ends_or_on (of_unset i length) = unset_ends_or_on _ _ refl refl i length
@@ -103,14 +103,14 @@ module _ (tokens : List Lexeme) (aliases : Aliases) where
   abbrev VariablesOn : (d : ℕ) → Specified → (a b : ℕ) → Type 0
   VariablesOn d t a b = Begins some_variables (variables aliases d t) a (b + 1) None
 
-  -- A comma behind a last variable makes it one of several.
+  -- A comma after a last variable makes it one of several.
   last_ends_or_on : {d : ℕ} {t : Specified} {x : Declaration} {a b : ℕ} (comma : Bool) → sees tokens (a_comma aliases) b ≡ comma
       → IsVariable tokens aliases all d t x a b → EndsVariables tokens aliases x [] b ⊎ VariablesOn d t a b
   last_ends_or_on true q i = inr (begins_rule (starts_over (variable_rows tokens aliases all i) (starts_left (starts_token q starts_here))))
   last_ends_or_on false q i =
       elim (variable_ends_or_on i) [ inl en ↦ inl (en, q) | inr on ↦ inr (begins_rule (starts_in on)) ]
 
-  -- behind several: the last one ends, or the next token goes on with them
+  -- after several: the last one ends, or the next token goes on with them
   variables_end_or_on : {d : ℕ} {t : Specified} (x : Declaration) (xs : List Declaration) {a b : ℕ}
       → IsVariables tokens aliases all d t (x ∷ xs) a b → EndsVariables tokens aliases x xs b ⊎ VariablesOn d t a b
   variables_end_or_on x [] (of_last_variable i) = last_ends_or_on _ refl i
@@ -163,7 +163,7 @@ module _ (tokens : List Lexeme) (aliases : Aliases) where
       (starts_over (parameters_rows tokens aliases all ps close) (starts_left (starts_in on)))))))
       (attributes_on h xs)
 
-  -- a head behind its storage words
+  -- a head after its storage words
   abbrev Headed : Row a_head
   Headed =
       part a_specifier (specifier aliases) (λ t n. part a_declarator (declarator aliases) (λ c e.

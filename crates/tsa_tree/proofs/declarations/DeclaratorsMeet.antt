@@ -154,7 +154,7 @@ module _ (tokens : List Lexeme) where
   local_over aliases (Some l) (Some x) n h = value_over tokens aliases x n h
 
   module _ (aliases : Aliases) (d : ℕ) (t : Specified) where
-    -- behind a local's length or its name, an initialiser may stand
+    -- after a local's length or its name, an initialiser may stand
     abbrev BehindName : Declarator → Option Expression → (n : ℕ) → Row a_variable
     BehindName c l n =
         either (sees tokens (an_equals aliases) n)

@@ -114,7 +114,7 @@ const_no_int (sign.Keyword key.Const) e = refl
 const_no_int (sign.Keyword _) e = refl
 const_no_int _ e = cc
 
--- Only `unsigned` and `signed` may have an `int` behind them.
+-- Only `unsigned` and `signed` may have an `int` after them.
 pub unsigning : (w : Keyword) (s : Sign) → is_signing (sign.Keyword w) ≡ false → is_keyword w s ≡ true → is_signing s ≡ false
 unsigning key.Unsigned s e h = cc
 unsigning key.Signed s e h = cc
@@ -186,7 +186,7 @@ pub open_brace_no_semicolon : (s : Sign) → nat_eq (mark s) 17 ≡ true → nat
 open_brace_no_semicolon sign.OpenBrace e = refl
 open_brace_no_semicolon _ e = cc
 
--- What stands behind a name makes no function of it.
+-- What stands after a name makes no function of it.
 pub rest_no_open : (s : Sign) → begins_rest s ≡ true → nat_eq (mark s) 6 ≡ false
 rest_no_open sign.Open e = cc
 rest_no_open _ e = refl

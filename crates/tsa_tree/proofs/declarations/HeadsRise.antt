@@ -1,4 +1,4 @@
--- The names in parameters, heads, enumerators and bodies of structs stand one behind the other.
+-- The names in parameters, heads, enumerators and bodies of structs stand one after the other.
 use Rattle.std.proofs.Common.{ℕ, List, ◌∷◌, ◌++◌, Bool, Option, arith}
 use Rattle.tsa_base.specs.Tokens.{Lexeme}
 use Rattle.tsa_tree.specs.declarations.Syntax.{Parameter, EnumConstant, Signature, Head}

@@ -45,21 +45,21 @@ module _ (tokens : List Lexeme) (aliases : Aliases) (fits : ℕ → Bool) where
 
   -- heads -----------------------------------------------------------------------
 
-  -- A row goes on behind any number of storage words where it does behind them all.
+  -- A row goes on after any number of storage words where it does after them all.
   pub storage_goes : {a m : ℕ} → IsStorage tokens aliases a m → {s : Sort} (end : Row s) (x : Node s) (b : ℕ)
       → Goes s end x m b → Goes s (behind_storage tokens aliases a end) x a b
   storage_goes no_storage end x b g = goes_right g
   storage_goes {m = m} (of_storage q i) end x b g =
       goes_left (goes_part (by_rule (goes_token q (storage_goes i (done tt) tt m goes_done))) g)
 
-  -- what stands behind the type of a parameter that begins at `start`, up to before m
+  -- what stands after the type of a parameter that begins at `start`, up to before m
   abbrev Starred : (start : ℕ) → Specified → (m : ℕ) → Bool → Bool → ℕ → Row some_parameters
   Starred start t m p c n =
       either (sees tokens (a_name aliases) n)
       (token (a_name aliases) (parameter_end tokens aliases (parameter tokens aliases t p c (Some (identifier_at tokens n)) m (n + 1)) (n + 1)))
       (parameter_end tokens aliases (parameter tokens aliases t p c None (parameter_start tokens aliases p start m) n) n)
 
-  -- Parameters go on where what stands behind the first one does.
+  -- Parameters go on where what stands after the first one does.
   parameter_on : {x : Parameter} {a m : ℕ} → IsParameter tokens aliases x a m → (ys : List Parameter) (b : ℕ)
       → Goes some_parameters (parameter_end tokens aliases x m) ys m b → Spells some_parameters (parameter_list aliases) ys a b
   parameter_on {a = a} (of_named {t = t} {m = m} {n = n} type star name) ys b g =
@@ -95,7 +95,7 @@ module _ (tokens : List Lexeme) (aliases : Aliases) (fits : ℕ → Bool) where
       (goes_part (parameters_rows i close)
       (attributes_goes tokens aliases fits attrs (λ xs e. done (record { params = ps; attrs = xs })) s b goes_done)))))
 
-  -- a head behind its storage words
+  -- a head after its storage words
   abbrev Headed : Row a_head
   Headed =
       part a_specifier (specifier aliases) (λ t n. part a_declarator (declarator aliases) (λ c e.
@@ -116,7 +116,7 @@ module _ (tokens : List Lexeme) (aliases : Aliases) (fits : ℕ → Bool) where
       (goes_part (members_rows tokens aliases fits i close)
       (attributes_goes tokens aliases fits attrs (λ xs e. done (record { members = ms; attrs = xs })) x b goes_done)))))
 
-  -- Enumerators go on where what stands behind the first one does.
+  -- Enumerators go on where what stands after the first one does.
   constant_on : {x : EnumConstant} {a m : ℕ} → IsConstant tokens aliases fits x a m → (ys : List EnumConstant) (b : ℕ)
       → Goes some_constants (constants_end tokens aliases x m) ys m b → Spells some_constants (constants aliases) ys a b
   constant_on {a = a} (of_name_alone name) ys b g = by_rule (goes_token (sees_name a name) (goes_right g))

@@ -22,7 +22,7 @@ module _ (tokens : List Lexeme) (aliases : Aliases) (bodies : Bool) (m : ℕ) wh
   abbrev NextItem : Row some_items → ℕ → Type 0
   NextItem f n = Next tokens some_items (Ends tokens some_items (item aliases bodies)) f n
 
-  -- behind a struct's body, no attribute stands before its end
+  -- after a struct's body, no attribute stands before its end
   good_structure_end : (xs : List Attribute) (tag : Option Identifier) (n : ℕ) → GoodItem false (structure_end tokens aliases m xs tag) n
   good_structure_end xs tag n =
       (tt, λ body e. ((λ h. plain_no_attribute (sign_at tokens aliases e) (semicolon_plain (sign_at tokens aliases e) h)), (λ h q. tt)))

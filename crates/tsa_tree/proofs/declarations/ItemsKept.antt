@@ -19,7 +19,7 @@ use Rattle.tsa_forms.specs.Form.{done, token, part, either}
 use Rattle.tsa_tree.specs.statements.Syntax.{Statements}
 
 module _ (tokens : List Lexeme) (aliases : Aliases) (fits : ℕ → Bool) where
-  -- Any number of storage words keeps to what comes behind it.
+  -- Any number of storage words keeps to what comes after it.
   pub keeps_behind_storage : (s : Sort) (P : Node s → ℕ → Type 0) (m : ℕ) (end : Row s)
       → ((n : ℕ) → IsStorage tokens aliases m n → Keeps tokens fits s P end n)
       → Keeps tokens fits s P (behind_storage tokens aliases m end) m

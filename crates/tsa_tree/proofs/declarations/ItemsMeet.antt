@@ -132,7 +132,7 @@ module _ (tokens : List Lexeme) where
     (λ e. first),
   )
 
-  -- behind a head's type
+  -- after a head's type
   abbrev OfHead : Aliases → Specified → Row a_head
   OfHead aliases t = part a_declarator (declarator aliases) (λ c e. part a_signature (signature aliases) (λ s f. done (head_of t c s)))
 

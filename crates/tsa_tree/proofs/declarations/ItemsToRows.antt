@@ -59,7 +59,7 @@ module _ (tokens : List Lexeme) (aliases : Aliases) (fits : ℕ → Bool) (bodie
       → Goes some_items (item_row tokens aliases bodies a s) xs a b → Spells some_items (item aliases bodies) xs a b
   item_by a b xs s e g = by_rule (subst (λ s. Goes some_items (item_row tokens aliases bodies a s) xs a b) (sym e) g)
 
-  -- A typedef has the row of the sign behind its first token.
+  -- A typedef has the row of the sign after its first token.
   typedef_by : (a b : ℕ) (xs : List UnitItem) (s : Sign) → sign_at tokens aliases a ≡ sign.Keyword key.Typedef
       → sign_at tokens aliases (a + 1) ≡ s → Goes some_items (typedef_row tokens aliases a s) xs (a + 1) b
       → Spells some_items (item aliases bodies) xs a b
@@ -88,7 +88,7 @@ module _ (tokens : List Lexeme) (aliases : Aliases) (fits : ℕ → Bool) (bodie
   structure_alias_goes {n = n} i name semicolon start xs tag =
       goes_part (struct_body_rows tokens aliases fits i) (goes_token (sees_name n name) (goes_token (sees_semicolon (n + 1) semicolon) goes_done))
 
-  -- the same behind attributes, with a tag or without
+  -- the same after attributes, with a tag or without
   tagged_alias_goes : {tag : Option Identifier} {m n : ℕ} → IsTag tokens aliases tag m n → (start : ℕ) (xs : List Attribute)
       → (ys : List UnitItem) (b : ℕ) → Goes some_items (structure_alias_end tokens aliases start xs tag) ys n b
       → Goes some_items (tagged_alias tokens aliases start xs m) ys m b
@@ -110,7 +110,7 @@ module _ (tokens : List Lexeme) (aliases : Aliases) (fits : ℕ → Bool) (bodie
   enumeration_alias_goes {n = n} i name semicolon start tag =
       goes_part (enum_body_rows tokens aliases fits i) (goes_token (sees_name n name) (goes_token (sees_semicolon (n + 1) semicolon) goes_done))
 
-  -- A row goes on behind a tag, or nothing, where it does behind that, whatever else may stand behind a tag.
+  -- A row goes on after a tag, or nothing, where it does after that, whatever else may stand after a tag.
   tag_goes : {tag : Option Identifier} {a m : ℕ} → IsTag tokens aliases tag a m → (end : Option Identifier → Row some_items)
       → (unnamed named : Bool) (other : Row some_items) (xs : List UnitItem) (b : ℕ) → Goes some_items (end tag) xs m b
       → Goes some_items (either unnamed (end None) (token (a_tag aliases) (either named (end (Some (identifier_at tokens a))) other))) xs a b
@@ -124,7 +124,7 @@ module _ (tokens : List Lexeme) (aliases : Aliases) (fits : ℕ → Bool) (bodie
   alias_goes {n = n} i semicolon t =
       goes_part (declarator_rows tokens aliases fits i) (goes_token (sees_semicolon n semicolon) goes_done)
 
-  -- The rows spell globals behind their type.
+  -- The rows spell globals after their type.
   pub globals_rows : {t : Specified} {xs : List Declaration} {a b : ℕ} → IsDeclarators tokens aliases fits a_global 0 t xs a b
       → sign_at tokens aliases b ≡ sign.Semicolon → Spells some_items (declared aliases bodies t) (map global_item xs) a (b + 1)
   globals_rows (of_last_declarator c i) semicolon =
@@ -135,7 +135,7 @@ module _ (tokens : List Lexeme) (aliases : Aliases) (fits : ℕ → Bool) (bodie
       (goes_part (rest_rows_comma tokens aliases fits i comma)
       (goes_left (goes_only refl (goes_part (declarators_rows tokens aliases fits more semicolon) goes_done))))))
 
-  -- The rows spell a function behind its type.
+  -- The rows spell a function after its type.
   pub function_rows : {t : Specified} {c : Declarator} {s : Signature} {a m b : ℕ} → IsDeclarator tokens aliases c a m
       → IsSignature tokens aliases fits s m b → sign_at tokens aliases b ≡ sign.Semicolon
       → Spells some_items (declared aliases bodies t) (function_item (head_of t c s) ∷ []) a (b + 1)
@@ -147,7 +147,7 @@ module _ (tokens : List Lexeme) (aliases : Aliases) (fits : ℕ → Bool) (bodie
       ended false = goes_token (sees_semicolon b semicolon) goes_done
       ended true = goes_left (goes_token (sees_semicolon b semicolon) goes_done)
 
-  -- The rows spell a function with its body behind its type, where items may have bodies.
+  -- The rows spell a function with its body after its type, where items may have bodies.
   body_rows : {t : Specified} {c : Declarator} {s : Signature} {inner : Statements} {a m e b : ℕ} → bodies ≡ true → IsDeclarator tokens aliases c a m
       → IsSignature tokens aliases fits s m e → sign_at tokens aliases e ≡ sign.OpenBrace → fits 0 ≡ true
       → IsStatements tokens aliases fits 1 inner (e + 1) b → sign_at tokens aliases b ≡ sign.CloseBrace
@@ -169,7 +169,7 @@ module _ (tokens : List Lexeme) (aliases : Aliases) (fits : ℕ → Bool) (bodie
   abbrev Typed : Row some_items
   Typed = part a_specifier (specifier aliases) (λ t n. part some_items (declared aliases bodies t) (λ xs e. done xs))
 
-  -- what stands behind a type that has a row of its own
+  -- what stands after a type that has a row of its own
   abbrev Behind : Base → Bool → ℕ → Row some_items
   Behind base c n = part some_items (declared aliases bodies (record { base = base; is_const = c })) (λ xs e. done xs)
 
@@ -217,7 +217,7 @@ module _ (tokens : List Lexeme) (aliases : Aliases) (fits : ℕ → Bool) (bodie
   untagged (spells.of_enum q tag) e = absurd cc
   untagged (spells.of_alias q) e = ap begins_type q
 
-  -- Where the rows go on behind a type, they spell an item from the type on.
+  -- Where the rows go on after a type, they spell an item from the type on.
   qualified_on : {base : Base} {before behind : Bool} {a m n e : ℕ} → IsConsts tokens aliases before a m → IsBase tokens aliases base m n
       → IsConsts tokens aliases behind n e → (xs : List UnitItem) (b : ℕ)
       → Spells some_items (declared aliases bodies (record { base = base; is_const = before || behind })) xs e b
@@ -237,7 +237,7 @@ module _ (tokens : List Lexeme) (aliases : Aliases) (fits : ℕ → Bool) (bodie
       typed_by a b xs (untagged base refl)
       (goes_right (goes_part (qualified_rows tokens aliases fits no_const base behind) (goes_part g goes_done)))
 
-  -- Where the rows go on behind storage words and a type, they spell an item.
+  -- Where the rows go on after storage words and a type, they spell an item.
   typed_on : {t : Specified} {a m n : ℕ} → IsStorage tokens aliases a m → IsSpecifier tokens aliases t m n → (xs : List UnitItem) (b : ℕ)
       → Spells some_items (declared aliases bodies t) xs n b → Spells some_items (item aliases bodies) xs a b
   typed_on no_storage (of_specifier before base behind) xs b g = qualified_on before base behind xs b g
@@ -245,11 +245,11 @@ module _ (tokens : List Lexeme) (aliases : Aliases) (fits : ℕ → Bool) (bodie
       typed_by a b xs (storage_begins (sign_at tokens aliases a) q)
       (storage_goes tokens aliases fits (of_storage q i) Typed xs b (goes_part (specifier_rows tokens aliases fits type) (goes_part g goes_done)))
 
-  -- what stands behind the tag of a struct or an enum that is given an alias
+  -- what stands after the tag of a struct or an enum that is given an alias
   abbrev Renamed : Base → Bool → ℕ → Row some_items
   Renamed base c n = alias_end tokens aliases (record { base = base; is_const = c }) n
 
-  -- Where the rows go on behind a type, they spell an alias of it.
+  -- Where the rows go on after a type, they spell an alias of it.
   aliased_on : {a : ℕ} {base : Base} {before behind : Bool} {m n e : ℕ} → sign_at tokens aliases a ≡ sign.Keyword key.Typedef
       → IsConsts tokens aliases before (a + 1) m → IsBase tokens aliases base m n → IsConsts tokens aliases behind n e
       → (xs : List UnitItem) (b : ℕ) → Goes some_items (alias_end tokens aliases (record { base = base; is_const = before || behind }) e) xs e b

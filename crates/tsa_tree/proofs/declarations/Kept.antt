@@ -21,7 +21,7 @@ use Rattle.tsa_forms.specs.Form.{done, token, part, either}
 use Rattle.tsa_tree.proofs.declarations.Meanings.{Closed, delimiter_sign, Keeps, Means}
 
 module _ (tokens : List Lexeme) (aliases : Aliases) (fits : ℕ → Bool) where
-  -- Any number of `const` keeps to what comes behind it.
+  -- Any number of `const` keeps to what comes after it.
   pub keeps_behind_consts : (s : Sort) (P : Node s → ℕ → Type 0) (m : ℕ) (end : Bool → ℕ → Row s)
       → ((c : Bool) (n : ℕ) → IsConsts tokens aliases c m n → Keeps tokens fits s P (end c n) n)
       → Keeps tokens fits s P (behind_consts tokens aliases m end) m
@@ -67,7 +67,7 @@ module _ (tokens : List Lexeme) (aliases : Aliases) (fits : ℕ → Bool) where
       → Keeps tokens fits a_specifier (λ t b. IsSpecifier tokens aliases t a b) (rule tokens a_specifier (specifier aliases) a) a
   keeps_specifier a = keeps_specifier_row a (sign_at tokens aliases a) refl
 
-  -- A star, or none, keeps to what comes behind it.
+  -- A star, or none, keeps to what comes after it.
   pub keeps_behind_star : (s : Sort) (P : Node s → ℕ → Type 0) (m : ℕ) (end : Bool → Bool → ℕ → Row s)
       → ((p c : Bool) (n : ℕ) → IsStar tokens aliases p c m n → Keeps tokens fits s P (end p c n) n)
       → Keeps tokens fits s P (behind_star tokens aliases m end) m
@@ -86,7 +86,7 @@ module _ (tokens : List Lexeme) (aliases : Aliases) (fits : ℕ → Bool) where
       (λ p c n. token (a_name aliases) (done (record { pointer = p; pointer_const = c; name = identifier_at tokens n; start = a })))
       (λ p c n i name. of_declarator i (shows_name tokens aliases n name))
 
-  -- The length of an array, or none, keeps to what comes behind it.
+  -- The length of an array, or none, keeps to what comes after it.
   pub keeps_behind_length : (s : Sort) (P : Node s → ℕ → Type 0) (d m : ℕ) (end : Option Expression → ℕ → Row s)
       → ((l : Option Expression) (n : ℕ) → IsLength tokens aliases fits d l m n → Keeps tokens fits s P (end l n) n)
       → Keeps tokens fits s P (behind_length tokens aliases d m end) m
@@ -100,7 +100,7 @@ module _ (tokens : List Lexeme) (aliases : Aliases) (fits : ℕ → Bool) where
     go None m no_length,
   )
 
-  -- Any number of groups of attributes keeps to what comes behind it.
+  -- Any number of groups of attributes keeps to what comes after it.
   pub keeps_behind_attributes : (s : Sort) (P : Node s → ℕ → Type 0) (d m : ℕ) (end : List Attribute → ℕ → Row s)
       → ((xs : List Attribute) (n : ℕ) → IsAttributes tokens aliases fits d xs m n → Keeps tokens fits s P (end xs n) n)
       → Keeps tokens fits s P (behind_attributes tokens aliases d m end) m
@@ -113,7 +113,7 @@ module _ (tokens : List Lexeme) (aliases : Aliases) (fits : ℕ → Bool) where
   keeps_behind_init P a_global d m end go =
       ((λ equals. (tt, λ x n i. go (Some x) n (of_init (shows_equals tokens aliases m equals) i))), go None m no_init)
 
-  -- The comma or the `;` behind a declaration tells whether another one follows.
+  -- The comma or the `;` after a declaration tells whether another one follows.
   keeps_delimiter : (r : Role) (d : ℕ) (t : Specified) (c : Declarator) (a : ℕ) (x : Declaration) (m : ℕ)
       → IsRest tokens aliases fits r d t c x a m
       → Keeps tokens fits a_declared (λ y b. Means tokens fits a_declared (declared_rest aliases r d t c) y a b) (delimiter tokens aliases x m) m
@@ -144,7 +144,7 @@ module _ (tokens : List Lexeme) (aliases : Aliases) (fits : ℕ → Bool) where
       behind_the_length : Option Expression → ℕ → Row a_declared
       behind_the_length l n = behind_attributes tokens aliases d n (behind_the_attributes l)
 
-  -- The sign behind a declaration, by whether another one follows.
+  -- The sign after a declaration, by whether another one follows.
   pub goes_on_comma : (x : Declared) (n : ℕ) → sign_at tokens aliases n ≡ delimiter_sign tokens fits x.goes_on → x.goes_on ≡ true
       → sign_at tokens aliases n ≡ sign.Comma
   goes_on_comma x n q on = subst (λ g. sign_at tokens aliases n ≡ delimiter_sign tokens fits g) on q

@@ -54,7 +54,7 @@ module _ (tokens : List Lexeme) (aliases : Aliases) where
       (local_ends x.ctype.length x.init, ap (λ s. nat_eq (mark s) 10) (ends_there tokens aliases (length tokens) (omega arith)))
   variables_end x (y ∷ ys) = variables_end y ys
 
-  -- Nothing goes on behind the last token.
+  -- Nothing goes on after the last token.
   ends : (p : Part) (x : Node (sort_of p)) → Ends tokens (sort_of p) (call_of p aliases) x (length tokens)
   ends an_item xs = tt
   ends a_head_alone x = ap is_attribute_sign (ends_there tokens aliases (length tokens) (omega arith))

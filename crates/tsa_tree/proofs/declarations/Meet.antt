@@ -20,7 +20,7 @@ module _ (tokens : List Lexeme) where
   pub before : (P : Sign → Type 0) (aliases : Aliases) (m : ℕ) → P (sign_at tokens aliases m) → P (sign_at tokens aliases (m + 1 - 1))
   before P aliases m h = let back : m ≡ m + 1 - 1 = omega arith in subst (λ i. P (sign_at tokens aliases i)) back h
 
-  -- behind a token that is neither `unsigned` nor `signed`, `int` makes no more of the type
+  -- after a token that is neither `unsigned` nor `signed`, `int` makes no more of the type
   pub unsigned_no_more : (aliases : Aliases) (m : ℕ) → is_signing (sign_at tokens aliases m) ≡ false
       → is_signing (sign_at tokens aliases (m + 1 - 1)) ≡ true → is_keyword key.Int (sign_at tokens aliases (m + 1)) ≡ false
   unsigned_no_more aliases m e h =
@@ -32,7 +32,7 @@ module _ (tokens : List Lexeme) where
   settled_declarator aliases m h =
       (declarator_no_keyword key.Const (sign_at tokens aliases m) h, λ q. declarator_no_keyword key.Int (sign_at tokens aliases m) h)
 
-  -- behind a type's first part, `const` may follow
+  -- after a type's first part, `const` may follow
   pub good_behind_consts : {s : Sort} (c : Call s) (aliases : Aliases) (m : ℕ) (end : Bool → ℕ → Row s)
       → (Next tokens s (Ends tokens s c) (end false m) m → is_keyword key.Const (sign_at tokens aliases m) ≡ false)
       → ((n : ℕ) → Next tokens s (Ends tokens s c) (end true n) n → Settled tokens aliases n)

@@ -1,4 +1,4 @@
--- The names in declarations stand one behind the other, the name of a base that several share counted once.
+-- The names in declarations stand one after the other, the name of a base that several share counted once.
 use Rattle.std.proofs.Common.{ℕ, ◌+◌, ◌≡◌, ◌∙◌, ap, sym, refl, subst, List, [], ◌∷◌, ◌++◌, Bool, true, false, Option, Some, None, append_assoc, if◌then◌else◌, arith}
 use Rattle.std.proofs.lemmas.Bool.{eq-eqb}
 use Rattle.tsa_base.specs.Tokens.{Lexeme}
@@ -29,18 +29,18 @@ module _ {tokens : List Lexeme} where
   left_out true x r = no_name (rises-ends r)
   left_out false x r = r
 
-  -- whether the name of a base is counted or not, those that are stand one behind the other
+  -- whether the name of a base is counted or not, those that are stand one after the other
   pub rises-unshared : {a b : ℕ} (before name : Option Identifier) → Rises tokens a b (the_name name) → Rises tokens a b (name_unshared before name)
   rises-unshared before None r = r
   rises-unshared before (Some x) r = left_out (begins_where before x) x r
 
-  -- the name of a base isn't counted behind itself
+  -- the name of a base isn't counted after itself
   pub rises-shared : {a : ℕ} (name : Option Identifier) → Rises tokens a a (name_unshared name name)
   rises-shared None = no_name (omega arith)
   rises-shared {a = a} (Some x) =
       subst (λ (b : Bool). Rises tokens a a (if b then [] else x ∷ [])) (sym (eq-eqb x.span.from x.span.from refl)) (no_name (omega arith))
 
-  -- a declaration whose base has this name, behind another
+  -- a declaration whose base has this name, after another
   counted : (before : Option Identifier) (x : Declaration) {name : Option Identifier} {e a b : ℕ} → name ≡ base_in x
       → Rises tokens e a (name_unshared before name) → Rises tokens a b (names_behind_base x) → Rises tokens e b (names_in_declaration before x)
   counted before x {e = e} {a = a} same u r = rises-then (subst (λ n. Rises tokens e a (name_unshared before n)) same u) (omega arith) r
@@ -60,7 +60,7 @@ module _ {tokens : List Lexeme} {aliases : Aliases} where
   pub rises-specifier : {t : Specified} {a b : ℕ} → IsSpecifier tokens aliases t a b → Rises tokens a b (the_name (name_of_base t.base))
   rises-specifier (of_specifier before base behind) = rises-within (rises-base base) (ahead-consts before) (ahead-consts behind)
 
-  -- the name of a declarator, and what stands behind it
+  -- the name of a declarator, and what stands after it
   pub declared : {c : Declarator} {a m b : ℕ} {xs : List Identifier} → IsDeclarator tokens aliases c a m → Rises tokens m b xs → Rises tokens a b (c.name ∷ xs)
   declared (of_declarator {m = m} star s) r = name_at m (ahead-star star) r
 

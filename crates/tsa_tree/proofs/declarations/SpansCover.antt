@@ -36,7 +36,7 @@ module _ {tokens : List Lexeme} {aliases : Aliases} where
   pub cover-specifier : {t : Specified} {a b : ℕ} → IsSpecifier tokens aliases t a b → Cover tokens a b (span_in_base t.base)
   cover-specifier (of_specifier before base behind) = cover-within (cover-base base) (ahead-consts before) (ahead-consts behind)
 
-  -- a declarator's name, in front of what stands behind it
+  -- a declarator's name, in front of what stands after it
   pub cover-declarator : {c : Declarator} {a m b : ℕ} {ss : List Span} → IsDeclarator tokens aliases c a m → Cover tokens m b ss
       → Cover tokens a b (c.name.span ∷ ss)
   cover-declarator (of_declarator {m = m} star s) r =

@@ -30,7 +30,7 @@ module _ (tokens : List Lexeme) (aliases : Aliases) (fits : ℕ → Bool) where
 
   -- types ---------------------------------------------------------------------
 
-  -- A row goes on behind any number of `const` where it does behind them all.
+  -- A row goes on after any number of `const` where it does after them all.
   pub consts_goes : {v : Bool} {a m : ℕ} → IsConsts tokens aliases v a m → {s : Sort} (end : Bool → ℕ → Row s) (x : Node s) (b : ℕ)
       → Goes s (end v m) x m b → Goes s (behind_consts tokens aliases a end) x a b
   consts_goes no_const end x b g = goes_right g
@@ -49,13 +49,13 @@ module _ (tokens : List Lexeme) (aliases : Aliases) (fits : ℕ → Bool) where
       → Goes a_specifier (specifier_row tokens aliases a s) x a b → Spells a_specifier (specifier aliases) x a b
   specifier_by a b x s e g = by_rule (subst (λ s. Goes a_specifier (specifier_row tokens aliases a s) x a b) (sym e) g)
 
-  -- A base may end a specifier with what stands behind it.
+  -- A base may end a specifier with what stands after it.
   specified_goes : {base : Base} {v : Bool} {a b : ℕ} → IsConsts tokens aliases v a b
       → Goes a_specifier (specified tokens aliases base a) (record { base = base; is_const = v }) a b
   specified_goes {base = base} {v = v} {b = b} i =
       consts_goes i (λ c n. done (record { base = base; is_const = c })) (record { base = base; is_const = v }) b goes_done
 
-  -- The rows spell a base with `const` behind it.
+  -- The rows spell a base with `const` after it.
   pub base_rows : {base : Base} {v : Bool} {a m b : ℕ} → IsBase tokens aliases base a m → IsConsts tokens aliases v m b
       → Spells a_specifier (specifier aliases) (record { base = base; is_const = v }) a b
   base_rows {base = base} {v = v} {a = a} {b = b} (spells.of_int q) i =
@@ -86,7 +86,7 @@ module _ (tokens : List Lexeme) (aliases : Aliases) (fits : ℕ → Bool) where
       specifier_by a b (record { base = base; is_const = v }) sign.TypeName q
       (goes_token (seen tokens aliases 1 a sign.TypeName q refl) (specified_goes i))
 
-  -- The rows spell a base with `const` before and behind it.
+  -- The rows spell a base with `const` before and after it.
   pub qualified_rows : {base : Base} {before behind : Bool} {a m n b : ℕ} → IsConsts tokens aliases before a m
       → IsBase tokens aliases base m n → IsConsts tokens aliases behind n b
       → Spells a_specifier (specifier aliases) (record { base = base; is_const = before || behind }) a b
@@ -100,7 +100,7 @@ module _ (tokens : List Lexeme) (aliases : Aliases) (fits : ℕ → Bool) where
 
   -- declarators -----------------------------------------------------------------
 
-  -- A row goes on behind a star, or nothing, where it does behind that.
+  -- A row goes on after a star, or nothing, where it does after that.
   pub star_goes : {s : Sort} {p c : Bool} {a m : ℕ} → IsStar tokens aliases p c a m
       → (end : Bool → Bool → ℕ → Row s) (x : Node s) (b : ℕ)
       → Goes s (end p c m) x m b → Goes s (behind_star tokens aliases a end) x a b
@@ -117,7 +117,7 @@ module _ (tokens : List Lexeme) (aliases : Aliases) (fits : ℕ → Bool) where
   declarator_rows {c = c} {a = a} {b = b} (of_declarator {m = m} star name) =
       by_rule (star_goes star (Named a) c b (goes_token (seen tokens aliases 2 m sign.Name name refl) goes_done))
 
-  -- A row goes on behind a length, or nothing, where it does behind that.
+  -- A row goes on after a length, or nothing, where it does after that.
   pub length_goes : {s : Sort} {d : ℕ} {l : Option Expression} {a m : ℕ} → IsLength tokens aliases fits d l a m
       → (end : Option Expression → ℕ → Row s) (x : Node s) (b : ℕ)
       → Goes s (end l m) x m b → Goes s (behind_length tokens aliases d a end) x a b
@@ -127,7 +127,7 @@ module _ (tokens : List Lexeme) (aliases : Aliases) (fits : ℕ → Bool) where
       (goes_part (expression_rows tokens aliases fits i (omega arith))
       (goes_token (seen tokens aliases 8 n sign.CloseBracket close refl) g))))
 
-  -- A row goes on behind any number of attributes where it does behind them all.
+  -- A row goes on after any number of attributes where it does after them all.
   pub attributes_goes : {s : Sort} {d : ℕ} {xs : List Attribute} {a m : ℕ} → IsAttributes tokens aliases fits d xs a m
       → (end : List Attribute → ℕ → Row s) (x : Node s) (b : ℕ)
       → Goes s (end xs m) x m b → Goes s (behind_attributes tokens aliases d a end) x a b
@@ -161,7 +161,7 @@ module _ (tokens : List Lexeme) (aliases : Aliases) (fits : ℕ → Bool) where
         by_rule (goes_part (initialiser_rows i) (goes_left (goes_token (seen tokens aliases 9 m sign.Comma comma refl)
         (goes_right (goes_part (initialisers_rows r close) goes_done)))))
 
-  -- A row goes on behind an initialiser with its `=`, or nothing, where it does behind that.
+  -- A row goes on after an initialiser with its `=`, or nothing, where it does after that.
   pub init_goes : {r : Role} {d : ℕ} {v : Option Initialiser} {a m : ℕ} → IsInit tokens aliases fits r d v a m
       → (end : Option Initialiser → ℕ → Row a_declared) (x : Declared) (b : ℕ) → Goes a_declared (end v m) x m b
       → Goes a_declared (behind_init tokens aliases r d a end) x a b
@@ -172,19 +172,19 @@ module _ (tokens : List Lexeme) (aliases : Aliases) (fits : ℕ → Bool) where
 
   -- members and globals -----------------------------------------------------------
 
-  -- the delimiter of a declaration, behind what initialises it
+  -- the delimiter of a declaration, after what initialises it
   abbrev Delimited : Specified → Declarator → Option Expression → List Attribute → Option Initialiser → ℕ → Row a_declared
   Delimited t c l xs i n = delimiter tokens aliases (declaration t c l xs i (span_over tokens c.start n)) n
 
-  -- what stands behind its attributes
+  -- what stands after its attributes
   abbrev Attributed : Role → (d : ℕ) → Specified → Declarator → Option Expression → List Attribute → ℕ → Row a_declared
   Attributed r d t c l xs n = behind_init tokens aliases r d n (Delimited t c l xs)
 
-  -- what stands behind its length
+  -- what stands after its length
   abbrev Measured : Role → (d : ℕ) → Specified → Declarator → Option Expression → ℕ → Row a_declared
   Measured r d t c l n = behind_attributes tokens aliases d n (Attributed r d t c l)
 
-  -- What stands behind a declarator's name is spelled where its delimiter is.
+  -- What stands after a declarator's name is spelled where its delimiter is.
   rest_on : {r : Role} {d : ℕ} {t : Specified} {c : Declarator} {x : Declaration} {a m : ℕ} → IsRest tokens aliases fits r d t c x a m
       → (y : Declared) (b : ℕ) → Goes a_declared (delimiter tokens aliases x m) y m b
       → Spells a_declared (declared_rest aliases r d t c) y a b
@@ -192,7 +192,7 @@ module _ (tokens : List Lexeme) (aliases : Aliases) (fits : ℕ → Bool) where
       by_rule (length_goes length (Measured r d t c) y b
       (attributes_goes attributes (Attributed r d t c l) y b (init_goes init (Delimited t c l xs) y b g)))
 
-  -- The rows spell it with the comma behind it.
+  -- The rows spell it with the comma after it.
   pub rest_rows_comma : {r : Role} {d : ℕ} {t : Specified} {c : Declarator} {x : Declaration} {a b : ℕ}
       → IsRest tokens aliases fits r d t c x a b → sign_at tokens aliases b ≡ sign.Comma
       → Spells a_declared (declared_rest aliases r d t c) (record { declaration = x; goes_on = true }) a (b + 1)
@@ -200,7 +200,7 @@ module _ (tokens : List Lexeme) (aliases : Aliases) (fits : ℕ → Bool) where
       rest_on i (record { declaration = x; goes_on = true }) (b + 1)
       (goes_left (goes_token (seen tokens aliases 9 b sign.Comma comma refl) goes_done))
 
-  -- The rows spell it with the semicolon behind it.
+  -- The rows spell it with the semicolon after it.
   pub rest_rows_semicolon : {r : Role} {d : ℕ} {t : Specified} {c : Declarator} {x : Declaration} {a b : ℕ}
       → IsRest tokens aliases fits r d t c x a b → sign_at tokens aliases b ≡ sign.Semicolon
       → Spells a_declared (declared_rest aliases r d t c) (record { declaration = x; goes_on = false }) a (b + 1)
@@ -229,7 +229,7 @@ module _ (tokens : List Lexeme) (aliases : Aliases) (fits : ℕ → Bool) where
 
   -- locals ------------------------------------------------------------------------
 
-  -- what stands behind the length of a local's declarator
+  -- what stands after the length of a local's declarator
   abbrev Local : (d : ℕ) → Specified → Declarator → Option Expression → ℕ → Row a_variable
   Local d t c l n =
       either (sees tokens (an_equals aliases) n)

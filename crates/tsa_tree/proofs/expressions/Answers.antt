@@ -50,7 +50,7 @@ module _ (tokens : List Lexeme) (aliases : Aliases) where
       let h = both (last_named t) _ l in
       unary_calls tokens aliases h.0 (name_marked _ h.1) (open_marked _ o) sp
 
-  -- behind an operand: it ends, or the next token goes on with it
+  -- after an operand: it ends, or the next token goes on with it
   ended_or_on : (p : Part) (d : ℕ) (t : Expression) (a e : ℕ) → Spells tokens aliases all p d t a e
       → (post lonely opens : Bool) → is_postfix (sign_at tokens aliases e) ≡ post → lone tokens aliases t e ≡ lonely → sees tokens (an_open aliases) e ≡ opens
       → Ended tokens aliases t e ⊎ Begins tokens aliases all p d a (e + 1)

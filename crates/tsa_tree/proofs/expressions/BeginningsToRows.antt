@@ -24,7 +24,7 @@ module _ (tokens : List Lexeme) (aliases : Aliases) (fits : ℕ → Bool) where
   abbrev pub Starts : (s : Sort) → Row s → (a b : ℕ) → Type 0
   Starts s f a b = forms.Starts (rule tokens) (sees tokens) fits s f a b None
 
-  -- Behind an operand and the operators up to `top`, and behind its postfix operators so far.
+  -- Behind an operand and the operators up to `top`, and after its postfix operators so far.
   abbrev Behind : (d k top start : ℕ) → Expression → (m e : ℕ) → Type 0
   Behind d k top start t m e = Starts an_expression (behind tokens aliases fits d k top start t m) m e
 
@@ -110,7 +110,7 @@ module _ (tokens : List Lexeme) (aliases : Aliases) (fits : ℕ → Bool) where
       (starts_limit fit (starts_token (seen tokens aliases 5 a sign.Open q refl)
       (starts_over (expression_rows tokens aliases fits ie (omega arith)) (starts_token (seen tokens aliases 6 b sign.Close close refl) g))))
 
-  -- What goes on behind an operand begins the operand's part.
+  -- What goes on after an operand begins the operand's part.
   postfix_starts : {d : ℕ} {t : Expression} {a b : ℕ} → IsPostfix tokens aliases fits d t a b → (e : ℕ) → After d a t b e
       → Begins an_expression (operand aliases d) a e
   postfix_starts (of_primary p) e g = primary_starts p e g
@@ -121,7 +121,7 @@ module _ (tokens : List Lexeme) (aliases : Aliases) (fits : ℕ → Bool) where
       (starts_over (expression_rows tokens aliases fits ie (omega arith))
       (starts_token (seen tokens aliases 8 b sign.CloseBracket close refl) g)))
 
-  -- What goes on behind an expression, at every level of operators that it leaves, begins the expression's part.
+  -- What goes on after an expression, at every level of operators that it leaves, begins the expression's part.
   expression_starts : {d k : ℕ} {t : Expression} {a b : ℕ} → IsExpression tokens aliases fits d k t a b → k ≤ tightest
       → (low : ℕ) → low ≤ k → (e : ℕ) → ((top : ℕ) → k ≤ top → Behind d low top a t b e)
       → Begins an_expression (expression aliases d low) a e

@@ -1,4 +1,4 @@
--- Where a token behind what is spelled could go on with it, the tokens up to behind that one begin an expression too.
+-- Where a token after what is spelled could go on with it, the tokens up to after that one begin an expression too.
 use Rattle.std.proofs.Common.{ℕ, ◌+◌, ◌-◌, ◌≤◌, ◌≡◌, ◌∙◌, ap, sym, refl, List, true, false, Some, arith, inl, inr}
 use Rattle.std.proofs.lemmas.Bool.{cases_lt}
 use Rattle.tsa_base.specs.Tokens.{Lexeme}
@@ -14,7 +14,7 @@ use Rattle.tsa_tree.proofs.RowFacts.{last_named}
 use Rattle.tsa_forms.specs.Reading.{all}
 
 module _ (tokens : List Lexeme) (aliases : Aliases) where
-  -- an operator behind a whole operand
+  -- an operator after a whole operand
   member_or_index : {d : ℕ} {t : Expression} {a b : ℕ} (s : Sign) → sign_at tokens aliases b ≡ s → is_postfix s ≡ true
       → IsPostfix tokens aliases all d t a b → BeginsUnary tokens aliases all d a (b + 1)
   member_or_index sign.Dot e h p = begins_member {arrow = false} p (ap access e) refl
@@ -32,7 +32,7 @@ module _ (tokens : List Lexeme) (aliases : Aliases) where
   expression_goes_on h (of_unary u) = begins_unary (unary_goes_on h u)
   expression_goes_on h (of_binary l o le f r) = begins_right l o le f (expression_goes_on h r)
 
-  -- an operator behind an expression belongs to it, or to its right operand where it binds tighter
+  -- an operator after an expression belongs to it, or to its right operand where it binds tighter
   pub operator_goes_on : {d k : ℕ} {t : Expression} {a b : ℕ} (op : BinaryOp) → operator (sign_at tokens aliases b) ≡ Some op → k ≤ level op
       → IsExpression tokens aliases all d k t a b → BeginsExpression tokens aliases all d k a (b + 1)
   operator_goes_on op e le (of_unary u) = begins_right (of_unary u) e le refl (begins_unary begins_nothing)

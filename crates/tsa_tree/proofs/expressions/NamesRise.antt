@@ -1,4 +1,4 @@
--- The names in an expression stand one behind the other.
+-- The names in an expression stand one after the other.
 use Rattle.std.proofs.Common.{ℕ, ◌+◌, List, Bool, arith}
 use Rattle.tsa_base.specs.Tokens.{Lexeme}
 use Rattle.tsa_tree.specs.expressions.Syntax.{Expression, Arguments}

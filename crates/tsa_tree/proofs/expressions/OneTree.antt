@@ -1,4 +1,4 @@
--- Two trees that the same tokens spell are equal, whatever stands behind those tokens.
+-- Two trees that the same tokens spell are equal, whatever stands after those tokens.
 use Rattle.std.proofs.Common.{ℕ, ◌<◌, ◌≤◌, ◌≡◌, ◌∙◌, ap, sym, refl, List, [], ◌∷◌, zero, suc, Some, None, length, take, slice_get, arith, nat_eq}
 use Rattle.std.proofs.lemmas.List.{length-take}
 use Rattle.std.proofs.lemmas.Option.{slice_get_past}
@@ -25,7 +25,7 @@ module _ (tokens : List Lexeme) (aliases : Aliases) where
   ended_there t e le =
       (ap is_postfix (ends_there e le), λ l. ap (λ s. nat_eq (mark s) 6) (ends_there e le))
 
-  -- no part goes on behind the last token
+  -- no part goes on after the last token
   pub at_the_end : (p : Part) (d : ℕ) (t : Expression) (e : ℕ) → length tokens ≤ e → Ends tokens rows.an_expression (call_of aliases p d) t e
   at_the_end an_expression d t e le =
       (ended_there t e le, λ o q. let never : None ≡ Some o = sym (ap operator (ends_there e le)) ∙ q in cc)

@@ -30,7 +30,7 @@ module _ (tokens : List Lexeme) (aliases : Aliases) (fits : ℕ → Bool) where
   abbrev pub after : (d start : ℕ) → Expression → ℕ → Row an_expression
   after d start t b = post tokens aliases d start t b (λ x e. done x)
 
-  -- An expression may end behind every operand of it.
+  -- An expression may end after every operand of it.
   pub stop_behind : (d k top start : ℕ) (t : Expression) (b : ℕ) → Goes an_expression (behind d k top start t b) t b b
   stop_behind d k top start t b = go (operator (sign_at tokens aliases b))
     where
@@ -105,7 +105,7 @@ module _ (tokens : List Lexeme) (aliases : Aliases) (fits : ℕ → Bool) where
       (goes_left (goes_limit fit (goes_token (seen tokens aliases 5 (a + 1) sign.Open open_ refl) g))))
 
   mutual
-    -- Where the rows go on behind the tree, at every level of operators that it leaves, they spell what they go on to.
+    -- Where the rows go on after the tree, at every level of operators that it leaves, they spell what they go on to.
     pub expression_on : {d k : ℕ} {t : Expression} {a b : ℕ} → IsExpression tokens aliases fits d k t a b → k ≤ tightest
         → (low : ℕ) → low ≤ k → (x : Expression) (e : ℕ)
         → ((top : ℕ) → k ≤ top → Goes an_expression (behind d low top a t b) x b e)
@@ -137,7 +137,7 @@ module _ (tokens : List Lexeme) (aliases : Aliases) (fits : ℕ → Bool) where
         (goes_limit fit (goes_token (seen tokens aliases row.0 a (sign_at tokens aliases a) refl row.1)
         (goes_part (operand_rows u) goes_done))))
 
-    -- Where the rows go on behind an operand, they spell what they go on to.
+    -- Where the rows go on after an operand, they spell what they go on to.
     pub postfix_on : {d : ℕ} {t : Expression} {a b : ℕ} → IsPostfix tokens aliases fits d t a b → (x : Expression) (e : ℕ)
         → Goes an_expression (after d a t b) x b e → Spells an_expression (operand aliases d) x a e
     postfix_on (of_primary p) x e g = primary_on p x e g

@@ -77,7 +77,7 @@ module _ (tokens : List Lexeme) (aliases : Aliases) (fits : ℕ → Bool) where
   simple_goes d a b x (sign.Keyword w) e h label g = cc
   simple_goes d a b x _ e h label g = g
 
-  -- behind the second `;` of a `for`, where its body goes on
+  -- after the second `;` of a `for`, where its body goes on
   for_end_goes : (d a : ℕ) (i : ForInit) (x : Option Expression) (s : Option Simple) (n e : ℕ) (inner : Statement) (b : ℕ)
       → IsForStep tokens aliases fits (d + 1) s n e → sign_at tokens aliases e ≡ sign.Close
       → ((end : Statement → ℕ → Row a_statement) (y : Statement) → Goes a_statement (end inner b) y b b

@@ -34,7 +34,7 @@ module _ (tokens : List Lexeme) (aliases : Aliases) (fits : ℕ → Bool) where
     abbrev Evaluated : Expression → ℕ → Row a_simple
     Evaluated x n = done (record { simple = evaluation x (span_over tokens a n); ending = by_expression x })
 
-    -- An operand and what goes on behind it are an expression.
+    -- An operand and what goes on after it are an expression.
     whole : (l : Expression) (m : ℕ) → Spells rows.an_expression (operand aliases d) l a m → (y : Expression) (n : ℕ)
         → forms.Goes (rule tokens) (sees tokens) fits rows.an_expression (climb tokens aliases d 0 tightest a l m (λ x e. done x)) y m n
         → IsExpression tokens aliases fits d 0 y a n
@@ -93,13 +93,13 @@ module _ (tokens : List Lexeme) (aliases : Aliases) (fits : ℕ → Bool) where
       ),
     )
 
-  -- A body keeps to what comes behind it.
+  -- A body keeps to what comes after it.
   keeps_body : (P : Statement → ℕ → Type 0) (d m : ℕ) (end : Statement → ℕ → Row a_statement)
       → ((x : Statement) (n : ℕ) → IsBody tokens aliases fits d x m n → Keeps tokens fits a_statement P (end x n) n)
       → Keeps tokens fits a_statement P (body tokens aliases d m end) m
   keeps_body P d m end go = ((λ fit. (tt, λ x n i. go x n (of_body fit i))), never)
 
-  -- An expression in parentheses keeps to what comes behind it.
+  -- An expression in parentheses keeps to what comes after it.
   keeps_test : (P : Statement → ℕ → Type 0) (d m : ℕ) (end : Expression → ℕ → Row a_statement)
       → ((x : Expression) (n : ℕ) → IsTest tokens aliases fits d x m n → Keeps tokens fits a_statement P (end x n) n)
       → Keeps tokens fits a_statement P (test tokens aliases d m end) m
@@ -112,7 +112,7 @@ module _ (tokens : List Lexeme) (aliases : Aliases) (fits : ℕ → Bool) where
     never,
   )
 
-  -- An expression or nothing and its `;` keep to what comes behind them.
+  -- An expression or nothing and its `;` keep to what comes after them.
   keeps_value : (P : Statement → ℕ → Type 0) (d m : ℕ) (end : Option Expression → ℕ → Row a_statement)
       → ((x : Option Expression) (n : ℕ) → IsOptional tokens aliases fits d x m n → sign_at tokens aliases n ≡ sign.Semicolon
       → Keeps tokens fits a_statement P (end x (n + 1)) (n + 1))

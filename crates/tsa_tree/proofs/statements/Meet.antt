@@ -34,7 +34,7 @@ module _ (tokens : List Lexeme) where
     abbrev Evaluated : Expression → ℕ → Row a_simple
     Evaluated x n = done (record { simple = evaluation x (span_over tokens start n); ending = by_expression x })
 
-    -- behind an operand, an operator or the end of the expression
+    -- after an operand, an operator or the end of the expression
     next_climbing : (l : Expression) (m : ℕ) (o : Option BinaryOp) → operator (sign_at tokens aliases m) ≡ o
         → NextSimple (climb_on tokens aliases d 0 tightest start l m Evaluated o) m → Ended tokens aliases l m
     next_climbing l m None e h = h.0
@@ -111,7 +111,7 @@ module _ (tokens : List Lexeme) where
     abbrev NextStatement : Row a_statement → ℕ → Type 0
     NextStatement f n = Next tokens a_statement (Ends tokens a_statement (statement aliases d)) f n
 
-    -- a body, which a statement begins, and what stands behind it
+    -- a body, which a statement begins, and what stands after it
     good_body : (m : ℕ) (end : Statement → ℕ → Row a_statement)
         → ((x : Statement) (n : ℕ) → NextStatement (end x n) n → EndsStatement tokens aliases x n)
         → ((x : Statement) (n : ℕ) → EndsStatement tokens aliases x n → GoodStatement false (end x n) n)

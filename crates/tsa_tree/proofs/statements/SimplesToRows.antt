@@ -88,7 +88,7 @@ module _ (tokens : List Lexeme) (aliases : Aliases) (fits : ℕ → Bool) where
     expression_ends (of_unary u) = unary_ends u
     expression_ends (of_binary {op = o} l q le f r) = let never : Some o ≡ None = sym q ∙ ap operator (at_colon (expression_ends l)) in cc
 
-    -- so no `;` stands behind it
+    -- so no `;` stands after it
     no_simple : {d : ℕ} {x : Simple} {b : ℕ} → IsSimple tokens aliases fits d x a b → sign_at tokens aliases b ≡ sign.Semicolon → ⊥
     no_simple (of_evaluation i) s = let never : sign.Semicolon ≡ sign.Colon = sym s ∙ at_colon (expression_ends i) in cc
     no_simple (of_assignment {op = o} u e i) s = let never : Some o ≡ None = sym e ∙ ap assigns (at_colon (unary_ends u)) in cc
@@ -111,7 +111,7 @@ module _ (tokens : List Lexeme) (aliases : Aliases) (fits : ℕ → Bool) where
     abbrev evaluated : Expression → ℕ → SimplePart
     evaluated x b = record { simple = evaluation x (span_over tokens a b); ending = by_expression x }
 
-    -- What goes on behind an operand does so in a simple statement too.
+    -- What goes on after an operand does so in a simple statement too.
     on_climb : (l x : Expression) (n b : ℕ) (o : Option BinaryOp)
         → Goes an_expression (climb_on tokens aliases d 0 tightest a l n (λ x e. done x) o) x n b
         → Goes a_simple (climb_on tokens aliases d 0 tightest a l n Evaluated o) (evaluated x b) n b
@@ -143,7 +143,7 @@ module _ (tokens : List Lexeme) (aliases : Aliases) (fits : ℕ → Bool) where
     behind_calm l n (sign.Assign o) e = cc
     behind_calm l n _ e = refl
 
-    -- where the expression ends before a plain token, an operator or that token stands behind its first operand
+    -- where the expression ends before a plain token, an operator or that token stands after its first operand
     calm_there : (l x : Expression) (n b : ℕ) (o : Option BinaryOp) → operator (sign_at tokens aliases n) ≡ o
         → Goes an_expression (climb_on tokens aliases d 0 tightest a l n (λ x e. done x) o) x n b
         → is_plain (sign_at tokens aliases b) ≡ true → calm (sign_at tokens aliases n) ≡ true

@@ -93,7 +93,7 @@ module _ {tokens : List Lexeme} {aliases : Aliases} {fits : ℕ → Bool} where
         whole r (omega arith) (omega arith) (omega arith)
     cover-statement (of_for s o f i e x e' n c y) =
         let r = cover-then (cover-for-init i) (omega arith) (cover-then (cover-optional x) (omega arith)
-          (cover-then (cover-for-step n) (omega arith) (cover-body y))) in
+        (cover-then (cover-for-step n) (omega arith) (cover-body y))) in
         let le = cover-ends r in
         whole r (omega arith) (omega arith) (omega arith)
     cover-statement (of_switch s t x) =

@@ -1,4 +1,4 @@
--- The tokens of a text stand in it one behind the other, each inside it.
+-- The tokens of a text stand in it one after the other, each inside it.
 use Rattle.std.proofs.Common.{◌≡◌, ℕ, zero, suc, ◌<◌, ◌≤◌, List, [], ◌∷◌, length, slice_get, Option, None, Some, Ok, refl, arith}
 use Rattle.tsa_base.specs.PieceLaws.{InOrder}
 use Rattle.tsa_base.specs.Tokens.{Lexeme, tokens_of}

@@ -1,4 +1,4 @@
--- Names that stand one behind the other.
+-- Names that stand one after the other.
 use Rattle.std.proofs.Common.{ℕ, ◌+◌, ◌≤◌, List, [], ◌∷◌, ◌++◌, arith}
 use Rattle.tsa_base.specs.Tokens.{Lexeme}
 use Rattle.tsa_tree.specs.expressions.Syntax.{Identifier}
@@ -23,7 +23,7 @@ module _ {tokens : List Lexeme} where
   rises-then (no_name le) le' s = rises-within s (omega arith) (omega arith)
   rises-then (name_at i le r) le' s = name_at i le (rises-then r le' s)
 
-  -- the same where others stand before, between or behind
+  -- the same where others stand before, between or after
   pub rises-next : {a m n e b : ℕ} {xs ys : List Identifier} → Rises tokens a m xs → Rises tokens n e ys → m ≤ n → e ≤ b → Rises tokens a b (xs ++ ys)
   rises-next r s le le' = rises-then r le (rises-within s (omega arith) le')
 

@@ -25,12 +25,12 @@ names-globals before (x ∷ xs) ys =
     ap (λ zs. names_in_declaration before x ++ zs) (names-globals (base_in x) xs ys)
     ∙ sym (append_assoc (names_in_declaration before x) (names_in_declarations (base_in x) xs) (names_in_items (last_base (base_in x) xs) ys))
 
--- the attributes before a tag beside those behind the brace
+-- the attributes before a tag beside those after the brace
 beside : (t ms : List Identifier) (xs ys : List Attribute) (o : List Identifier)
     → ((t ++ ms) ++ names_in_attributes xs) ++ (names_in_attributes ys ++ o) ≡ t ++ (ms ++ (names_in_attributes (xs ++ ys) ++ o))
 beside t ms xs ys o =
     let e : names_in_attributes (xs ++ ys) ++ o ≡ names_in_attributes xs ++ (names_in_attributes ys ++ o) =
-      ap (λ zs. zs ++ o) (names-attributes xs ys) ∙ append_assoc (names_in_attributes xs) (names_in_attributes ys) o in
+    ap (λ zs. zs ++ o) (names-attributes xs ys) ∙ append_assoc (names_in_attributes xs) (names_in_attributes ys) o in
     append_assoc (t ++ ms) (names_in_attributes xs) (names_in_attributes ys ++ o)
     ∙ (append_assoc t ms (names_in_attributes xs ++ (names_in_attributes ys ++ o))
     ∙ ap (λ zs. t ++ (ms ++ zs)) (sym e))
@@ -50,7 +50,7 @@ module _ {text : List ℕ} {tokens : List Lexeme} (order : AreInOrder text token
       (omega arith) (stand-rises order le (rises-then (rises-attributes behind) (omega arith) s)))
 
   module _ {aliases : Aliases} {fits : ℕ → Bool} where
-    -- an item, and those behind it
+    -- an item, and those after it
     stand-item : {w : Bool} {xs : List UnitItem} (ys : List UnitItem) {a m b : ℕ} → b ≤ length tokens → IsItem tokens aliases fits w xs a m
         → ((before : Option Identifier) → Stand tokens m b (names_in_items before ys))
         → (before : Option Identifier) → Stand tokens a b (names_in_items before (xs ++ ys))

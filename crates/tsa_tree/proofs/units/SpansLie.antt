@@ -33,7 +33,7 @@ whole {a = a} {b = b} r le le' =
     cover-last (over a b (omega arith) (omega arith) (omega arith) (cover-within r (omega arith) le'))
 
 module _ {tokens : List Lexeme} {aliases : Aliases} {fits : ℕ → Bool} where
-  -- members and attributes, those before the tag beside those behind the brace
+  -- members and attributes, those before the tag beside those after the brace
   cover-structure : (xs : List Attribute) {body : StructBody} {a m n b : ℕ} {t o : List Span} → Cover tokens a m (spans_in_attributes xs)
       → Cover tokens m n t → IsStructBody tokens aliases fits body n b → {e : ℕ} → Cover tokens b e o
       → Cover tokens a e (t ++ (spans_in_declarations body.members ++ (spans_in_attributes (xs ++ body.attrs) ++ o)))

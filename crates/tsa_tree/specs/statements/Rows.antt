@@ -17,7 +17,7 @@ use Rattle.tsa_tree.specs.statements.Syntax as plain
 use Rattle.tsa_forms.specs.Form.{done, token, part, limit, only, either}
 
 module _ (tokens : List Lexeme) where
-  -- behind an operand at the beginning of an expression or an assignment
+  -- after an operand at the beginning of an expression or an assignment
   abbrev pub simple_behind : (aliases : Aliases) (d start : ℕ) (l : Expression) (m : ℕ) → Sign → Option (Option BinaryOp) → Row a_simple
   simple_behind aliases d start l m (sign.Step op) assigned =
       token (a_step aliases)
@@ -48,14 +48,14 @@ module _ (tokens : List Lexeme) where
   test aliases d m end =
       opens tokens aliases d m (part an_expression (expression aliases (d + 1) 0) (λ x n. token (a_close aliases) (end x (n + 1))))
 
-  -- an expression or nothing, and the `;` behind it
+  -- an expression or nothing, and the `;` after it
   abbrev pub value_or_none : {s : Sort} (aliases : Aliases) (d m : ℕ) → (Option Expression → ℕ → Row s) → Row s
   value_or_none aliases d m end =
       either (sees tokens (a_semicolon aliases) m)
       (token (a_semicolon aliases) (end None (m + 1)))
       (part an_expression (expression aliases d 0) (λ x n. token (a_semicolon aliases) (end (Some x) (n + 1))))
 
-  -- behind the arm of an `if`
+  -- after the arm of an `if`
   abbrev pub if_end : (aliases : Aliases) (d start : ℕ) (x : Expression) (arm : Statement) (n : ℕ) → Row a_statement
   if_end aliases d start x arm n =
       either (sees tokens (a_keyword aliases key.Else) n)
@@ -72,7 +72,7 @@ module _ (tokens : List Lexeme) where
       token (a_semicolon aliases) (done (local_init x)))))
       (part a_simple (simple aliases d) (λ x n. token (a_semicolon aliases) (done (simple_init x.simple)))))
 
-  -- behind the second `;` of a `for`
+  -- after the second `;` of a `for`
   abbrev pub for_end : (aliases : Aliases) (d start : ℕ) → ForInit → Option Expression → (n : ℕ) → Row a_statement
   for_end aliases d start i x n =
       either (sees tokens (a_close aliases) n)

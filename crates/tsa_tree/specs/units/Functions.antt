@@ -1,5 +1,5 @@
 -- The functions of a unit, numbered from 0 in the order of their first declarations.
-use Rattle.std.specs.Prelude.{ℕ, List, [], ◌∷◌, ◌++◌, Bool, ◌&&◌, Some, None, is_some, option_map, slice_get, if◌then◌else◌}
+use Rattle.std.specs.Prelude.{ℕ, List, [], ◌∷◌, ◌++◌, Bool, ◌&&◌, is_some, option_map, slice_get, if◌then◌else◌}
 use Rattle.std.specs.declared.option.Option.{Option}
 use Rattle.std.specs.List.{list_any}
 use Rattle.std.specs.Str.{bytes_eq}
@@ -16,7 +16,7 @@ functions_in (other ∷ items) = functions_in items
 abbrev pub bears : (name : List ℕ) → FnTree → Bool
 bears name f = bytes_eq f.name.text.now name
 
--- each function's first declaration, behind some that were seen
+-- each function's first declaration, after some that were seen
 abbrev pub firsts_behind : (seen functions : List FnTree) → List FnTree
 firsts_behind seen [] = []
 firsts_behind seen (f ∷ functions) =

@@ -1,5 +1,5 @@
 -- All names that a unit declares or uses, each with where it stands. They come in the order of the text, but for the attributes of a
--- struct, which stand before its tag and behind its brace and are one list.
+-- struct, which stand before its tag and after its brace and are one list.
 use Rattle.std.specs.Prelude.{◌≢◌, List, [], ◌∷◌, ◌++◌, Bool, false, Some, None, nat_eq, if◌then◌else◌}
 use Rattle.std.specs.declared.option.Option.{Option}
 use Rattle.tsa_tree.specs.declared.item.Item.{Item}
@@ -71,7 +71,7 @@ abbrev pub names_in_init : Option Initialiser → List Identifier
 names_in_init None = []
 names_in_init (Some x) = names_in_initialiser x
 
--- the name that a declaration declares, and those behind it
+-- the name that a declaration declares, and those after it
 abbrev pub names_behind_base : Declaration → List Identifier
 names_behind_base x = x.name ∷ (names_in_optional x.ctype.length ++ (names_in_attributes x.attrs ++ names_in_init x.init))
 

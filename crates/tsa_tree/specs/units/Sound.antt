@@ -29,7 +29,7 @@ SoundItem aliases (global_item d) = SoundGlobal aliases d
 SoundItem aliases (function_item head) = SoundHead aliases head
 SoundItem aliases (body_item head body close) = SoundHead aliases head × SoundStatements aliases body
 
--- a name of a type is known from the item behind its own one on
+-- a name of a type is known from the item after its own one on
 abbrev pub SoundItems : Aliases → List UnitItem → Type 0
 SoundItems aliases [] = Unit {0}
 SoundItems aliases (item ∷ items) = SoundItem aliases item × SoundItems (aliases ++ names_of_item item) items

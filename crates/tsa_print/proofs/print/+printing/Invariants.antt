@@ -25,7 +25,7 @@ decreases-write_field l = 3 * height (shape l.base.now) + 1
 abbrev pub decreases-write_index : goal.decreases-write_index
 decreases-write_index l = 3 * max (height (shape l.array.now)) (height (shape l.at.now)) + 1
 
--- what is written, and the further arguments behind the separator, is the text of all of them
+-- what is written, and the further arguments after the separator, is the text of all of them
 abbrev pub invariant-write_arguments-each : goal.invariant-write_arguments-each
 invariant-write_arguments-each l =
     record {
