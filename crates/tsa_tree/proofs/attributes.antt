@@ -17,3 +17,4 @@ pub mod Laws
 pub mod Examples
 pub mod NamesRise
 pub mod SpansCover
+pub mod NodesClimb

@@ -24,3 +24,4 @@ pub mod NamesRise
 pub mod SpansCover
 pub mod HeadsRise
 pub mod HeadsCover
+pub mod NodesClimb

@@ -11,3 +11,4 @@ pub mod Examples
 pub mod Trees
 pub mod NamesRise
 pub mod SpansCover
+pub mod NodesClimb

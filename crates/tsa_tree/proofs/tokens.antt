@@ -9,3 +9,4 @@ pub mod Rising
 pub mod Places
 pub mod Standing
 pub mod Covering
+pub mod Climbing

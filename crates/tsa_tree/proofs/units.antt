@@ -6,3 +6,4 @@ pub mod Examples
 pub mod FunctionLaws
 pub mod NamesStand
 pub mod SpansLie
+pub mod NodesClimb

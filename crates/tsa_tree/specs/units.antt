@@ -13,3 +13,4 @@ pub mod SoundLaw
 pub mod Functions
 pub mod Names
 pub mod Spans
+pub mod Order

@@ -13,6 +13,7 @@ ghost use Rattle.tsa_tree.specs.points.Examples.{PointsAreInOrder};
 ghost use Rattle.tsa_tree.specs.units.Examples.{UnitsAreRead};
 ghost use Rattle.tsa_tree.specs.units.Names.{NamesStandApart};
 ghost use Rattle.tsa_tree.specs.units.Spans.{SpansLieInText};
+ghost use Rattle.tsa_tree.specs.units.Order.{NodesRise};
 ghost use Rattle.tsa_tree.specs.declarations.Examples.{DeclarationsAreRead};
 
 /// The rows that readers go by spell the same trees as the productions of the grammar, and the same lists begin them.
@@ -172,6 +173,11 @@ pub fn names_stand_apart()
 /// The span of each node and each name of a unit goes forwards, and lies in the text that the unit is read from.
 pub fn spans_lie_in_text()
     ensures { SpansLieInText }
+{}
+
+/// The nodes of a unit, each before its parts and all in the order of the text, have rising places, and so have the attributes of each struct.
+pub fn nodes_rise()
+    ensures { NodesRise }
 {}
 
 /// Units are read as they are written: a text for each production, and one for each kind of refusal.
