@@ -16,13 +16,27 @@ pub struct Place {
 }
 
 impl Place {
-    ghost use Rattle.std.specs.Prelude.{◌≡◌, ◌++◌, OnOk};
+    ghost use Rattle.std.specs.Prelude.{◌≡◌, ◌++◌, length, take, OnOk, OnErr};
     ghost use Rattle.tsa_base.specs.Places.{place_text};
 
-    /// Appends `L:C: `, both numbers in decimal. A refusal may leave a first part of it.
-    #[tactic(auto, unfolding(crate::specs::Places::place_text))]
+    /// Appends `L:C: `, both numbers in decimal. A refused call leaves the text as it was.
     pub fn append_to(self, text: &mut Vec<u8>) -> Result<(), NoMemory>
-        ensures { OnOk result (text.new.items ≡ text.old.items ++ place_text self) }
+        ensures gives { OnOk result (text.new.items ≡ text.old.items ++ place_text self) }
+        ensures kept { OnErr result (text.new.items ≡ text.old.items) }
+    {
+        let before = text.len();
+        let put = self.append_pieces(text);
+        if put.is_err() {
+            text.truncate(before);
+        }
+        put
+    }
+
+    // The same, where a refusal may leave a first part of it after what the text had.
+    #[tactic(auto, unfolding(crate::specs::Places::place_text))]
+    fn append_pieces(self, text: &mut Vec<u8>) -> Result<(), NoMemory>
+        ensures gives { OnOk result (text.new.items ≡ text.old.items ++ place_text self) }
+        ensures front { OnErr result (take (length text.old.items) text.new.items ≡ text.old.items) }
     {
         let mut digits = Buffer::new();
         text.extend_from_slice(digits.format(self.line).as_bytes())?;

@@ -1,5 +1,6 @@
 -- Lists that grow from after, and outcomes after those that were there before.
-use Rattle.std.proofs.Common.{ℕ, ◌≡◌, ap, sym, refl, Bool, true, false, List, [], ◌∷◌, ◌++◌, map, Ok, Err}
+use Rattle.std.proofs.Common.{ℕ, ◌≡◌, ◌≤◌, ◌∙◌, ap, sym, refl, Bool, true, false, List, [], ◌∷◌, ◌++◌, length, map, take, arith, Ok, Err}
+use Rattle.std.proofs.lemmas.List.{length-take, take-append-le}
 use Rattle.tsa_forms.specs.Reading.{Outcome, then, choose}
 use Rattle.tsa_attr.proofs.Joining.{append-nil, append-append}
 use Rattle.tsa_decl.specs.Outcomes.{after}
@@ -58,3 +59,9 @@ pub after-more : {A : Type 0} (front : List A) (x : A) (r : Outcome (List A))
 unfolding then
 after-more front x (Ok p) = ap (λ ys. Ok (ys, p.1)) (sym (append-append front (x ∷ []) p.0))
 after-more front x (Err e) = refl
+
+-- one more at the end leaves the first part of a list as it was
+pub front_more : {X : Type 0} (old now new : List X) (x : X) → new ≡ now ++ x ∷ [] → take (length old) now ≡ old → take (length old) new ≡ old
+front_more old now new x q h =
+    let within : length old ≤ length now = omega (arith, ap length h, length-take (length old) now) in
+    ap (take (length old)) q ∙ take-append-le (length old) now (x ∷ []) within ∙ h

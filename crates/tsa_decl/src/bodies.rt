@@ -1,5 +1,5 @@
 //! Structs and enums are read from their braces on, and the plain aliases of types (C11 6.7.2.1, 6.7.2.2, 6.7.8).
-ghost use Rattle.std.specs.Prelude.{◌≡◌, ◌≤◌, ◌<◌, length, option_map, IfOk};
+ghost use Rattle.std.specs.Prelude.{◌≡◌, ◌≤◌, ◌<◌, length, option_map, IfOk, OnErr};
 ghost use Rattle.tsa_tree.specs.attributes.Syntax.{attr_shapes};
 ghost use Rattle.tsa_tree.specs.units.Shapes.{item_shapes, HaveTheirPoints};
 ghost use Rattle.tsa_tree.specs.Rows.{alias_end};
@@ -132,6 +132,7 @@ pub fn structure<'a>(
     ensures gives { Gives (λ next. (item_shapes list.new.items, next)) result (after (item_shapes list.old.items) (structure_at (input reader.entry) (named reader.entry) aliased opening.entry.start (attr_shapes attrs.entry.items) (option_map name_shape opening.entry.tag) opening.entry.next)) }
     ensures pointed { IfOk result (λ next. HaveTheirPoints list.old.items → HaveTheirPoints list.new.items) }
     ensures ends { IfOk result (λ next. (opening.entry.next < next) × (next ≤ length reader.entry.tokens.now)) }
+    ensures lent { OnErr result (list.new.items ≡ list.old.items) }
 {
     let body = struct_body(reader, opening.next, attrs)?;
     let alias = alias_name(reader, body.next, aliased)?;
@@ -159,6 +160,7 @@ pub fn enumeration<'a>(
     ensures gives { Gives (λ next. (item_shapes list.new.items, next)) result (after (item_shapes list.old.items) (enumeration_at (input reader.entry) (named reader.entry) aliased opening.entry.start (option_map name_shape opening.entry.tag) opening.entry.next)) }
     ensures pointed { IfOk result (λ next. HaveTheirPoints list.old.items → HaveTheirPoints list.new.items) }
     ensures ends { IfOk result (λ next. (opening.entry.next < next) × (next ≤ length reader.entry.tokens.now)) }
+    ensures lent { OnErr result (list.new.items ≡ list.old.items) }
 {
     let (values, behind) = enum_body(reader, opening.next)?;
     let alias = alias_name(reader, behind, aliased)?;
@@ -184,6 +186,7 @@ pub fn plain_alias<'a>(
     ensures gives { Gives (λ next. (item_shapes list.new.items, next)) result (after (item_shapes list.old.items) (going_items (input reader.entry) (alias_end (input reader.entry) (named reader.entry) (row_type specified.entry) specified.entry.next) specified.entry.next)) }
     ensures pointed { IfOk result (λ next. HaveTheirPoints list.old.items → HaveTheirPoints list.new.items) }
     ensures ends { IfOk result (λ next. (specified.entry.next < next) × (next ≤ length reader.entry.tokens.now)) }
+    ensures lent { OnErr result (list.new.items ≡ list.old.items) }
 {
     let of = declarator_at(reader, specified.next)?;
     let next = semicolon(reader, of.next)?;

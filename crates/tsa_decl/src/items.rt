@@ -1,5 +1,5 @@
 //! Items are read, told by their first tokens: a function up to before its `;` or its body (C11 6.7, 6.9).
-ghost use Rattle.std.specs.Prelude.{◌≡◌, ◌≢◌, ◌+◌, ◌≤◌, ◌<◌, length, [], Bool, Some, None, Err, IfOk, IfSome, IsOkAnd, MatchResult};
+ghost use Rattle.std.specs.Prelude.{◌≡◌, ◌≢◌, ◌+◌, ◌≤◌, ◌<◌, length, [], Bool, Some, None, Err, IfOk, IfSome, IsOkAnd, MatchResult, OnErr};
 ghost use Rattle.tsa_tree.specs.declarations.Shapes.{base_shape};
 ghost use Rattle.tsa_tree.specs.units.Shapes.{item_shapes, HaveTheirPoints};
 ghost use Rattle.tsa_tree.specs.Reads.{read};
@@ -53,7 +53,7 @@ fn with_head<'a>(found: (FnTree<'a>, u32)) -> Begun<'a>
 }
 
 /// One item, at the end of a list: nothing for a tag alone, and several for several globals. A function is left out of the
-/// list, as only its head is read.
+/// list, as only its head is read. A refused call leaves the list as it was.
 #[tactic(auto, using(crate::proofs::ItemLaws::items))]
 pub fn begin_item<'a>(
     reader: Reader<'a, '_>,
@@ -65,6 +65,7 @@ pub fn begin_item<'a>(
     ensures kept { IfOk result (λ begun. begun.head ≢ None → list.new.items ≡ list.old.items) }
     ensures pointed { IfOk result (λ begun. HaveTheirPoints list.old.items → HaveTheirPoints list.new.items) }
     ensures ends { IfOk result (λ begun. (at < begun.next) × (begun.next ≤ length reader.entry.tokens.now)) }
+    ensures lent { OnErr result (list.new.items ≡ list.old.items) }
 {
     match reader.sign(at) {
         Sign::Keyword(Keyword::Struct) => struct_item(reader, at, list),
@@ -86,6 +87,7 @@ fn plain_item<'a>(
     ensures kept { IfOk result (λ begun. begun.head ≢ None → list.new.items ≡ list.old.items) }
     ensures pointed { IfOk result (λ begun. HaveTheirPoints list.old.items → HaveTheirPoints list.new.items) }
     ensures ends { IfOk result (λ begun. (at < begun.next) × (begun.next ≤ length reader.entry.tokens.now)) }
+    ensures lent { OnErr result (list.new.items ≡ list.old.items) }
 {
     let start = behind_storage(reader, at);
     let specified = specifier(reader, start)?;
@@ -104,6 +106,7 @@ fn globals_or_head<'a>(
     ensures kept { IfOk result (λ begun. begun.head ≢ None → list.new.items ≡ list.old.items) }
     ensures pointed { IfOk result (λ begun. HaveTheirPoints list.old.items → HaveTheirPoints list.new.items) }
     ensures ends { IfOk result (λ begun. (specified.entry.next < begun.next) × (begun.next ≤ length reader.entry.tokens.now)) }
+    ensures lent { OnErr result (list.new.items ≡ list.old.items) }
 {
     let of = declarator_at(reader, specified.next)?;
     match reader.sign(of.next) {
@@ -125,6 +128,7 @@ fn declared_of<'a>(
     ensures kept { IfOk result (λ begun. begun.head ≢ None → list.new.items ≡ list.old.items) }
     ensures pointed { IfOk result (λ begun. HaveTheirPoints list.old.items → HaveTheirPoints list.new.items) }
     ensures ends { IfOk result (λ begun. (at < begun.next) × (begun.next ≤ length reader.entry.tokens.now)) }
+    ensures lent { OnErr result (list.new.items ≡ list.old.items) }
 {
     let specified = specified_at(reader, base, at);
     globals_or_head(reader, specified, list)
@@ -141,6 +145,7 @@ fn alias_of<'a>(
     ensures gives { Gives (λ next. (item_shapes list.new.items, next)) result (after (item_shapes list.old.items) (going_items (input reader.entry) (alias_of_row (input reader.entry) (named reader.entry) (base_shape base.entry) at) at)) }
     ensures pointed { IfOk result (λ next. HaveTheirPoints list.old.items → HaveTheirPoints list.new.items) }
     ensures ends { IfOk result (λ next. (at < next) × (next ≤ length reader.entry.tokens.now)) }
+    ensures lent { OnErr result (list.new.items ≡ list.old.items) }
 {
     let specified = specified_at(reader, base, at);
     plain_alias(reader, specified, list)
@@ -170,6 +175,7 @@ fn struct_item<'a>(
     ensures kept { IfOk result (λ begun. begun.head ≢ None → list.new.items ≡ list.old.items) }
     ensures pointed { IfOk result (λ begun. HaveTheirPoints list.old.items → HaveTheirPoints list.new.items) }
     ensures ends { IfOk result (λ begun. (at < begun.next) × (begun.next ≤ length reader.entry.tokens.now)) }
+    ensures lent { OnErr result (list.new.items ≡ list.old.items) }
 {
     let (attrs, behind) = read_more(reader, at + 1, 0, Vec::new(reader.bump))?;
     let tag = tag(reader, behind)?;
@@ -205,6 +211,7 @@ fn enum_item<'a>(
     ensures kept { IfOk result (λ begun. begun.head ≢ None → list.new.items ≡ list.old.items) }
     ensures pointed { IfOk result (λ begun. HaveTheirPoints list.old.items → HaveTheirPoints list.new.items) }
     ensures ends { IfOk result (λ begun. (at < begun.next) × (begun.next ≤ length reader.entry.tokens.now)) }
+    ensures lent { OnErr result (list.new.items ≡ list.old.items) }
 {
     let opening = opening_at(reader, at, at + 1)?;
     if let Some(tag) = used_tag(reader, opening) {
@@ -225,6 +232,7 @@ fn typedef<'a>(
     ensures gives { Gives (λ next. (item_shapes list.new.items, next)) result (after (item_shapes list.old.items) (going_items (input reader.entry) (typedef_row (input reader.entry) (named reader.entry) at (spec_sign (input reader.entry) (named reader.entry) (at + 1))) (at + 1))) }
     ensures pointed { IfOk result (λ next. HaveTheirPoints list.old.items → HaveTheirPoints list.new.items) }
     ensures ends { IfOk result (λ next. (at < next) × (next ≤ length reader.entry.tokens.now)) }
+    ensures lent { OnErr result (list.new.items ≡ list.old.items) }
 {
     match reader.sign(at + 1) {
         Sign::Keyword(Keyword::Struct) => struct_alias(reader, at, list),
@@ -247,6 +255,7 @@ fn struct_alias<'a>(
     ensures gives { Gives (λ next. (item_shapes list.new.items, next)) result (after (item_shapes list.old.items) (going_items (input reader.entry) (structure_alias_row (input reader.entry) (named reader.entry) at) (at + 1 + 1))) }
     ensures pointed { IfOk result (λ next. HaveTheirPoints list.old.items → HaveTheirPoints list.new.items) }
     ensures ends { IfOk result (λ next. (at < next) × (next ≤ length reader.entry.tokens.now)) }
+    ensures lent { OnErr result (list.new.items ≡ list.old.items) }
 {
     let inside = at + 1 + 1;
     let (attrs, behind) = read_more(reader, inside, 0, Vec::new(reader.bump))?;
@@ -271,6 +280,7 @@ fn enum_alias<'a>(
     ensures gives { Gives (λ next. (item_shapes list.new.items, next)) result (after (item_shapes list.old.items) (going_items (input reader.entry) (enumeration_alias_row (input reader.entry) (named reader.entry) at) (at + 1 + 1))) }
     ensures pointed { IfOk result (λ next. HaveTheirPoints list.old.items → HaveTheirPoints list.new.items) }
     ensures ends { IfOk result (λ next. (at < next) × (next ≤ length reader.entry.tokens.now)) }
+    ensures lent { OnErr result (list.new.items ≡ list.old.items) }
 {
     let opening = opening_at(reader, at, at + 1 + 1)?;
     if let Some(tag) = used_tag(reader, opening) {

@@ -1,5 +1,5 @@
 //! Lists of members and globals are read, a declarator at a time (C11 6.7.2.1, 6.7).
-ghost use Rattle.std.specs.Prelude.{◌≤◌, ◌<◌, length as count, IfOk};
+ghost use Rattle.std.specs.Prelude.{◌≡◌, ◌≤◌, ◌<◌, length as count, take, IfOk, OnErr};
 ghost use Rattle.tsa_tree.specs.declarations.Spelling.{a_member};
 ghost use Rattle.tsa_tree.specs.declarations.Shapes.{decl_shapes};
 ghost use Rattle.tsa_tree.specs.units.Shapes.{item_shapes, HaveTheirPoints};
@@ -76,8 +76,34 @@ pub fn members<'a>(
     }
 }
 
-/// Globals, from after their first declarator on, at the end of a list of items, and their `;`.
+/// Globals, from after their first declarator on, at the end of a list of items, and their `;`. A refused call may leave some
+/// of them after the items that the list had.
 #[tactic(auto, using(crate::proofs::GlobalLaws::lists))]
+fn append_globals<'a>(
+    reader: Reader<'a, '_>,
+    specified: Specified<'a>,
+    first: Declarator<'a>,
+    list: &mut Vec<Item<'a>>,
+) -> Result<u32, SyntaxRefusal>
+    requires within { first.next ≤ count reader.tokens.now }
+    ensures gives { Gives (λ next. (item_shapes list.new.items, next)) result (after (item_shapes list.old.items) (globals_at (input reader.entry) (named reader.entry) (row_type specified.entry) (row_declarator first.entry) first.entry.next)) }
+    ensures pointed { IfOk result (λ next. HaveTheirPoints list.old.items → HaveTheirPoints list.new.items) }
+    ensures ends { IfOk result (λ next. (first.entry.next < next) × (next ≤ count reader.entry.tokens.now)) }
+    ensures front { OnErr result (take (count list.old.items) list.new.items ≡ list.old.items) }
+{
+    let mut of = first;
+    'globals: loop {
+        let declared = declared_rest(reader, Role::Global, specified, of)?;
+        keep_global(list, declared.decl)?;
+        if !declared.goes_on {
+            return Ok(declared.next);
+        }
+        of = declarator_at(reader, declared.next)?;
+    }
+}
+
+/// Globals, from after their first declarator on, at the end of a list of items, and their `;`. A refused call leaves the
+/// list as it was.
 pub fn globals<'a>(
     reader: Reader<'a, '_>,
     specified: Specified<'a>,
@@ -88,14 +114,14 @@ pub fn globals<'a>(
     ensures gives { Gives (λ next. (item_shapes list.new.items, next)) result (after (item_shapes list.old.items) (globals_at (input reader.entry) (named reader.entry) (row_type specified.entry) (row_declarator first.entry) first.entry.next)) }
     ensures pointed { IfOk result (λ next. HaveTheirPoints list.old.items → HaveTheirPoints list.new.items) }
     ensures ends { IfOk result (λ next. (first.entry.next < next) × (next ≤ count reader.entry.tokens.now)) }
+    ensures lent { OnErr result (list.new.items ≡ list.old.items) }
 {
-    let mut of = first;
-    'globals: loop {
-        let declared = declared_rest(reader, Role::Global, specified, of)?;
-        keep_global(list, declared.decl)?;
-        if !declared.goes_on {
-            return Ok(declared.next);
+    let before = list.len();
+    match append_globals(reader, specified, first, list) {
+        Ok(next) => Ok(next),
+        Err(refusal) => {
+            list.truncate(before);
+            Err(refusal)
         }
-        of = declarator_at(reader, declared.next)?;
     }
 }

@@ -26,6 +26,7 @@ pub fn keep<T: Copy, A: Allocator>(list: &mut Vec<T, A>, item: T) -> Result<(), 
 /// One item more at the end of a list, a global.
 pub fn keep_global<'a>(list: &mut Vec<Item<'a>>, decl: Decl<'a>) -> Result<(), SyntaxRefusal>
     ensures gives { OnOk result (list.new.items ≡ list.old.items ++ Item.Global decl.entry ∷ []) }
+    ensures kept { OnErr result (list.new.items ≡ list.old.items) }
     ensures memory { OnErr result (result ≡ Err SyntaxRefusal.NoMemory) }
 {
     keep(list, Item::Global(decl))
@@ -37,6 +38,7 @@ pub fn keep_structure<'a>(
     item: StructDef<'a>,
 ) -> Result<(), SyntaxRefusal>
     ensures gives { OnOk result (list.new.items ≡ list.old.items ++ Item.Structure item.entry ∷ []) }
+    ensures kept { OnErr result (list.new.items ≡ list.old.items) }
     ensures memory { OnErr result (result ≡ Err SyntaxRefusal.NoMemory) }
 {
     keep(list, Item::Structure(item))
@@ -48,6 +50,7 @@ pub fn keep_enumeration<'a>(
     item: EnumDef<'a>,
 ) -> Result<(), SyntaxRefusal>
     ensures gives { OnOk result (list.new.items ≡ list.old.items ++ Item.Enumeration item.entry ∷ []) }
+    ensures kept { OnErr result (list.new.items ≡ list.old.items) }
     ensures memory { OnErr result (result ≡ Err SyntaxRefusal.NoMemory) }
 {
     keep(list, Item::Enumeration(item))
@@ -56,6 +59,7 @@ pub fn keep_enumeration<'a>(
 /// One item more at the end of a list, an alias.
 pub fn keep_alias<'a>(list: &mut Vec<Item<'a>>, item: AliasDef<'a>) -> Result<(), SyntaxRefusal>
     ensures gives { OnOk result (list.new.items ≡ list.old.items ++ Item.Alias item.entry ∷ []) }
+    ensures kept { OnErr result (list.new.items ≡ list.old.items) }
     ensures memory { OnErr result (result ≡ Err SyntaxRefusal.NoMemory) }
 {
     keep(list, Item::Alias(item))
@@ -64,6 +68,7 @@ pub fn keep_alias<'a>(list: &mut Vec<Item<'a>>, item: AliasDef<'a>) -> Result<()
 /// One item more at the end of a list, a function.
 pub fn keep_function<'a>(list: &mut Vec<Item<'a>>, head: &FnTree<'a>) -> Result<(), SyntaxRefusal>
     ensures gives { OnOk result (list.new.items ≡ list.old.items ++ Item.Function head.now ∷ []) }
+    ensures kept { OnErr result (list.new.items ≡ list.old.items) }
     ensures memory { OnErr result (result ≡ Err SyntaxRefusal.NoMemory) }
 {
     keep(list, Item::Function(*head))
