@@ -16,8 +16,9 @@ use Rattle.tsa_expr.specs.declared.refusal.SyntaxRefusal.{SyntaxRefusal}
 use Rattle.tsa_expr.specs.Gives.{Fails, Leads}
 use Rattle.tsa_expr.proofs.Answering.{fails_then, fails_same}
 use Rattle.tsa_attr.proofs.Joining.{token-law}
-use Rattle.tsa_decl.specs.Outcomes.{after, finished, one_token}
-use Rattle.tsa_decl.proofs.ListLaws.{map-push, after-over}
+use Rattle.tsa_local.specs.Outcomes.{after, one_token}
+use Rattle.tsa_decl.specs.Outcomes.{finished}
+use Rattle.tsa_local.proofs.ListLaws.{map-push, after-over}
 
 -- what a `?` passes on
 pub leads_failed : {X Y Z : Type 0} (view : X → Y × ℕ) (r : Result X SyntaxRefusal) (e : SyntaxRefusal) (o : Outcome Z) (rest : Y → ℕ → Outcome Z)

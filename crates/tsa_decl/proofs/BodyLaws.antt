@@ -26,11 +26,12 @@ use Rattle.tsa_expr.specs.Gives.{Fails, Gives}
 use Rattle.tsa_expr.proofs.Answering.{fails_then, fails_same}
 use Rattle.tsa_attr.proofs.Joining.{then-then, then-same, token-law, passed_at}
 use Rattle.tsa_attr.specs.Outcomes as attributes
-use Rattle.tsa_decl.specs.Outcomes.{after, going_items, one_token, opening_brace, name_at, tag_at, body_at, alias_name_at, opening_at, structure_at, enumeration_at}
+use Rattle.tsa_local.specs.Outcomes.{after, one_token, opening_brace, name_at, tag_at}
+use Rattle.tsa_decl.specs.Outcomes.{going_items, body_at, alias_name_at, opening_at, structure_at, enumeration_at}
 use Rattle.tsa_decl.proofs.EnumeratorLaws.{brace_at}
-use Rattle.tsa_decl.proofs.ListLaws.{map-push, after-nothing}
-use Rattle.tsa_decl.proofs.Pieces.{attributes_then}
-use Rattle.tsa_decl.proofs.TokenLaws.{not_open_brace}
+use Rattle.tsa_local.proofs.ListLaws.{map-push, after-nothing}
+use Rattle.tsa_local.proofs.Pieces.{attributes_then}
+use Rattle.tsa_local.proofs.TokenLaws.{not_open_brace}
 
 -- what a `?` passes on
 pub gives_failed : {X Y : Type 0} (view : X → Y × ℕ) (r : Result X SyntaxRefusal) (e : SyntaxRefusal) (o : Outcome Y)

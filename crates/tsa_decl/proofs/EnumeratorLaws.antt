@@ -19,10 +19,11 @@ use Rattle.tsa_expr.specs.declared.refusal.SyntaxRefusal.{SyntaxRefusal}
 use Rattle.tsa_expr.specs.Gives.{Fails}
 use Rattle.tsa_expr.proofs.Answering.{fails_then, fails_same, gives_same, then_done, not_comma}
 use Rattle.tsa_attr.proofs.Joining.{opens-law}
-use Rattle.tsa_decl.specs.Outcomes.{after, going, opening_brace, name_at, constant_at}
-use Rattle.tsa_decl.proofs.ListLaws.{map-push, after-nothing, after-over, after-more}
-use Rattle.tsa_decl.proofs.TokenLaws.{not_equals}
-use Rattle.tsa_decl.proofs.ValueLaws.{not_close_brace}
+use Rattle.tsa_local.specs.Outcomes.{after, going, opening_brace, name_at}
+use Rattle.tsa_decl.specs.Outcomes.{constant_at}
+use Rattle.tsa_local.proofs.ListLaws.{map-push, after-nothing, after-over, after-more}
+use Rattle.tsa_local.proofs.TokenLaws.{not_equals}
+use Rattle.tsa_local.proofs.ValueLaws.{not_close_brace}
 
 abbrev named : Identifier → Option Expression → EnumConstant
 named name v = record { name = name; value = v }

@@ -15,8 +15,8 @@ use Rattle.tsa_expr.specs.declared.refusal.SyntaxCode.TheVariants.{SY1, AT1, AT2
 use Rattle.tsa_expr.specs.Gives.{Fails, Gives}
 use Rattle.tsa_expr.proofs.Answering.{fails_same}
 use Rattle.tsa_attr.specs.Outcomes.{IsOfAttributes}
-use Rattle.tsa_decl.specs.Outcomes.{after}
-use Rattle.tsa_decl.proofs.ListLaws.{after-nothing}
+use Rattle.tsa_local.specs.Outcomes.{after}
+use Rattle.tsa_local.proofs.ListLaws.{after-nothing}
 
 given_by : {Y : Type 0} (e : SyntaxRefusal) (r : Outcome Y) → Fails e r → IsOfAttributes e
 given_by (At SY1 token) r h = tt

@@ -19,8 +19,9 @@ use Rattle.tsa_expr.specs.declared.refusal.SyntaxRefusal.{SyntaxRefusal}
 use Rattle.tsa_expr.specs.Gives.{Fails}
 use Rattle.tsa_expr.proofs.Answering.{fails_then, fails_same, gives_same}
 use Rattle.tsa_attr.proofs.Joining.{then-then, then-same}
-use Rattle.tsa_decl.specs.Outcomes.{after, globals_at}
-use Rattle.tsa_decl.proofs.ListLaws.{map-push, after-over, after-more}
+use Rattle.tsa_local.specs.Outcomes.{after}
+use Rattle.tsa_decl.specs.Outcomes.{globals_at}
+use Rattle.tsa_local.proofs.ListLaws.{map-push, after-over, after-more}
 
 abbrev as_items : List Declaration → ℕ → Outcome (List UnitItem)
 as_items xs e = Ok (map global_item xs, e)

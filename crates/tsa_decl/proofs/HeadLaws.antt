@@ -10,14 +10,15 @@ use Rattle.tsa_tree.specs.attributes.Syntax.{Attribute}
 use Rattle.tsa_tree.specs.attributes.Answers.{read_any}
 use Rattle.tsa_tree.specs.declarations.Syntax.{Specified, Declarator, Parameter, Signature, Head, head_of}
 use Rattle.tsa_tree.specs.Reads.{read}
-use Rattle.tsa_tree.specs.Rows.{Sort, some_parameters, a_skip, a_specifier, a_declarator, a_signature, a_head, Row, parameters, storage, specifier, declarator, signature, head, an_open, sees, opens, behind_attributes}
+use Rattle.tsa_tree.specs.Rows.{Sort, some_parameters, a_skip, a_specifier, a_declarator, a_signature, a_head, Row, parameters, storage, specifier, declarator, signature, head, an_open, sees, opens, behind_attributes, behind_storage}
 use Rattle.tsa_tree.specs.tokens.Signs.{Aliases, sign_at, is_storage}
 use Rattle.tsa_expr.specs.declared.refusal.SyntaxRefusal.{SyntaxRefusal}
 use Rattle.tsa_expr.specs.Gives.{Fails}
 use Rattle.tsa_expr.proofs.Answering.{fails_then, fails_same, gives_same, then_done}
 use Rattle.tsa_attr.proofs.Joining.{opens-law, then-same}
-use Rattle.tsa_decl.specs.Outcomes.{going, opening, storage_at, head_end_at}
-use Rattle.tsa_decl.proofs.Pieces.{storage_then, attributes_then}
+use Rattle.tsa_local.specs.Outcomes.{going, opening}
+use Rattle.tsa_decl.specs.Outcomes.{storage_at, head_end_at}
+use Rattle.tsa_local.proofs.Pieces.{option-law, attributes_then}
 
 abbrev signed : List Parameter → List Attribute → Signature
 signed ps xs = record { params = ps; attrs = xs }
@@ -38,6 +39,13 @@ module _ (ts : List Lexeme) (aliases : Aliases) where
   storage_more m e =
       chosen _ _ _ e ∙ read_steps ts a_skip (storage aliases) m ∙ chosen _ _ _ e
       ∙ word-law (is_storage (sign_at ts aliases (m + 1))) (m + 1) (read ts a_skip (storage aliases) (m + 1))
+
+  -- what follows storage words
+  pub storage_then : (s : Sort) (m : ℕ) (end : Row s)
+      → going ts s (behind_storage ts aliases m end) m ≡ then (storage_at ts aliases m) (λ u n. going ts s end n)
+  unfolding storage_at
+  storage_then s m end =
+      option-law (is_storage (sign_at ts aliases m)) (read ts a_skip (storage aliases) m) tt m (λ u n. going ts s end n)
 
   -- parameters and attributes
   opened_at : (s : Sort) (d m : ℕ) (rest : Row s) → going ts s (opens ts aliases d m rest) m ≡ then (opening ts aliases d m) (λ u n. going ts s rest (m + 1))
@@ -89,7 +97,7 @@ module _ (ts : List Lexeme) (aliases : Aliases) where
   head_at : (m n : ℕ) → storage_at ts aliases m ≡ Ok (tt, n) → read ts a_head (head aliases) m ≡ behind_words n
   head_at m n h =
       read_steps ts a_head (head aliases) m
-      ∙ storage_then ts aliases a_head m
+      ∙ storage_then a_head m
       (part a_specifier (specifier aliases) (λ t n. part a_declarator (declarator aliases) (λ c e. part a_signature (signature aliases) (λ s f. done (head_of t c s)))))
       ∙ goes _ (λ u n. behind_words n) tt n h
 

@@ -21,8 +21,10 @@ use Rattle.tsa_expr.specs.declared.refusal.SyntaxRefusal.{SyntaxRefusal}
 use Rattle.tsa_expr.specs.Gives.{Fails}
 use Rattle.tsa_expr.proofs.Answering.{fails_then, fails_same, gives_same, not_open, then_done}
 use Rattle.tsa_attr.proofs.Joining.{then-then, then-same, then-ok}
-use Rattle.tsa_decl.specs.Outcomes.{after, finished, going_items, storage_at, specified_at, globals_at, head_end_at, other_item_at}
-use Rattle.tsa_decl.proofs.Pieces.{consts_then, storage_then}
+use Rattle.tsa_local.specs.Outcomes.{after, specified_at}
+use Rattle.tsa_decl.specs.Outcomes.{finished, going_items, storage_at, globals_at, head_end_at, other_item_at}
+use Rattle.tsa_local.proofs.Pieces.{consts_then}
+use Rattle.tsa_decl.proofs.HeadLaws.{storage_then}
 
 head-law : {B : Type 0} (r : Outcome Signature) (make : Signature → Head) (go : Head → ℕ → Outcome B)
     → then r (λ s n. go (make s) n) ≡ then (then r (λ s n. Ok (make s, n))) go

@@ -1,17 +1,8 @@
-pub mod Pieces
-pub mod ListLaws
-pub mod TokenLaws
-pub mod ValueLaws
-pub mod DeclaratorLaws
 pub mod EnumeratorLaws
 pub mod ParameterLaws
 pub mod HeadLaws
-pub mod TypeLaws
-pub mod DelimiterLaws
-pub mod DeclaredLaws
 pub mod MemberLaws
 pub mod GlobalLaws
-pub mod LocalLaws
 pub mod BegunLaws
 pub mod BodyLaws
 pub mod ItemLaws

@@ -15,8 +15,8 @@ use Rattle.tsa_expr.specs.declared.refusal.SyntaxRefusal.{SyntaxRefusal}
 use Rattle.tsa_expr.specs.Gives.{Fails}
 use Rattle.tsa_expr.proofs.Answering.{fails_then, fails_same, gives_same, then_done}
 use Rattle.tsa_attr.proofs.Joining.{then-same}
-use Rattle.tsa_decl.specs.Outcomes.{after}
-use Rattle.tsa_decl.proofs.ListLaws.{map-push, after-over, after-then, after-after, after-none, after-more}
+use Rattle.tsa_local.specs.Outcomes.{after}
+use Rattle.tsa_local.proofs.ListLaws.{map-push, after-over, after-then, after-after, after-none, after-more}
 
 module _ (ts : List Lexeme) (aliases : Aliases) where
   -- after a declaration and its comma or `;`

@@ -24,9 +24,10 @@ use Rattle.tsa_expr.specs.declared.refusal.SyntaxRefusal.{SyntaxRefusal}
 use Rattle.tsa_expr.specs.Gives.{Fails}
 use Rattle.tsa_expr.proofs.Answering.{fails_then, fails_same, gives_same, then_done, not_name, not_comma, not_close}
 use Rattle.tsa_attr.proofs.Joining.{then-then, then-same}
-use Rattle.tsa_decl.specs.Outcomes.{after, going, parameter_with, star_at, parameter_by, parameter_at}
-use Rattle.tsa_decl.proofs.ListLaws.{map-push, after-nothing, after-over, after-more}
-use Rattle.tsa_decl.proofs.Pieces.{star_then}
+use Rattle.tsa_local.specs.Outcomes.{after, going, star_at}
+use Rattle.tsa_decl.specs.Outcomes.{parameter_with, parameter_by, parameter_at}
+use Rattle.tsa_local.proofs.ListLaws.{map-push, after-nothing, after-over, after-more}
+use Rattle.tsa_local.proofs.Pieces.{star_then}
 
 -- a name, or none, and what follows
 named-law : {B : Type 0} (b : Bool) (x y : Parameter) (m : ℕ) (f : Parameter → ℕ → Outcome B)

@@ -23,8 +23,9 @@ use Rattle.tsa_expr.specs.Gives.{Fails}
 use Rattle.tsa_expr.proofs.Answering.{fails_then, fails_same, gives_same}
 use Rattle.tsa_attr.proofs.Joining.{append-nil, after-nothing}
 use Rattle.tsa_attr.specs.Outcomes as marks
-use Rattle.tsa_decl.specs.Outcomes.{after, going_items, tag_at, opening_at, structure_at, enumeration_at}
-use Rattle.tsa_decl.proofs.TokenLaws.{not_open_brace, not_semicolon}
+use Rattle.tsa_local.specs.Outcomes.{after, tag_at}
+use Rattle.tsa_decl.specs.Outcomes.{going_items, opening_at, structure_at, enumeration_at}
+use Rattle.tsa_local.proofs.TokenLaws.{not_open_brace, not_semicolon}
 
 -- a tag, and what depends on it
 tag-law : (b : Bool) (m : ℕ) (tag : Identifier) (x : Outcome (List UnitItem)) (go : Identifier → ℕ → Outcome (List UnitItem)) → x ≡ go tag (m + 1)

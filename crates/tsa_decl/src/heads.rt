@@ -1,26 +1,25 @@
 //! The head of a function is read: its storage, its result, its name, its parameters and its attributes (C11 6.7.6.3, 6.9.1).
-ghost use Rattle.std.specs.Prelude.{◌≡◌, ◌≤◌, ◌<◌, length, option_map, [], None, Ok, IfOk};
+ghost use Rattle.std.specs.Prelude.{◌≡◌, ◌≢◌, ◌+◌, ◌≤◌, ◌<◌, ◌&&◌, length, option_map, [], None, Ok, IfOk};
 ghost use Rattle.tsa_tree.specs.declarations.Syntax.{head_of};
 ghost use Rattle.tsa_tree.specs.declarations.Shapes.{param_shape, param_shapes, head_shape};
 ghost use Rattle.tsa_tree.specs.Reads.{read};
 ghost use Rattle.tsa_tree.specs.Rows.{some_parameters, a_signature, a_head, parameter_list as list_call, parameters as parameters_call, signature as signature_call, head as head_call};
 ghost use Rattle.tsa_tree.specs.expressions.Shapes.{name_shape};
-ghost use Rattle.tsa_tree.specs.tokens.Signs.{is_storage as spec_storage};
+ghost use Rattle.tsa_tree.specs.tokens.Signs.{sign_at as spec_sign, is_storage as spec_storage, is_void, is_close};
 ghost use Rattle.tsa_expr.specs.Source.{input, named};
 ghost use Rattle.tsa_expr.specs.Gives.{Gives};
-ghost use Rattle.tsa_decl.specs.Outcomes.{after, parameter_with, storage_at, parameter_at as spec_parameter, head_end_at};
-ghost use Rattle.tsa_decl.specs.Seen.{seen_parameter, seen_signature, row_type, row_declarator, row_signature};
+ghost use Rattle.tsa_local.specs.Outcomes.{after};
+ghost use Rattle.tsa_decl.specs.Outcomes.{parameter_with, storage_at, parameter_at as spec_parameter, head_end_at};
+ghost use Rattle.tsa_local.specs.Seen.{row_type, row_declarator};
+ghost use Rattle.tsa_decl.specs.Seen.{seen_parameter, seen_signature, row_signature};
 
-use crate::declarator::Declarator;
-use crate::declarators::{Star, declarator_at, star_at};
-use crate::declared::ctype;
-use crate::nodes::{keep, listed};
-use crate::types::{Specified, specifier};
-use crate::view::{is_lone_void, open};
 use bumpalo::Bump;
 use tsa_attr::read_groups;
 use tsa_base::Span;
 use tsa_expr::{Reader, SyntaxCode, SyntaxRefusal, refuse};
+use tsa_local::{
+    Declarator, Specified, Star, ctype, declarator_at, keep, listed, open, specifier, star_at,
+};
 use tsa_tree::attr::Attr;
 use tsa_tree::decl::CType;
 use tsa_tree::expr::Name;
@@ -131,6 +130,20 @@ fn parameter_list<'a>(
             Sign::Close => return Ok(inner.next + 1),
             _ => return Err(refuse(SyntaxCode::SY1, inner.next)),
         }
+    }
+}
+
+/// Whether a sign that stands at a place is that of `void` alone before a closing parenthesis.
+pub fn is_lone_void(reader: Reader<'_, '_>, at: u32, sign: Sign) -> bool
+    requires within { sign ≢ Sign.End → at < length reader.tokens.now }
+    ensures { result ≡ (is_void sign && is_close (spec_sign (input reader.entry) (named reader.entry) (at + 1))) }
+{
+    match sign {
+        Sign::Keyword(Keyword::Void) => match reader.sign(at + 1) {
+            Sign::Close => true,
+            _ => false,
+        },
+        _ => false,
     }
 }
 

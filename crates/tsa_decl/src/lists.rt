@@ -7,17 +7,16 @@ ghost use Rattle.tsa_tree.specs.Reads.{read};
 ghost use Rattle.tsa_tree.specs.Rows.{some_declarations, declarators as declarators_call, member_line as line_call, members as members_call};
 ghost use Rattle.tsa_expr.specs.Source.{input, named};
 ghost use Rattle.tsa_expr.specs.Gives.{Gives};
-ghost use Rattle.tsa_decl.specs.Outcomes.{after, globals_at};
-ghost use Rattle.tsa_decl.specs.Seen.{row_type, row_declarator};
+ghost use Rattle.tsa_local.specs.Outcomes.{after};
+ghost use Rattle.tsa_decl.specs.Outcomes.{globals_at};
+ghost use Rattle.tsa_local.specs.Seen.{row_type, row_declarator};
 
-use crate::declarator::Declarator;
-use crate::declarators::declarator_at;
-use crate::declared::{Role, declared_rest};
-use crate::nodes::{keep, keep_global};
-use crate::types::{Specified, specifier};
-use crate::view::is_close_brace_at;
+use crate::nodes::keep_global;
 use bumpalo::Bump;
 use tsa_expr::{Reader, SyntaxRefusal};
+use tsa_local::{
+    Declarator, Role, Specified, declarator_at, declared_rest, is_close_brace_at, keep, specifier,
+};
 use tsa_tree::decl::Decl;
 use tsa_tree::item::Item;
 

@@ -13,8 +13,8 @@ use Rattle.tsa_tree.specs.tokens.Signs.{Aliases, sign_at}
 use Rattle.tsa_expr.specs.declared.refusal.SyntaxRefusal.{SyntaxRefusal}
 use Rattle.tsa_expr.specs.Gives.{Fails}
 use Rattle.tsa_expr.proofs.Answering.{fails_then, fails_same, not_close}
-use Rattle.tsa_decl.specs.Outcomes.{one_token, opening}
-use Rattle.tsa_decl.proofs.TokenLaws.{not_semicolon}
+use Rattle.tsa_local.specs.Outcomes.{one_token, opening}
+use Rattle.tsa_local.proofs.TokenLaws.{not_semicolon}
 use Rattle.tsa_leaf.specs.Outcomes.{test_at, value_or_none_at}
 
 pub not_colon : (s : Sign) → s ≢ sign.Colon → nat_eq (mark s) 20 ≡ false

@@ -17,8 +17,8 @@ use Rattle.tsa_expr.specs.Gives.{Fails, Gives}
 use Rattle.tsa_tree.specs.declared.stmt.Action.{Action}
 use Rattle.tsa_leaf.specs.Pointed.{IsAlone}
 use Rattle.tsa_expr.proofs.Answering.{fails_then, fails_same, gives_same}
-use Rattle.tsa_decl.specs.Outcomes.{one_token, name_at}
-use Rattle.tsa_decl.proofs.TokenLaws.{not_semicolon}
+use Rattle.tsa_local.specs.Outcomes.{one_token, name_at}
+use Rattle.tsa_local.proofs.TokenLaws.{not_semicolon}
 use Rattle.tsa_tree.specs.declared.expr.Expr.{Expr}
 use Rattle.tsa_tree.specs.declared.expr.Name.{Name}
 use Rattle.tsa_tree.specs.declared.sign.Sign.TheVariants as sign

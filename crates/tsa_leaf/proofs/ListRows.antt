@@ -15,7 +15,7 @@ use Rattle.tsa_expr.specs.declared.refusal.SyntaxRefusal.{SyntaxRefusal}
 use Rattle.tsa_expr.specs.Gives.{Fails}
 use Rattle.tsa_expr.proofs.Answering.{fails_then, fails_same}
 use Rattle.tsa_attr.proofs.Joining.{then-then, then-same, then-ok}
-use Rattle.tsa_decl.specs.Outcomes.{one_token, opening_brace}
+use Rattle.tsa_local.specs.Outcomes.{one_token, opening_brace}
 use Rattle.tsa_leaf.specs.Outcomes.{simple_at, joined, statements_after}
 use Rattle.tsa_leaf.proofs.RowLaws.{stmt, stmts, token_at, row_is}
 

@@ -19,14 +19,14 @@ use Rattle.tsa_tree.specs.Rows.{some_statements, some_declarations, statements, 
 use Rattle.tsa_tree.specs.tokens.Signs.{Aliases, sign_at, begins_type}
 use Rattle.tsa_expr.specs.declared.refusal.SyntaxRefusal.{SyntaxRefusal}
 use Rattle.tsa_expr.specs.Gives.{Fails}
-use Rattle.tsa_decl.specs.Outcomes.{one_token}
+use Rattle.tsa_local.specs.Outcomes.{one_token}
 use Rattle.tsa_tree.specs.declarations.Syntax.{Declaration}
 use Rattle.tsa_tree.specs.declarations.Shapes.{decl_shape, decl_shapes}
 use Rattle.tsa_tree.specs.points.Syntax.{tests, points_of, points_of_all, point_of_test, point_of_for, expression_span}
 use Rattle.tsa_tree.specs.expressions.Shapes.{shape, kind_shape}
 use Rattle.tsa_tree.specs.statements.Syntax.{Statements, none, more, local, locals_before}
 use Rattle.tsa_tree.specs.statements.Shapes.{stmt_shape, stmt_shapes, point_shape, IsNumbered, AreNumbered}
-use Rattle.tsa_decl.proofs.ListLaws.{map-push}
+use Rattle.tsa_local.proofs.ListLaws.{map-push}
 use Rattle.tsa_attr.proofs.Joining.{append-nil, append-append}
 use Rattle.tsa_leaf.specs.Outcomes.{joined, statements_after}
 use Rattle.tsa_leaf.proofs.ListRows.{joined-nothing, joined-joined, locals_fail, locals_endless, locals_go}

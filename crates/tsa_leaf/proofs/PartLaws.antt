@@ -26,8 +26,8 @@ use Rattle.tsa_expr.specs.declared.refusal.SyntaxRefusal.TheVariants.{At, Functi
 use Rattle.tsa_expr.specs.declared.refusal.SyntaxCode.TheVariants.{SY1, AT1, AT2, LM2, LM3, LM5}
 use Rattle.tsa_expr.specs.Gives.{Fails}
 use Rattle.tsa_expr.proofs.Answering.{fails_then, fails_same, not_close}
-use Rattle.tsa_decl.specs.Outcomes.{one_token}
-use Rattle.tsa_decl.proofs.TokenLaws.{not_semicolon}
+use Rattle.tsa_local.specs.Outcomes.{one_token}
+use Rattle.tsa_local.proofs.TokenLaws.{not_semicolon}
 use Rattle.tsa_leaf.specs.Outcomes.{simple_at, simply_at, step_at}
 use Rattle.tsa_leaf.specs.Pointed.{IsPointed, IsBegun, IsStepped}
 use Rattle.tsa_leaf.specs.Seen.{simple_shape}

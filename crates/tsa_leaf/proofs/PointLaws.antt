@@ -5,7 +5,7 @@ use Rattle.tsa_tree.specs.declared.stmt.Action.{Action}
 use Rattle.tsa_tree.specs.declared.stmt.Point.{Point}
 use Rattle.tsa_tree.specs.declared.stmt.StmtKind.{StmtKind}
 use Rattle.tsa_tree.specs.statements.Shapes.{point_shape, IsNumbered}
-use Rattle.tsa_decl.proofs.ListLaws.{map-push}
+use Rattle.tsa_local.proofs.ListLaws.{map-push}
 use Rattle.tsa_leaf.specs.Pointed.{IsPointed, IsAlone}
 
 pub alone_points : (old new : List Point) (kind : StmtKind) (action : Action) (span : Span) (n : ℕ) → IsAlone kind action span

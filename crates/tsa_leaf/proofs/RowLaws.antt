@@ -16,7 +16,7 @@ use Rattle.tsa_forms.specs.Form.{done, token}
 use Rattle.tsa_tree.specs.tokens.Signs.{Aliases, sign_at, span_over, begins_statement}
 use Rattle.tsa_tree.specs.statements.Syntax.{ForInit, Statement, Statements, while_loop, do_loop, for_loop, switch, case, otherwise}
 use Rattle.tsa_attr.proofs.Joining.{then-then, then-same, then-ok}
-use Rattle.tsa_decl.specs.Outcomes.{one_token, opening}
+use Rattle.tsa_local.specs.Outcomes.{one_token, opening}
 use Rattle.tsa_leaf.specs.Outcomes.{simple_at, test_at, value_or_none_at, body_at, step_at}
 
 -- a token that has to stand there, and the rest

@@ -13,7 +13,7 @@ use Rattle.tsa_tree.specs.expressions.Answers.{below_limit}
 use Rattle.tsa_tree.specs.tokens.Signs.{Aliases, sign_at, span_over, begins_statement}
 use Rattle.tsa_tree.specs.statements.Syntax as plain
 use Rattle.tsa_tree.specs.statements.Syntax.{Simple, Statement, Statements, none, more, spanning}
-use Rattle.tsa_decl.specs.Outcomes.{one_token, name_at, opening}
+use Rattle.tsa_local.specs.Outcomes.{one_token, name_at, opening}
 use Rattle.tsa_forms.specs.Reading.{Outcome, refuse, syntax, deep, then, choose}
 
 -- what `++` and `--` do

@@ -4,13 +4,13 @@ ghost use Rattle.tsa_tree.specs.declared.sign.Keyword.TheVariants as key;
 ghost use Rattle.tsa_tree.specs.Rows.{a_close, a_colon, a_keyword, sees};
 ghost use Rattle.tsa_expr.specs.Source.{input, named};
 ghost use Rattle.tsa_expr.specs.Gives.{Gives};
-ghost use Rattle.tsa_decl.specs.Outcomes.{one_token};
-ghost use Rattle.tsa_decl.specs.Seen.{passed};
+ghost use Rattle.tsa_local.specs.Outcomes.{one_token};
+ghost use Rattle.tsa_local.specs.Seen.{passed};
 ghost use Rattle.tsa_leaf.specs.Outcomes.{test_at, value_or_none_at};
 ghost use Rattle.tsa_leaf.specs.Seen.{seen_tested, seen_value};
 
-use tsa_decl::{kept_in, open, semicolon};
 use tsa_expr::{Reader, SyntaxCode, SyntaxRefusal, refuse};
+use tsa_local::{kept_in, open, semicolon};
 use tsa_tree::expr::Expr;
 use tsa_tree::sign::{Keyword, Sign};
 

@@ -4,8 +4,8 @@ ghost use Rattle.tsa_leaf.specs.Pointed.{IsPointed, IsAlone};
 
 use bumpalo::Bump;
 use tsa_base::Span;
-use tsa_decl::kept_in;
 use tsa_expr::SyntaxRefusal;
+use tsa_local::kept_in;
 use tsa_tree::decl::Decl;
 use tsa_tree::stmt::{Action, Point, Stmt, StmtKind};
 

@@ -24,7 +24,7 @@ use Rattle.tsa_expr.specs.declared.refusal.SyntaxRefusal.{SyntaxRefusal}
 use Rattle.tsa_expr.specs.Gives.{Fails}
 use Rattle.tsa_expr.proofs.Answering.{fails_then, fails_same}
 use Rattle.tsa_attr.proofs.Joining.{append-append}
-use Rattle.tsa_decl.specs.Outcomes.{one_token}
+use Rattle.tsa_local.specs.Outcomes.{one_token}
 use Rattle.tsa_stmt.specs.declared.heads.Head.{Head}
 use Rattle.tsa_stmt.specs.declared.heads.Head.TheVariants as head
 use Rattle.tsa_stmt.specs.declared.heads.Marked.{Marked}

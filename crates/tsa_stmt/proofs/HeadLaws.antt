@@ -26,7 +26,7 @@ use Rattle.tsa_expr.specs.Gives.{Fails}
 use Rattle.tsa_expr.proofs.Answering.{fails_then, fails_same}
 use Rattle.tsa_expr.proofs.Places.{sign_within}
 use Rattle.tsa_attr.proofs.Joining.{append-append}
-use Rattle.tsa_decl.specs.Outcomes.{one_token, opening}
+use Rattle.tsa_local.specs.Outcomes.{one_token, opening}
 use Rattle.tsa_stmt.specs.declared.heads.Head.TheVariants as head
 use Rattle.tsa_stmt.specs.declared.heads.Headed.{Headed}
 use Rattle.tsa_stmt.specs.Heads.{ended_at, IsOpened}

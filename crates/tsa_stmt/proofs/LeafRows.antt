@@ -15,7 +15,7 @@ use Rattle.tsa_tree.specs.tokens.Signs.{Aliases, sign_at, span_over, identifier_
 use Rattle.tsa_tree.specs.statements.Syntax.{Statement, empty, break, continue, goto, return, spanning, label}
 use Rattle.tsa_tree.specs.statements.Syntax as plain
 use Rattle.tsa_attr.proofs.Joining.{then-then, then-same, then-choose, then-ok}
-use Rattle.tsa_decl.specs.Outcomes.{one_token, name_at}
+use Rattle.tsa_local.specs.Outcomes.{one_token, name_at}
 use Rattle.tsa_leaf.specs.Outcomes.{simple_at, simple_statement_at, closed_at, goto_at, return_at, value_or_none_at, body_at}
 use Rattle.tsa_leaf.proofs.RowLaws.{stmt, going, token_at, row_is, word_is, body_is, value_is}
 

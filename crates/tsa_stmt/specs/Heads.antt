@@ -16,7 +16,7 @@ use Rattle.tsa_tree.specs.tokens.Signs.{Aliases, span_over}
 use Rattle.tsa_tree.specs.statements.Syntax.{Statement, while_loop, do_loop, for_loop, switch, case, otherwise, label, if_alone, if_else}
 use Rattle.tsa_tree.specs.statements.Shapes.{stmt_shape, point_shape}
 use Rattle.tsa_forms.specs.Reading.{Outcome, then, choose}
-use Rattle.tsa_decl.specs.Outcomes.{one_token}
+use Rattle.tsa_local.specs.Outcomes.{one_token}
 use Rattle.tsa_stmt.specs.declared.heads.Head.{Head}
 use Rattle.tsa_stmt.specs.declared.heads.Head.TheVariants.{While, Switch, For, Case, Otherwise, Label}
 use Rattle.tsa_stmt.specs.declared.heads.Headed.{Headed}

@@ -8,7 +8,7 @@ use Rattle.tsa_tree.specs.Rows.{some_statements, statements}
 use Rattle.tsa_tree.specs.tokens.Signs.{Aliases, span_over}
 use Rattle.tsa_tree.specs.statements.Syntax.{Statement, block}
 use Rattle.tsa_forms.specs.Reading.{Outcome, then}
-use Rattle.tsa_decl.specs.Outcomes.{opening_brace}
+use Rattle.tsa_local.specs.Outcomes.{opening_brace}
 use Rattle.tsa_stmt.specs.Heads.{do_end_at}
 use Rattle.tsa_leaf.specs.Outcomes.{body_at}
 

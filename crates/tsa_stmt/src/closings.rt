@@ -13,9 +13,9 @@ ghost use Rattle.tsa_leaf.specs.Pointed.{ArePointed, IsPointed, ArmsPointed};
 ghost use Rattle.tsa_leaf.specs.Seen.{seen_statement};
 
 use crate::heads::{Head, Marked, marked_test};
-use tsa_decl::semicolon;
 use tsa_expr::{Reader, SyntaxRefusal};
 use tsa_leaf::{Body, Read, while_word};
+use tsa_local::semicolon;
 use tsa_tree::stmt::{Point, Stmt, StmtKind};
 
 /// The arms of an `if`, the second where there is one, and the token after them.

@@ -12,9 +12,9 @@ ghost use Rattle.tsa_leaf.specs.Outcomes.{test_at};
 ghost use Rattle.tsa_stmt.specs.Heads.{IsOpened, IsUnpointed, ended_at, seen_head, seen_marked};
 
 use crate::text::TextReader;
-use tsa_decl::open;
 use tsa_expr::{Reader, SyntaxRefusal};
 use tsa_leaf::{Part, Value, colon, for_init, for_step, mark, test, value_or_none};
+use tsa_local::open;
 use tsa_tree::expr::{Expr, Name};
 use tsa_tree::sign::{Keyword, Sign};
 use tsa_tree::stmt::{Action, Point, Stmt};

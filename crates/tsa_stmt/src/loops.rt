@@ -8,9 +8,9 @@ ghost use Rattle.tsa_expr.specs.Source.{input};
 
 use crate::text::TextReader;
 use tsa_base::Span;
-use tsa_decl::kept_in;
 use tsa_expr::SyntaxRefusal;
 use tsa_leaf::mark;
+use tsa_local::kept_in;
 use tsa_tree::expr::Expr;
 use tsa_tree::stmt::{Action, Point};
 

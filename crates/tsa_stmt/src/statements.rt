@@ -22,12 +22,12 @@ use crate::heads::{Head, Headed, Marked, marked_test};
 use crate::openings::leaf_statement;
 use crate::text::TextReader;
 use tsa_base::NESTING_LIMIT;
-use tsa_decl::{in_arena_before, keep, open_brace};
 use tsa_expr::{SyntaxCode, SyntaxRefusal, refuse};
 use tsa_leaf::{
     Body, Read, begins_statement, begins_type, closes_block, empty, in_body, is_else_at, locals,
     simple_statement,
 };
+use tsa_local::{in_arena_before, keep, open_brace};
 use tsa_tree::sign::{Keyword, Sign};
 use tsa_tree::stmt::{Point, Stmt};
 

@@ -25,9 +25,10 @@ use Rattle.tsa_tree.specs.units.Shapes.{shape_with, function_shape, item_shape, 
 use Rattle.tsa_expr.specs.declared.refusal.SyntaxRefusal.{SyntaxRefusal}
 use Rattle.tsa_expr.specs.Gives.{Fails, Gives}
 use Rattle.tsa_expr.proofs.Answering.{fails_then, fails_same, gives_same}
-use Rattle.tsa_decl.specs.Outcomes.{after, going_items, opening_brace, finished}
-use Rattle.tsa_decl.proofs.ListLaws.{map-push}
-use Rattle.tsa_decl.proofs.TokenLaws.{not_semicolon}
+use Rattle.tsa_local.specs.Outcomes.{after, opening_brace}
+use Rattle.tsa_decl.specs.Outcomes.{going_items, finished}
+use Rattle.tsa_local.proofs.ListLaws.{map-push}
+use Rattle.tsa_local.proofs.TokenLaws.{not_semicolon}
 use Rattle.tsa_decl.proofs.BegunLaws.{more_pointed}
 use Rattle.tsa_leaf.specs.Pointed.{ArePointed}
 use Rattle.tsa_leaf.proofs.RowLaws.{opens_law}

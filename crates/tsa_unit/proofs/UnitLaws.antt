@@ -20,8 +20,8 @@ use Rattle.tsa_expr.specs.declared.refusal.SyntaxRefusal.TheVariants as refusal
 use Rattle.tsa_expr.specs.Gives.{Fails}
 use Rattle.tsa_expr.proofs.Answering.{fails_then, fails_same}
 use Rattle.tsa_attr.proofs.Joining.{then-same}
-use Rattle.tsa_decl.specs.Outcomes.{after}
-use Rattle.tsa_decl.proofs.ListLaws.{after-nothing, after-none, after-after, after-over}
+use Rattle.tsa_local.specs.Outcomes.{after}
+use Rattle.tsa_local.proofs.ListLaws.{after-nothing, after-none, after-after, after-over}
 use Rattle.tsa_unit.specs.Items.{items_at, on_from}
 use Rattle.tsa_unit.specs.Names.{with_names}
 use Rattle.tsa_unit.proofs.TypeNames.{names_of_read}

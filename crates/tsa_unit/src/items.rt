@@ -8,13 +8,15 @@ ghost use Rattle.tsa_tree.specs.tokens.Signs.{lexemes};
 ghost use Rattle.tsa_expr.specs.Known.{known};
 ghost use Rattle.tsa_expr.specs.Source.{input, named};
 ghost use Rattle.tsa_expr.specs.Gives.{Gives};
-ghost use Rattle.tsa_decl.specs.Outcomes.{after, going_items};
+ghost use Rattle.tsa_local.specs.Outcomes.{after};
+ghost use Rattle.tsa_decl.specs.Outcomes.{going_items};
 
 use crate::text::Text;
 use bumpalo::Bump;
-use tsa_decl::{begin_item, in_arena, keep_function, open_brace};
+use tsa_decl::{begin_item, keep_function};
 use tsa_expr::{Aliases, Reader, SyntaxRefusal};
 use tsa_leaf::mark;
+use tsa_local::{in_arena, open_brace};
 use tsa_stmt::TextReader;
 use tsa_tree::item::{FnTree, Item};
 use tsa_tree::sign::Sign;

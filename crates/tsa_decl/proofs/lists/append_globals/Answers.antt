@@ -1,7 +1,7 @@
 use Rattle.std.proofs.Common.{rules}
 use Rattle.tsa_decl.proofs.BegunLaws.{more_pointed}
 use Rattle.tsa_decl.proofs.GlobalLaws.{lists}
-use Rattle.tsa_decl.proofs.ListLaws.{front_more}
+use Rattle.tsa_local.proofs.ListLaws.{front_more}
 use Rattle.tsa_decl.proofs.lists.append_globals.Goals as goal
 
 pub returns-then-not-declared-clause-pointed : goal.returns-then-not-declared-clause-pointed

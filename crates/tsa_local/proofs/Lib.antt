@@ -1,0 +1,9 @@
+pub mod Pieces
+pub mod ListLaws
+pub mod TokenLaws
+pub mod ValueLaws
+pub mod DeclaratorLaws
+pub mod TypeLaws
+pub mod DelimiterLaws
+pub mod DeclaredLaws
+pub mod LocalLaws

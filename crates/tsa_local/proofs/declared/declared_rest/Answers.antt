@@ -1,0 +1,7 @@
+use Rattle.tsa_local.proofs.DeclaredLaws.{rest_goes}
+use Rattle.tsa_local.proofs.declared.declared_rest.Goals as goal
+
+pub returns-clause-gives : goal.returns-clause-gives
+returns-clause-gives c =
+    rest_goes _ _ _ _ _ _ _ _ _ _ _ _ _ _ c.over-span.result c.in_ok-suffix.ensures.gives c.in_ok-goes_on.ensures.gives c.declaration.ensures
+    c.over-span.ensures

@@ -1,0 +1,11 @@
+use Rattle.std.proofs.Common.{◌∙◌, sym, ap, Ok}
+use Rattle.tsa_tree.specs.declarations.Shapes.{init_shape, init_shapes}
+use Rattle.tsa_local.proofs.ValueLaws.{braces_go}
+use Rattle.tsa_local.proofs.initialisers.+initialisers.Goals as goal
+
+pub initialiser-returns-clause-gives : goal.initialiser-returns-clause-gives
+initialiser-returns-clause-gives t c =
+    braces_go _ _ c.args.depth c.args.at c.new-items.result.items _ _ _ c.over-span.result _ (sym c.sign.ensures.is ∙ c.in-OpenBrace.is)
+    c.if-depth-ge-NESTING_LIMIT.false c.new-items.ensures.items c.in_ok-next.ensures.gives c.list_before.ensures.is (ap init_shapes c.listed.ensures)
+    c.over-span.ensures
+    ∙ ap (λ n. Ok (init_shape c.list_before.result.init, n)) (sym c.list_before.ensures.next_is)
