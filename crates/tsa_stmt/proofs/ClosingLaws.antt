@@ -1,5 +1,5 @@
 -- Statements with their bodies, and their points.
-use Rattle.std.proofs.Common.{ℕ, ◌+◌, ◌≡◌, ◌∙◌, Option, Some, None, ap, sym, subst, refl, List, [], ◌∷◌, ◌++◌, length, map, option_map, true, arith, Ok}
+use Rattle.std.proofs.Common.{ℕ, ◌+◌, ◌≡◌, ◌∙◌, Option, Some, None, ap, sym, subst, refl, List, [], ◌∷◌, ◌++◌, length, map, option_map, arith, Ok}
 use Rattle.std.proofs.lemmas.List.{length-append, length-map}
 use Rattle.std.specs.Borrow.{Bor}
 use mathlib.Core.Former.{Count}
