@@ -11,7 +11,7 @@ ghost use Rattle.tsa_local.specs.Outcomes.{after};
 ghost use Rattle.tsa_decl.specs.Outcomes.{globals_at};
 ghost use Rattle.tsa_local.specs.Seen.{row_type, row_declarator};
 
-use crate::nodes::keep_global;
+use crate::nodes::{cut_if_refused, keep_global, length_of};
 use bumpalo::Bump;
 use tsa_expr::{Reader, SyntaxRefusal};
 use tsa_local::{
@@ -115,12 +115,7 @@ pub fn globals<'a>(
     ensures ends { IfOk result (λ next. (first.entry.next < next) × (next ≤ count reader.entry.tokens.now)) }
     ensures lent { OnErr result (list.new.items ≡ list.old.items) }
 {
-    let before = list.len();
-    match append_globals(reader, specified, first, list) {
-        Ok(next) => Ok(next),
-        Err(refusal) => {
-            list.truncate(before);
-            Err(refusal)
-        }
-    }
+    let before = length_of(list);
+    let read = append_globals(reader, specified, first, list);
+    cut_if_refused(list, before, read)
 }

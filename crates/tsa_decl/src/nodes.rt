@@ -1,6 +1,7 @@
 //! Items are put at the end of lists.
-ghost use Rattle.std.specs.Prelude.{◌≡◌, ◌++◌, ◌∷◌, [], OnOk, OnErr, Err};
+ghost use Rattle.std.specs.Prelude.{◌≡◌, ◌++◌, ◌∷◌, [], length, take, OnOk, OnErr, Err};
 
+use std::alloc::Allocator;
 use tsa_expr::SyntaxRefusal;
 use tsa_local::keep;
 use tsa_tree::decl::Decl;
@@ -55,4 +56,28 @@ pub fn keep_function<'a>(list: &mut Vec<Item<'a>>, head: &FnTree<'a>) -> Result<
     ensures memory { OnErr result (result ≡ Err SyntaxRefusal.NoMemory) }
 {
     keep(list, Item::Function(*head))
+}
+
+/// How many stand in a list, which is lent whole: a shared reference of a list of items costs the check ten seconds.
+pub fn length_of<T: Copy, A: Allocator>(list: &mut Vec<T, A>) -> usize
+    ensures is { result ≡ length list.old.items }
+    ensures same { list.new.items ≡ list.old.items }
+{
+    list.len()
+}
+
+/// What was read at the end of a list, on; where it was refused, the list gets the length that it had before.
+pub fn cut_if_refused<T: Copy, A: Allocator>(
+    list: &mut Vec<T, A>,
+    before: usize,
+    read: Result<u32, SyntaxRefusal>,
+) -> Result<u32, SyntaxRefusal>
+    ensures is { result ≡ read }
+    ensures whole { OnOk read (list.new.items ≡ list.old.items) }
+    ensures cut { OnErr read (list.new.items ≡ take before list.old.items) }
+{
+    if read.is_err() {
+        list.truncate(before);
+    }
+    read
 }

@@ -21,7 +21,7 @@ use crate::nodes::keep_function;
 use bumpalo::Bump;
 use tsa_base::Token;
 use tsa_expr::{Aliases, Reader, SyntaxCode, SyntaxRefusal};
-use tsa_local::{in_arena_before, read_locals, semicolon};
+use tsa_local::{in_arena_read, read_locals, semicolon};
 use tsa_tree::decl::Decl;
 use tsa_tree::item::{FnTree, Item};
 
@@ -64,8 +64,8 @@ fn read_items<'a>(
     ensures ends { IfOk result (λ found. (at < found.1) × (found.1 ≤ length reader.entry.tokens.now)) }
 {
     let mut list = Vec::new(aliases.allocator());
-    let next = whole_item(reader, at, &mut list)?;
-    in_arena_before(reader.bump, &list, next)
+    let read = whole_item(reader, at, &mut list);
+    in_arena_read(reader.bump, list, read)
 }
 
 /// The items that the rows give, at the end of a list.

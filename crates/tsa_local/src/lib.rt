@@ -14,6 +14,6 @@ pub use declarator::Declarator;
 pub use declarators::{Star, declarator_at, star_at};
 pub use declared::{Declared, Role, ctype, declared_rest};
 pub use locals::read_locals;
-pub use nodes::{in_arena, in_arena_before, keep, kept_in, listed};
+pub use nodes::{in_arena, in_arena_before, in_arena_read, keep, kept_in, listed};
 pub use types::{Specified, specified_at, specifier};
 pub use view::{is_close_brace_at, name, open, open_brace, semicolon, tag};

@@ -1,5 +1,5 @@
 //! Lists of nodes, and where they are kept.
-ghost use Rattle.std.specs.Prelude.{◌≡◌, ◌++◌, ◌+◌, length, ◌∷◌, [], OnOk, OnErr, IfOk, Err};
+ghost use Rattle.std.specs.Prelude.{◌≡◌, ◌++◌, ◌+◌, length, ◌∷◌, [], OnOk, OnErr, IfOk, MatchResult, Err};
 
 use bumpalo::Bump;
 use bumpalo::collections::into_bump_slice;
@@ -60,4 +60,17 @@ pub fn in_arena_before<'a, T: Copy, A: Allocator>(
 {
     let kept = in_arena(bump, items)?;
     Ok((kept, next))
+}
+
+/// A list whose nodes were read up to before a token, kept in the arena, and that token. The list is taken whole: a shared
+/// reference of a list of items costs the check ten seconds.
+pub fn in_arena_read<'a, T: Copy, A: Allocator>(
+    bump: &'a Bump,
+    items: Vec<T, A>,
+    read: Result<u32, SyntaxRefusal>,
+) -> Result<(&'a [T], u32), SyntaxRefusal>
+    ensures is { MatchResult read (λ next. MatchResult result (λ found. (found.0.now ≡ items.items) × (found.1 ≡ next)) (λ refusal. refusal ≡ SyntaxRefusal.NoMemory)) (λ refusal. result ≡ Err refusal) }
+{
+    let next = read?;
+    in_arena_before(bump, &items, next)
 }
