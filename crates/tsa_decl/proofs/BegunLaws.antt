@@ -1,5 +1,5 @@
 -- Items that were begun, and how they are finished.
-use Rattle.std.proofs.Common.{ℕ, ◌+◌, ◌≡◌, ◌∙◌, ap, sym, subst, List, [], ◌∷◌, ◌++◌, false, option_map, Some, None, Result, Ok, Err}
+use Rattle.std.proofs.Common.{ℕ, ◌+◌, ◌≡◌, ◌∙◌, ap, sym, subst, List, [], ◌∷◌, ◌++◌, Bool, false, option_map, Some, None, Result, Ok, Err, IsOkAnd, MatchResult}
 use Rattle.std.specs.Result.{IsErrAnd}
 use Rattle.tsa_base.specs.Tokens.{Lexeme}
 use Rattle.tsa_forms.proofs.Cases.{goes}
@@ -13,11 +13,13 @@ use Rattle.tsa_tree.specs.units.Shapes.{shape_with, function_shape, item_shape, 
 use Rattle.tsa_tree.specs.Rows.{sees, a_semicolon}
 use Rattle.tsa_tree.specs.tokens.Signs.{Aliases}
 use Rattle.tsa_expr.specs.declared.refusal.SyntaxRefusal.{SyntaxRefusal}
-use Rattle.tsa_expr.specs.Gives.{Fails, Leads}
+use Rattle.tsa_expr.specs.Gives.{Fails, Gives, Leads}
 use Rattle.tsa_expr.proofs.Answering.{fails_then, fails_same}
 use Rattle.tsa_attr.proofs.Joining.{token-law}
 use Rattle.tsa_local.specs.Outcomes.{after, one_token}
+use Rattle.tsa_decl.specs.declared.items.Begun.{Begun}
 use Rattle.tsa_decl.specs.Outcomes.{finished}
+use Rattle.tsa_decl.specs.Seen.{seen_begun}
 use Rattle.tsa_local.proofs.ListLaws.{map-push, after-over}
 
 -- what a `?` passes on
@@ -42,6 +44,19 @@ more_pointed xs ys x q h k = subst HaveTheirPoints (sym q) (pushed xs x h k)
 -- a function without a body is its head
 bodiless : (x : FnTree) → x.body ≡ None → function_shape x ≡ function_item (head_shape x)
 bodiless x e = ap (λ b. shape_with x (option_map (λ body. body.now) b)) e
+
+module _ (ts : List Lexeme) (aliases : Aliases) (bodies : Bool) where
+  -- nothing is left of an item that is no function
+  headless : (xs : List UnitItem) (x : Begun) (n : ℕ) → x.head ≡ None → x.next ≡ n → finished ts aliases bodies (xs, option_map head_shape x.head) x.next ≡ Ok (xs, n)
+  headless xs x n h q = ap (λ head. finished ts aliases bodies (xs, option_map head_shape head) x.next) h ∙ ap (λ n. Ok (xs, n)) q
+
+  -- an item that is no function is read whole
+  pub leads_without : (xs : List Item) (read : Result ℕ SyntaxRefusal) (r : Result Begun SyntaxRefusal) (whole : Outcome (List UnitItem))
+      → MatchResult read (λ n. IsOkAnd r (λ x. (x.head ≡ None) × (x.next ≡ n))) (λ e. r ≡ Err e) → Gives (λ n. (item_shapes xs, n)) read whole
+      → Leads (seen_begun xs) r whole (finished ts aliases bodies)
+  leads_without xs (Ok n) (Ok x) whole h g = g ∙ sym (headless (item_shapes xs) x n h.0 h.1)
+  leads_without xs (Ok n) (Err e) whole h g = absurd h
+  leads_without xs (Err e) r whole h g = subst (λ r. Leads (seen_begun xs) r whole (finished ts aliases bodies)) (sym h) g
 
 module _ (ts : List Lexeme) (aliases : Aliases) where
   function_is : (xs : List UnitItem) (x : FnTree) (m : ℕ)

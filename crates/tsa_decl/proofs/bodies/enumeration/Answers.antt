@@ -1,7 +1,7 @@
-use Rattle.std.proofs.Common.{◌∙◌, sym, ap, refl, Ok}
+use Rattle.std.proofs.Common.{◌∙◌, sym, ap, refl, Ok, rules}
 use Rattle.tsa_tree.specs.units.Shapes.{item_shapes}
 use Rattle.tsa_decl.proofs.BegunLaws.{more_pointed}
-use Rattle.tsa_decl.proofs.BodyLaws.{enumeration_goes}
+use Rattle.tsa_decl.proofs.BodyLaws.{enumeration_goes, enumeration_bodiless, enumeration_nameless, enumeration_endless}
 use Rattle.tsa_decl.proofs.bodies.enumeration.Goals as goal
 
 pub returns-clause-gives : goal.returns-clause-gives
@@ -12,3 +12,12 @@ returns-clause-gives c =
 
 pub returns-clause-pointed : goal.returns-clause-pointed
 returns-clause-pointed c = more_pointed _ _ _ c.in_ok-keep_enumeration.ensures.gives tt
+
+pub returns-in_err-values-clause-gives : goal.returns-in_err-values-clause-gives
+returns-in_err-values-clause-gives c = search (rules, enumeration_bodiless)
+
+pub returns-in_err-alias-clause-gives : goal.returns-in_err-alias-clause-gives
+returns-in_err-alias-clause-gives c = search (rules, enumeration_nameless)
+
+pub returns-in_err-next-clause-gives : goal.returns-in_err-next-clause-gives
+returns-in_err-next-clause-gives c = search (rules, enumeration_endless)

@@ -1,8 +1,8 @@
-use Rattle.std.proofs.Common.{◌∙◌, sym, ap}
+use Rattle.std.proofs.Common.{◌∙◌, sym, ap, rules}
 use Rattle.tsa_tree.specs.Rows.{is_attribute_sign}
 use Rattle.tsa_expr.proofs.Answering.{gives_same}
 use Rattle.tsa_decl.proofs.BodyLaws.{gives_failed}
-use Rattle.tsa_decl.proofs.TagLaws.{fresh_fails, fresh_goes, struct_alias_unmarked, struct_alias_unopened, struct_alias_named}
+use Rattle.tsa_decl.proofs.TagLaws.{fresh_fails, fresh_goes, struct_alias_unmarked, struct_alias_unopened, struct_alias_named, struct_alias_marked, struct_alias_bodied}
 use Rattle.tsa_decl.proofs.items.struct_alias.Goals as goal
 
 pub returns-in_err-attrs-clause-gives : goal.returns-in_err-attrs-clause-gives
@@ -22,3 +22,6 @@ returns-in-Some-clause-gives c =
     (fresh_goes _ _ _ c.new.ensures.items c.in_ok-attrs.ensures.gives) c.in_ok-opening.ensures.gives
     (ap is_attribute_sign (sym c.sign.ensures.is) ∙ sym c.begins_group.ensures ∙ c.if-not-begins_group.true) (sym c.used_tag.ensures ∙ c.in-Some.is))
     c.alias_of.ensures.gives
+
+pub returns-clause-gives : goal.returns-clause-gives
+returns-clause-gives c = gives_same _ _ _ _ (search (rules, struct_alias_marked, struct_alias_bodied, fresh_goes)) c.structure.ensures.gives
