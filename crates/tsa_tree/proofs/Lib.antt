@@ -12,3 +12,4 @@ pub mod OneAnswer
 pub mod Inductions
 pub mod expressions
 pub mod points
+pub mod types

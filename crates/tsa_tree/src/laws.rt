@@ -15,6 +15,9 @@ ghost use Rattle.tsa_tree.specs.units.Names.{NamesStandApart};
 ghost use Rattle.tsa_tree.specs.units.Spans.{SpansLieInText};
 ghost use Rattle.tsa_tree.specs.units.Order.{NodesRise};
 ghost use Rattle.tsa_tree.specs.declarations.Examples.{DeclarationsAreRead};
+ghost use Rattle.tsa_tree.specs.types.FirstFailing.{FirstFailingIsFirst, PremisesTellIt};
+ghost use Rattle.tsa_tree.specs.types.RunnableExamples.{UnitsRun};
+ghost use Rattle.tsa_tree.specs.types.UnitExamples.{UnitsAreTyped};
 
 /// The rows that readers go by spell the same trees as the productions of the grammar, and the same lists begin them.
 pub fn rows_are_productions()
@@ -190,4 +193,24 @@ pub fn units_are_as_written()
 #[tactic(auto, using(crate::proofs::points::Examples::points_are_in_order))]
 pub fn points_are_as_written()
     ensures { PointsAreInOrder }
+{}
+
+/// The node of a unit that is told is the first one that fails a premise of types, with the smallest code that fails there; and
+/// the premises in order, by which the code goes, tell the same.
+#[tactic(auto, using(crate::proofs::types::FirstNodes::first_failing_is_first, crate::proofs::types::UnitNodes::premises_tell_it))]
+pub fn the_first_failing_node_is_told()
+    ensures first { FirstFailingIsFirst }
+    ensures premises { PremisesTellIt }
+{}
+
+/// Units of each kind are typed, or refused where a premise fails, as they are written.
+#[tactic(auto, using(crate::proofs::types::UnitExamples::units_are_typed))]
+pub fn types_are_as_written()
+    ensures { UnitsAreTyped }
+{}
+
+/// Units are run by the machine, or aren't, as what stands beside them.
+#[tactic(auto, using(crate::proofs::types::RunnableExamples::units_run))]
+pub fn what_runs_is_as_written()
+    ensures { UnitsRun }
 {}

@@ -6,8 +6,12 @@ pub mod decl;
 pub mod expr;
 mod functions;
 pub mod item;
+pub mod kind;
 mod laws;
+pub mod meaning;
+pub mod number;
 mod parsed;
+pub mod premise;
 pub mod sign;
 pub mod stmt;
 
@@ -20,7 +24,8 @@ pub use laws::{
     one_tree_is_spelled, one_unit_is_spelled, points_are_as_written, rows_are_productions,
     rows_of_attributes_are_productions, rows_of_declarations_are_productions,
     rows_of_statements_are_productions, rows_of_units_are_productions, spans_lie_in_text,
-    statements_are_as_written, units_are_as_written, units_have_an_answer,
-    what_is_refused_is_no_unit, what_is_well_read_is_sound,
+    statements_are_as_written, the_first_failing_node_is_told, types_are_as_written,
+    units_are_as_written, units_have_an_answer, what_is_refused_is_no_unit,
+    what_is_well_read_is_sound, what_runs_is_as_written,
 };
 pub use parsed::Parsed;

@@ -1,0 +1,12 @@
+-- Of types.
+pub mod FirstNodes
+pub mod NodeLists
+pub mod ExpressionNodes
+pub mod DeclarationNodes
+pub mod StatementNodes
+pub mod UnitNodes
+pub mod ExpressionExamples
+pub mod Computed
+pub mod PlaceExamples
+pub mod UnitExamples
+pub mod RunnableExamples
