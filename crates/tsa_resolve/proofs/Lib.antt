@@ -1,0 +1,11 @@
+pub mod Asked
+pub mod ConstantLaws
+pub mod FoundLaws
+pub mod Judging
+pub mod LengthLaws
+pub mod LockLaws
+pub mod NameLists
+pub mod Sequences
+pub mod Steps
+pub mod SymbolLaws
+pub mod Walk

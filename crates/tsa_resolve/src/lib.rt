@@ -1,0 +1,17 @@
+//! What expressions and written types are in a unit (C11 6.5, 6.7), and what is wrong with them.
+#![tactic(auto)]
+
+mod accesses;
+mod attributes;
+mod declared;
+mod expressions;
+mod found;
+mod refusal;
+mod verdicts;
+
+pub use accesses::first_of;
+pub use declared::{Length, Written, tag_failure, typed_failure};
+pub use expressions::View;
+pub use found::{Constant, Found};
+pub use refusal::{TypeRefusal, judged, refused};
+pub use verdicts::{at, thing_of};
