@@ -1,0 +1,35 @@
+-- The names of items one by one.
+use Rattle.std.proofs.Common.{ℕ, ◌≡◌, ◌∙◌, ◌+◌, suc, arith, List, [], ◌∷◌, ◌++◌, drop, sym, ap}
+use Rattle.tsa_tree.specs.declared.item.Item.{Item}
+use Rattle.tsa_tree.specs.types.Scopes.{Scope}
+use Rattle.tsa_tree.specs.types.Symbols.{Names, names_in_item}
+use Rattle.tsa_tree.specs.types.Units.{behind_item, names_in_unit_items}
+use Rattle.tsa_tree.specs.units.Shapes.{item_shape, item_shapes}
+use Rattle.tsa_resolve.proofs.SymbolLaws.{Notes, noted, noted_append, noted_nothing}
+
+plus_one : (n : ℕ) → suc n ≡ n + 1
+plus_one n = omega arith
+
+step : (notes after : Notes) (own rest all : Names) → after ≡ noted notes own → all ≡ own ++ rest → noted after rest ≡ noted notes all
+step notes after own rest all is whole = ap (λ n. noted n rest) is ∙ sym (noted_append notes own rest) ∙ ap (noted notes) (sym whole)
+
+nothing : (notes : Notes) (all : Names) → all ≡ [] → noted notes all ≡ notes
+nothing notes all is = ap (noted notes) is ∙ noted_nothing notes
+
+module _ (notes : Notes) (here : Scope) (items : List Item) (i : ℕ) where
+  abbrev items_from : Scope → ℕ → Names
+  items_from there j = names_in_unit_items there (item_shapes (drop j items))
+
+  pub items_end : drop i items ≡ [] → noted notes (items_from here i) ≡ notes
+  unfolding names_in_unit_items
+  items_end e = nothing notes (items_from here i) (ap (λ xs. names_in_unit_items here (item_shapes xs)) e)
+
+  pub items_next : (x : Item) → drop i items ≡ x ∷ drop (suc i) items → (there : Scope) (after : Notes) → there ≡ behind_item here (item_shape x)
+      → after ≡ noted notes (names_in_item here (item_shape x)) → noted after (items_from there (i + 1)) ≡ noted notes (items_from here i)
+  unfolding names_in_unit_items
+  items_next x at_i there after known is =
+      let inner = behind_item here (item_shape x) in
+      ap (λ y. noted after (items_from y (i + 1))) known
+      ∙ ap (λ j. noted after (items_from inner j)) (sym (plus_one i))
+      ∙ step notes after (names_in_item here (item_shape x)) (items_from inner (suc i)) (items_from here i) is
+      (ap (λ xs. names_in_unit_items here (item_shapes xs)) at_i)

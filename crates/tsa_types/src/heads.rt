@@ -1,0 +1,129 @@
+//! Heads of functions (C11 6.7.6.3, 6.9.1): their parameters are known one after the other, and then in the attributes and the body.
+ghost use Rattle.std.specs.Prelude.{◌≡◌, ◌++◌, ◌+◌, length, option_map, is_some, IfOk, OnOk};
+ghost use Rattle.tsa_resolve.specs.Judged.{Judges};
+ghost use Rattle.tsa_tree.specs.declarations.Shapes.{param_shape, param_shapes, head_shape};
+ghost use Rattle.tsa_tree.specs.expressions.Shapes.{name_shape};
+ghost use Rattle.tsa_tree.specs.types.DeclaredTypes.{declared_premises};
+ghost use Rattle.tsa_tree.specs.types.Heads.{with_param, params_premises, inside_params, inside, head_premises};
+ghost use Rattle.tsa_tree.specs.types.Premises.{first};
+ghost use Rattle.tsa_tree.specs.types.Scopes.{is_named_taken};
+ghost use Rattle.tsa_tree.specs.types.Symbols.{param_name, names_in_param, names_in_params, names_in_head};
+
+use crate::declared::{NewName, judge_declared};
+use crate::functions::declare_function;
+use tsa_base::NoMemory;
+use tsa_resolve::{TypeRefusal, View, judged};
+use tsa_scope::{Scope, Symbols};
+use tsa_tree::expr::Name;
+use tsa_tree::item::{FnTree, Param};
+use tsa_tree::kind::Declaring;
+use tsa_tree::meaning::{Entry, Meaning, Symbol};
+use tsa_tree::premise::Bearer;
+
+/// A parameter by its function and its number, from 0; the parameters are the first locals.
+#[derive(Clone, Copy)]
+struct LocalNumber {
+    function: u32,
+    number: u32,
+}
+
+/// The number after one.
+fn next_number(number: u32) -> Result<u32, NoMemory>
+    ensures { IfOk result (λ n. n ≡ number + 1) }
+{
+    number.checked_add(1).ok_or(NoMemory)
+}
+
+/// How many parameters there are.
+fn params_count(params: &[Param<'_>]) -> Result<u32, NoMemory>
+    ensures { IfOk result (λ n. n ≡ length (param_shapes params.now)) }
+{
+    u32::try_from(params.len()).ok().ok_or(NoMemory)
+}
+
+/// Notes the name of a parameter that has one.
+fn note_name(
+    symbols: &mut Symbols,
+    local: LocalNumber,
+    name: Option<Name<'_>>,
+) -> Result<(), NoMemory>
+    ensures { OnOk result (symbols.new ≡ symbols.old ++ param_name local.function local.number (option_map name_shape name.entry)) }
+{
+    if let Some(name) = name {
+        let symbol = Symbol::Local {
+            function: local.function,
+            number: local.number,
+        };
+        symbols.note(name.span, symbol)?;
+    }
+    Ok(())
+}
+
+/// A parameter, which is known after itself.
+fn declare_param<'a>(
+    scope: &mut Scope<'a>,
+    symbols: &mut Symbols,
+    local: LocalNumber,
+    param: &Param<'a>,
+) -> Result<(), TypeRefusal>
+    ensures judged { Judges (first (declared_premises scope.old Declaring.Thing (is_named_taken (param_shape param.now).name scope.old) param.now.span (param_shape param.now).ctype)) result }
+    ensures behind { OnOk result (scope.new ≡ with_param local.number (param_shape param.now) scope.old) }
+    ensures names { OnOk result (symbols.new ≡ symbols.old ++ names_in_param scope.old local.function local.number (param_shape param.now)) }
+{
+    let name = NewName {
+        what: Declaring::Thing,
+        taken: scope.is_named_taken(param.name),
+        span: param.span,
+    };
+    note_name(symbols, local, param.name)?;
+    let view = View {
+        scope,
+        function: local.function,
+    };
+    let told = judge_declared(view, symbols, name, &param.ctype)?;
+    judged(told.failure)?;
+    let entry = Entry {
+        meaning: Meaning::Local(local.number),
+        thing: told.thing,
+    };
+    scope.declare_named(param.name, entry)?;
+    Ok(())
+}
+
+/// The parameters of a function, each of which is known after itself, by numbers from 0 on.
+fn declare_params<'a>(
+    scope: &mut Scope<'a>,
+    symbols: &mut Symbols,
+    function: u32,
+    params: &[Param<'a>],
+) -> Result<(), TypeRefusal>
+    ensures judged { Judges (first (params_premises scope.old 0 (param_shapes params.now))) result }
+    ensures behind { OnOk result (scope.new ≡ inside_params scope.old 0 (param_shapes params.now)) }
+    ensures names { OnOk result (symbols.new ≡ symbols.old ++ names_in_params scope.old function 0 (param_shapes params.now)) }
+{
+    let mut number = 0;
+    'each: for param in params {
+        declare_param(scope, symbols, LocalNumber { function, number }, param)?;
+        number = next_number(number)?;
+    }
+    Ok(())
+}
+
+/// The head of a function by its number, inside which its name and its parameters are known.
+pub fn declare_head<'a>(
+    scope: &mut Scope<'a>,
+    symbols: &mut Symbols,
+    function: u32,
+    head: &FnTree<'a>,
+) -> Result<(), TypeRefusal>
+    ensures judged { Judges (first (head_premises scope.old (head_shape head.now) (is_some head.now.body))) result }
+    ensures behind { OnOk result (scope.new ≡ inside scope.old (head_shape head.now) (is_some head.now.body)) }
+    ensures names { OnOk result (symbols.new ≡ symbols.old ++ names_in_head scope.old function (head_shape head.now) (is_some head.now.body)) }
+{
+    declare_function(scope, head)?;
+    symbols.note(head.name.span, Symbol::Function(function))?;
+    declare_params(scope, symbols, function, head.params)?;
+    scope.set_locals(params_count(head.params)?);
+    let view = View { scope, function };
+    judged(view.attributes(symbols, Bearer::Function, head.attrs)?)
+}

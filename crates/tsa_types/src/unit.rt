@@ -1,0 +1,140 @@
+//! Functions with their bodies, and the items of a unit one by one (C11 6.9).
+ghost use Rattle.std.specs.Prelude.{◌≡◌, ◌++◌, [], OnOk, IfOk, length, is_some};
+ghost use Rattle.tsa_resolve.specs.Judged.{Judges, forget};
+ghost use Rattle.tsa_tree.specs.declarations.Shapes.{head_shape};
+ghost use Rattle.tsa_tree.specs.statements.Shapes.{stmt_shapes};
+ghost use Rattle.tsa_tree.specs.types.DeclaredTypes.{thing_type};
+ghost use Rattle.tsa_tree.specs.types.Heads.{behind_head};
+ghost use Rattle.tsa_tree.specs.types.Premises.{first};
+ghost use Rattle.tsa_tree.specs.types.Statements.{statements_premises, behind_all};
+ghost use Rattle.tsa_tree.specs.types.Symbols.{names_in_statements, names_in_item};
+ghost use Rattle.tsa_tree.specs.types.Units.{outermost, item_premises, behind_item, items_premises, names_in_unit_items, names_in_unit, refusal_of_types};
+ghost use Rattle.tsa_tree.specs.units.Shapes.{function_shape, item_shape, item_shapes};
+
+use crate::aliases::declare_alias;
+use crate::enumerators::declare_enum;
+use crate::functions::function_number;
+use crate::globals::declare_global;
+use crate::heads::declare_head;
+use crate::structs::declare_struct;
+use std::alloc::Global;
+use tsa_base::NoMemory;
+use tsa_body::{Around, Walk, collect_all_labels};
+use tsa_resolve::{TypeRefusal, View};
+use tsa_scope::{Cases, Names, Scope, Symbols, outset};
+use tsa_tree::item::{FnTree, Item};
+use tsa_tree::kind::ThingType;
+use tsa_tree::stmt::Stmt;
+
+/// The statements of a body in a function that gives a result, where its parameters are known.
+fn body_statements<'a>(
+    walk: &mut Walk<'a>,
+    function: u32,
+    gives: ThingType,
+    body: &[Stmt<'a>],
+) -> Result<(), TypeRefusal>
+    ensures judged { Judges (first (statements_premises (outermost function gives (stmt_shapes body.now)) walk.old.scope (stmt_shapes body.now))) result }
+    ensures behind { OnOk result (walk.new.scope ≡ behind_all walk.old.scope (stmt_shapes body.now)) }
+    ensures names { OnOk result (walk.new.symbols ≡ walk.old.symbols ++ names_in_statements walk.old.scope function (stmt_shapes body.now)) }
+{
+    let mut labels = Names::new(walk.scope.allocator());
+    collect_all_labels(&mut labels, body)?;
+    let cases = Cases::new(walk.scope.allocator());
+    let around = Around {
+        function,
+        result: gives,
+        labels: &labels,
+        in_loop: false,
+        in_switch: false,
+        cases: &cases,
+        default: None,
+    };
+    walk.statements(&around, body)
+}
+
+/// The type of what a function gives.
+fn result_type(scope: &Scope<'_>, function: &FnTree<'_>) -> Result<ThingType, NoMemory>
+    ensures { IfOk result (λ thing. thing ≡ thing_type scope.now (head_shape function.now).result) }
+{
+    let view = View { scope, function: 0 };
+    let mut unnoted = Symbols::new(scope.allocator());
+    let written = view.written(&mut unnoted, &function.result)?;
+    Ok(written.thing)
+}
+
+/// How many names are known after a function's name.
+fn names_after(scope: &Scope<'_>, function: &FnTree<'_>) -> Result<usize, NoMemory>
+    ensures { IfOk result (λ n. n ≡ length (behind_head scope.now (head_shape function.now) (is_some function.now.body)).names) }
+{
+    let known = scope.names_len();
+    if scope.is_taken(function.name.text) {
+        Ok(known)
+    } else {
+        known.checked_add(1).ok_or(NoMemory)
+    }
+}
+
+/// A function, whose parameters and locals end with it.
+fn function_item<'a>(walk: &mut Walk<'a>, function: &FnTree<'a>) -> Result<(), TypeRefusal>
+    ensures judged { Judges (first (item_premises walk.old.scope (function_shape function.now))) result }
+    ensures behind { OnOk result (walk.new.scope ≡ behind_item walk.old.scope (function_shape function.now)) }
+    ensures names { OnOk result (walk.new.symbols ≡ walk.old.symbols ++ names_in_item walk.old.scope (function_shape function.now)) }
+{
+    let gives = result_type(&walk.scope, function)?;
+    let number = function_number(&walk.scope, function)?;
+    let names = names_after(&walk.scope, function)?;
+    let locals = walk.scope.next_local();
+    if let Err(refusal) = declare_head(&mut walk.scope, &mut walk.symbols, number, function) {
+        return Err(refusal);
+    }
+    if let Some(body) = function.body {
+        if let Err(refusal) = body_statements(walk, number, gives, body) {
+            return Err(refusal);
+        }
+    }
+    walk.scope.leave(names, locals);
+    Ok(())
+}
+
+/// An item, after which what it declares is known.
+fn declare_item<'a>(walk: &mut Walk<'a>, item: &Item<'a>) -> Result<(), TypeRefusal>
+    ensures judged { Judges (first (item_premises walk.old.scope (item_shape item.now))) result }
+    ensures behind { OnOk result (walk.new.scope ≡ behind_item walk.old.scope (item_shape item.now)) }
+    ensures names { OnOk result (walk.new.symbols ≡ walk.old.symbols ++ names_in_item walk.old.scope (item_shape item.now)) }
+{
+    match item {
+        Item::Structure(def) => declare_struct(&mut walk.scope, &mut walk.symbols, def),
+        Item::Alias(def) => declare_alias(&mut walk.scope, &mut walk.symbols, def),
+        Item::Enumeration(def) => declare_enum(&mut walk.scope, &mut walk.symbols, def),
+        Item::Global(decl) => declare_global(&mut walk.scope, &mut walk.symbols, decl),
+        Item::Function(function) => function_item(walk, function),
+    }
+}
+
+/// Items in order.
+fn declare_items<'a>(walk: &mut Walk<'a>, items: &[Item<'a>]) -> Result<(), TypeRefusal>
+    ensures judged { Judges (first (items_premises walk.old.scope (item_shapes items.now))) result }
+    ensures names { OnOk result (walk.new.symbols ≡ walk.old.symbols ++ names_in_unit_items walk.old.scope (item_shapes items.now)) }
+{
+    'each: for item in items {
+        if let Err(refusal) = declare_item(walk, item) {
+            return Err(refusal);
+        }
+    }
+    Ok(())
+}
+
+/// The names of a unit that is typed, or the first premise of types that fails.
+pub fn judge<'a>(alloc: Global, items: &[Item<'a>]) -> Result<Symbols, TypeRefusal>
+    ensures judged { Judges (refusal_of_types (item_shapes items.now)) (forget result) }
+    ensures names { IfOk result (λ symbols. symbols ≡ names_in_unit (item_shapes items.now)) }
+{
+    let mut walk = Walk {
+        scope: outset(alloc, items)?,
+        symbols: Symbols::new(alloc),
+    };
+    match declare_items(&mut walk, items) {
+        Ok(()) => Ok(walk.symbols),
+        Err(refusal) => Err(refusal),
+    }
+}
