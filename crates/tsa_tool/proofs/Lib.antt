@@ -22,3 +22,4 @@ pub mod FormedItems
 pub mod ThinLaw
 pub mod CheckExamples
 mod PrintedAgain
+pub mod TypedLaws

@@ -1,5 +1,5 @@
 -- What `check` answers to texts of each kind, worked out.
-use Rattle.std.specs.Prelude.{ℕ, ◌≡◌, List, [], ◌∷◌, ◌++◌, None, Ok, codes}
+use Rattle.std.specs.Prelude.{ℕ, ◌≡◌, true, List, [], ◌∷◌, ◌++◌, Some, None, Ok, codes}
 use Rattle.std.specs.List.{repeat}
 use Rattle.tsa_base.specs.declared.token.Span.{Span}
 use Rattle.tsa_base.specs.Places.{place_text}
@@ -7,7 +7,7 @@ use Rattle.tsa_tool.specs.declared.answer.Status.{Status}
 use Rattle.tsa_tool.specs.declared.answer.Status.TheVariants.{Refused, LimitPassed}
 use Rattle.tsa_tool.specs.declared.thin.ThinStep.TheVariants.{Call, Assign}
 use Rattle.tsa_tool.specs.Checks.{items_in}
-use Rattle.tsa_tool.specs.Items.{lock, number, body}
+use Rattle.tsa_tool.specs.Items.{lock, lock_function, mutex, number, body}
 use Rattle.tsa_tool.specs.Reports.{line, accepted, judged}
 
 abbrev at : ℕ → ℕ → Span
@@ -46,8 +46,19 @@ pub record ChecksAreAsWritten : Type 0 where
   pub attribute_list : Accepts (locks ++ codes "void rel(struct lock *m) __attribute__((release_capability(m)));")
   -- what the items of a unit are: a statement stands at its first token, and a name at its own
   pub write : items_in (codes "int g; void f(void) { (g) = 0x1; }") ≡ Ok (number (at 4 5) None ∷ body (at 12 13) (Assign 22 (at 23 24) 1 ∷ []) (at 33 34) ∷ [])
-  pub take : items_in (codes "struct CAPABILITY(\"mutex\") lock { int s; }; void f(void) { acq((&mu)); }")
-      ≡ Ok (lock (codes "mutex") (at 27 31) (at 38 39) ∷ body (at 49 50) (Call 59 (at 59 62) (at 65 67) ∷ []) (at 71 72) ∷ [])
+  pub take : items_in (locks ++ codes "void f(void) { acq((&mu)); }")
+      ≡ Ok (lock (codes "mutex") (at 27 31) (at 38 39) ∷ lock_function (at 49 52) (at 60 64) (at 66 67) true (at 77 78) ∷ mutex (at 88 92) (at 93 95)
+      ∷ number (at 101 102) (Some (at 114 116)) ∷ body (at 124 125) (Call 134 (at 134 137) (at 140 142) ∷ []) (at 146 147) ∷ [])
+  -- premises of types, each at the node where it fails
+  pub unknown : Refuses (codes "int g = h;") Refused 1 9 (codes "TY1 unknown name")
+  pub again : Refuses (codes "int g; int g;") Refused 1 12 (codes "TY2 declared twice")
+  pub no_type : Refuses (codes "int g; int *p;") Refused 1 12 (codes "TY3 wrong type")
+  pub arguments : Refuses (codes "void f(int n) { f(); }") Refused 1 17 (codes "TY4 wrong number of arguments")
+  pub unwritable : Refuses (codes "const int g = 1; void f(void) { g = 2; }") Refused 1 33 (codes "TY5 not assignable")
+  pub no_lock : Refuses (codes "int m; int g GUARDED_BY(m);") Refused 1 25 (codes "TY6 attribute or lock expression out of place")
+  pub no_target : Refuses (codes "void f(void) { break; }") Refused 1 16 (codes "TY7 jump or label without its target")
+  pub returned : Refuses (codes "void f(void) { return 1; }") Refused 1 16 (codes "TY8 wrong return")
+  pub no_constant : Refuses (codes "int n; int a[n];") Refused 1 14 (codes "TY9 initialiser or constant refused")
   -- trees of other forms
   pub array : IsNotThin (codes "int a[2];")
   pub initialiser : IsNotThin (codes "int x = 1;")

@@ -8,8 +8,10 @@ use Rattle.tsa_tree.specs.units.Syntax.{UnitItem}
 use Rattle.tsa_expr.specs.declared.refusal.SyntaxRefusal.{SyntaxRefusal}
 use Rattle.tsa_expr.specs.declared.refusal.SyntaxRefusal.TheVariants.{At, Function, NoMemory}
 use Rattle.tsa_unit.specs.Parsing.{unit_of}
+use Rattle.tsa_tree.specs.declared.premise.Failure.{Failure}
+use Rattle.tsa_tree.specs.types.FirstFailing.{first_failing}
 use Rattle.tsa_tool.specs.declared.check.Refusal.{Refusal}
-use Rattle.tsa_tool.specs.declared.check.Refusal.TheVariants.{Lex, Syntax, NotBuilt}
+use Rattle.tsa_tool.specs.declared.check.Refusal.TheVariants.{Lex, Syntax, Types, NotBuilt}
 use Rattle.tsa_tool.specs.Items.{Item}
 use Rattle.tsa_tool.specs.Limits.{is_thin_unit}
 use Rattle.tsa_tool.specs.Program.{bodies_of}
@@ -52,10 +54,22 @@ tree_in bytes = do
   tree ← placed bytes tokens (unit_of tokens)
   Ok tree
 
+-- a unit, or the first premise of types that fails in it
+abbrev pub or_failing : List UnitItem → Option Failure → Result (List UnitItem) Refusal
+or_failing tree None = Ok tree
+or_failing tree (Some failure) = Err (Types failure.code failure.span.from)
+
+-- the unit of an input whose types are right, or the first refusal up to its types
+unfoldable pub typed_in : List ℕ → Result (List UnitItem) Refusal
+typed_in bytes = do
+  tree ← tree_in bytes
+  typed ← or_failing tree (first_failing tree)
+  Ok typed
+
 -- the items of an input, whether or not they may stand after each other
 unfoldable pub items_in : List ℕ → Result (List Item) Refusal
 items_in bytes = do
-  tree ← tree_in bytes
+  tree ← typed_in bytes
   items ← ok_or NotBuilt (thin_of tree)
   Ok items
 

@@ -11,12 +11,14 @@ use Rattle.tsa_base.specs.declared.token.LexCode.{LexCode}
 use Rattle.tsa_base.specs.declared.token.LexCode.TheVariants.{LX1, LX2, LX3, LX4, LX5}
 use Rattle.tsa_expr.specs.declared.refusal.SyntaxCode.{SyntaxCode}
 use Rattle.tsa_expr.specs.declared.refusal.SyntaxCode.TheVariants.{SY1, AT1, AT2, LM2, LM3, LM5}
+use Rattle.tsa_tree.specs.declared.premise.TypeCode.{TypeCode}
+use Rattle.tsa_tree.specs.declared.premise.TypeCode.TheVariants.{TY1, TY2, TY3, TY4, TY5, TY6, TY7, TY8, TY9}
 use Rattle.tsa_base.specs.Places.{place_at, place_text}
 use Rattle.tsa_tool.specs.Lines.{Warned}
 use Rattle.tsa_tool.specs.declared.answer.Status.{Status}
 use Rattle.tsa_tool.specs.declared.answer.Status.TheVariants.{Accepted, Printed, Warned as Warns, Refused, WordsRefused, LimitPassed}
 use Rattle.tsa_tool.specs.declared.check.Refusal.{Refusal}
-use Rattle.tsa_tool.specs.declared.check.Refusal.TheVariants.{Lex, Syntax, NotBuilt}
+use Rattle.tsa_tool.specs.declared.check.Refusal.TheVariants.{Lex, Syntax, Types, NotBuilt}
 use Rattle.tsa_tool.specs.declared.command.Command.{Command}
 use Rattle.tsa_tool.specs.declared.command.Command.TheVariants.{Check, Print}
 
@@ -60,6 +62,18 @@ syntax_text LM2 = codes "LM2 over 100 nested"
 syntax_text LM3 = codes "LM3 over 4096 points in a function"
 syntax_text LM5 = codes "LM5 over 1024 functions"
 
+-- what a code of a premise of types says
+abbrev pub type_text : TypeCode → List ℕ
+type_text TY1 = codes "TY1 unknown name"
+type_text TY2 = codes "TY2 declared twice"
+type_text TY3 = codes "TY3 wrong type"
+type_text TY4 = codes "TY4 wrong number of arguments"
+type_text TY5 = codes "TY5 not assignable"
+type_text TY6 = codes "TY6 attribute or lock expression out of place"
+type_text TY7 = codes "TY7 jump or label without its target"
+type_text TY8 = codes "TY8 wrong return"
+type_text TY9 = codes "TY9 initialiser or constant refused"
+
 -- a limit that is passed has a status of its own
 abbrev pub syntax_status : SyntaxCode → Status
 syntax_status SY1 = Refused
@@ -73,6 +87,7 @@ syntax_status LM5 = LimitPassed
 abbrev pub refused_report : List ℕ → Refusal → Report
 refused_report bytes (Lex code byte) = record { status = Refused; text = line (place_text (place_at bytes byte) ++ lex_text code) }
 refused_report bytes (Syntax code byte) = record { status = syntax_status code; text = line (place_text (place_at bytes byte) ++ syntax_text code) }
+refused_report bytes (Types code byte) = record { status = Refused; text = line (place_text (place_at bytes byte) ++ type_text code) }
 refused_report bytes NotBuilt = record { status = Refused; text = line (codes "NB0 form is not built yet") }
 
 abbrev pub accepted : Report

@@ -1,7 +1,7 @@
 //! What is answered to an input.
 ghost use Rattle.std.specs.Prelude.{◌≡◌, ◌≤◌, ◌∷◌, ◌++◌, [], codes, IfOk, OnOk, length};
 ghost use Rattle.tsa_base.specs.declared.limits.TheConstants.{INPUT_LIMIT};
-ghost use Rattle.tsa_tool.specs.Reports.{status_number, words_refused, too_long, answered, judged, printed, accepted, warned_report, refused_report, lex_text, syntax_text, syntax_status, line};
+ghost use Rattle.tsa_tool.specs.Reports.{status_number, words_refused, too_long, answered, judged, printed, accepted, warned_report, refused_report, lex_text, syntax_text, syntax_status, type_text, line};
 ghost use Rattle.tsa_tool.specs.Answer.{report_of};
 ghost use Rattle.tsa_tool.specs.Warned.{warned_of};
 ghost use Rattle.std.specs.Fmt.{decimal};
@@ -13,6 +13,7 @@ use crate::warn::UnitLines;
 use std::alloc::Global;
 use tsa_base::{LexCode, LineStarts, NoMemory};
 use tsa_expr::SyntaxCode;
+use tsa_types::TypeCode;
 
 /// How an answer ends the program.
 #[derive(Clone, Copy)]
@@ -140,6 +141,7 @@ fn refuse(alloc: Global, bytes: &[u8], refusal: Refusal) -> Result<Answer, NoMem
     match refusal {
         Refusal::Lex { code, byte } => refuse_byte(alloc, bytes, code, byte),
         Refusal::Syntax { code, byte } => refuse_syntax(alloc, bytes, code, byte),
+        Refusal::Types { code, byte } => refuse_types(alloc, bytes, code, byte),
         Refusal::NotBuilt => answer_of(alloc, Status::Refused, b"NB0 form is not built yet\n"),
     }
 }
@@ -166,6 +168,16 @@ fn refuse_syntax(
     Ok(Answer {
         status: syntax_status(code),
         text: placed_line(alloc, bytes, byte, syntax_text(code))?,
+    })
+}
+
+// The answer to a unit of which a premise of types fails.
+fn refuse_types(alloc: Global, bytes: &[u8], code: TypeCode, byte: u32) -> Result<Answer, NoMemory>
+    ensures { IfOk result (λ answer. report_of answer ≡ refused_report bytes.now (Refusal.Types code byte)) }
+{
+    Ok(Answer {
+        status: Status::Refused,
+        text: placed_line(alloc, bytes, byte, type_text(code))?,
     })
 }
 
@@ -205,6 +217,23 @@ fn syntax_text(code: SyntaxCode) -> &'static [u8]
         SyntaxCode::LM2 => b"LM2 over 100 nested",
         SyntaxCode::LM3 => b"LM3 over 4096 points in a function",
         SyntaxCode::LM5 => b"LM5 over 1024 functions",
+    }
+}
+
+// What a code of a premise of types says.
+fn type_text(code: TypeCode) -> &'static [u8]
+    ensures { result.now ≡ type_text code }
+{
+    match code {
+        TypeCode::TY1 => b"TY1 unknown name",
+        TypeCode::TY2 => b"TY2 declared twice",
+        TypeCode::TY3 => b"TY3 wrong type",
+        TypeCode::TY4 => b"TY4 wrong number of arguments",
+        TypeCode::TY5 => b"TY5 not assignable",
+        TypeCode::TY6 => b"TY6 attribute or lock expression out of place",
+        TypeCode::TY7 => b"TY7 jump or label without its target",
+        TypeCode::TY8 => b"TY8 wrong return",
+        TypeCode::TY9 => b"TY9 initialiser or constant refused",
     }
 }
 

@@ -7,7 +7,7 @@ ghost use Rattle.tsa_tree.specs.tokens.Signs.{lexemes};
 ghost use Rattle.tsa_tree.specs.tokens.Texts.{AreOfText};
 ghost use Rattle.tsa_tree.specs.units.Shapes.{item_shapes};
 ghost use Rattle.tsa_unit.specs.Parsing.{unit_of};
-ghost use Rattle.tsa_tool.specs.Checks.{lexed, byte_of, refusal_of, placed, tree_in, items_in, judged_items, warned_in};
+ghost use Rattle.tsa_tool.specs.Checks.{lexed, byte_of, refusal_of, placed, tree_in, typed_in, items_in, judged_items, warned_in};
 ghost use Rattle.tsa_tool.specs.Reports.{printed_report};
 ghost use Rattle.tsa_tool.specs.Warned.{warned_of};
 ghost use Rattle.tsa_tool.specs.declared.answer.Status.TheVariants.{Printed};
@@ -26,14 +26,16 @@ use tsa_expr::{SyntaxCode, SyntaxRefusal};
 use tsa_lex::{LexRefusal, lex};
 use tsa_print::print_unit;
 use tsa_tree::Parsed;
+use tsa_types::{TypeCode, TypeRefusal, Typed, type_check};
 use tsa_unit::parse;
 
 /// Why a unit is refused, with a line of its own: a byte that makes it no tokens, a token or a function that its syntax
-/// refuses, or a form that isn't built yet.
+/// refuses, a node that its types refuse, or a form that isn't built yet.
 #[derive(Clone, Copy)]
 pub enum Refusal {
     Lex { code: LexCode, byte: u32 },
     Syntax { code: SyntaxCode, byte: u32 },
+    Types { code: TypeCode, byte: u32 },
     NotBuilt,
 }
 
@@ -142,16 +144,35 @@ pub fn canonical_text(alloc: Global, bytes: &[u8]) -> Result<Vec<u8>, ToolRefusa
     Ok(print_unit(alloc, parsed.unit())?)
 }
 
+// The unit of an input whose types are right, in an arena.
+#[tactic(auto, unfolding(crate::specs::Checks::typed_in), using(crate::proofs::TypedLaws::types, crate::proofs::AheadItems::parsed_within))]
+fn read_typed<'a>(alloc: Global, bump: &'a Bump, bytes: &[u8]) -> Result<Typed<'a>, ToolRefusal>
+    requires { length bytes.now ≤ INPUT_LIMIT }
+    ensures tree { IfOk result (λ typed. typed_in bytes.now ≡ Ok (item_shapes typed.unit.now.items.now)) }
+    ensures count { IfOk result (λ typed. length typed.unit.now.items.now ≤ INPUT_LIMIT) }
+    ensures refused { (r : _) → IsErrOf result (ToolRefusal.Refused r) → typed_in bytes.now ≡ Err r }
+{
+    let parsed = read_tree(alloc, bump, bytes)?;
+    match type_check(alloc, parsed) {
+        Ok(typed) => Ok(typed),
+        Err(TypeRefusal::At { code, span }) => Err(ToolRefusal::Refused(Refusal::Types {
+            code,
+            byte: span.from,
+        })),
+        Err(TypeRefusal::NoMemory) => Err(ToolRefusal::NoMemory),
+    }
+}
+
 // The items of an input that are a unit of the thin language, in an arena.
-#[tactic(auto, unfolding(crate::specs::Checks::items_in), using(crate::proofs::AheadItems::parsed_within))]
+#[tactic(auto, unfolding(crate::specs::Checks::items_in))]
 fn read_items<'a>(alloc: Global, bump: &'a Bump, bytes: &[u8]) -> Result<ThinUnit<'a>, ToolRefusal>
     requires { length bytes.now ≤ INPUT_LIMIT }
     ensures items { IfOk result (λ unit. items_in bytes.now ≡ Ok (map item_of unit.items.items)) }
     ensures count { IfOk result (λ unit. vec_len unit.items ≤ INPUT_LIMIT) }
     ensures refused { (r : _) → IsErrOf result (ToolRefusal.Refused r) → items_in bytes.now ≡ Err r }
 {
-    let parsed = read_tree(alloc, bump, bytes)?;
-    match thin(alloc, parsed.unit().items)? {
+    let typed = read_typed(alloc, bump, bytes)?;
+    match thin(alloc, typed.unit().items)? {
         Some(unit) => Ok(unit),
         None => Err(NOT_BUILT),
     }

@@ -1,0 +1,17 @@
+-- What an answer of types says of an input.
+use Rattle.std.proofs.Common.{◌≡◌, ◌∙◌, List, Option, Some, None, Ok, Err, ℕ, ap}
+use Rattle.tsa_base.specs.declared.token.Span.{Span}
+use Rattle.tsa_tree.specs.units.Syntax.{UnitItem}
+use Rattle.tsa_tree.specs.declared.premise.TypeCode.{TypeCode}
+use Rattle.tsa_tree.specs.declared.premise.Failure.{Failure}
+use Rattle.tsa_tool.specs.declared.check.Refusal.TheVariants.{Types}
+use Rattle.tsa_tool.specs.Checks.{or_failing}
+
+pub none_fails : (tree : List UnitItem) (first : Option Failure) → first ≡ None → or_failing tree first ≡ Ok tree
+none_fails tree first is = ap (or_failing tree) is
+
+pub one_fails : (tree : List UnitItem) (first : Option Failure) (code : TypeCode) (span : Span) → first ≡ Some (record { code = code; span = span })
+    → or_failing tree first ≡ Err (Types code span.from)
+one_fails tree first code span is = ap (or_failing tree) is
+
+pub ruleset types = (none_fails, one_fails)
