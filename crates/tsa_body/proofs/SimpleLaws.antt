@@ -23,7 +23,7 @@ use Rattle.tsa_tree.specs.types.Known.{Context}
 use Rattle.tsa_tree.specs.types.Operands.{lacks, goes_to}
 use Rattle.tsa_tree.specs.types.Premises.{Premise, premise, or_else, first}
 use Rattle.tsa_tree.specs.types.Scopes.{Scope}
-use Rattle.tsa_tree.specs.types.Simple.{assignment_breaks, is_written_to, assignment_premises, tested, tested_premises, is_void, return_premises}
+use Rattle.tsa_tree.specs.types.Simple.{assignment_breaks, is_written_to, written_type, assignment_premises, tested, tested_premises, is_void, return_premises}
 use Rattle.tsa_tree.specs.types.Statements.{Around, leaf_premises, init_premises, step_premises, behind_init, is_again}
 use Rattle.tsa_tree.specs.types.Symbols.{names_in_leaf, names_in_step, names_in_for_init}
 use Rattle.tsa_resolve.specs.declared.found.Found.{Found}
@@ -104,21 +104,21 @@ module _ (c : Context) where
       → assigned op span target (found_in c right) ≡ first (assignment_premises c (shape left) op right span)
   unfolding assignment_premises
   assignment_is left op right span target place is =
-      let b = assignment_breaks op (type_of c (shape left)) (type_of c right) in
+      let b = assignment_breaks op (written_type (type_of c (shape left))) (type_of c right) in
       let w = lacks is_written_to (type_of c (shape left)) in
-      ap (λ s. if assignment_breaks op (found_thing target.found) (found_thing (found_in c right)) then Some (at TY3 span) else written_by s target.found (result_err (found_in c right))) place
-      ∙ ap (λ r. if assignment_breaks op (found_thing r) (found_thing (found_in c right)) then Some (at TY3 span) else written_by left.span r (result_err (found_in c right))) is
+      ap (λ s. if assignment_breaks op (written_type (found_thing target.found)) (found_thing (found_in c right)) then Some (at TY3 span) else written_by s target.found (result_err (found_in c right))) place
+      ∙ ap (λ r. if assignment_breaks op (written_type (found_thing r)) (found_thing (found_in c right)) then Some (at TY3 span) else written_by left.span r (result_err (found_in c right))) is
       ∙ sym (own_first b TY3 span (premises_of c (shape left) ++ premise TY5 (expression_span (shape left)) w ∷ premises_of c right)
       ∙ ap (or_else (own b TY3 span)) (first_append (premises_of c (shape left)) (premise TY5 (expression_span (shape left)) w ∷ premises_of c right)
       ∙ ap (or_else (first (premises_of c (shape left)))) (own_first w TY5 (expression_span (shape left)) (premises_of c right)))
       ∙ ap (λ x. or_else (own b TY3 span) (or_else x (or_else (own w TY5 (expression_span (shape left))) (first (premises_of c right))))) (sym (err_is (shape left)))
       ∙ ap (λ x. or_else (own b TY3 span) (or_else (result_err (found_in c (shape left))) (or_else (own w TY5 (expression_span (shape left))) x))) (sym (err_is right))
       ∙ ap (λ s. or_else (own b TY3 span) (or_else (result_err (found_in c (shape left))) (or_else (own w TY5 s) (result_err (found_in c right))))) (shape_span left)
-      ∙ ap (λ t. or_else (own (assignment_breaks op t (type_of c right)) TY3 span) (or_else (result_err (found_in c (shape left)))
+      ∙ ap (λ t. or_else (own (assignment_breaks op (written_type t) (type_of c right)) TY3 span) (or_else (result_err (found_in c (shape left)))
       (or_else (own (lacks is_written_to t) TY5 left.span) (result_err (found_in c right))))) (thing_is (shape left))
-      ∙ ap (λ t. or_else (own (assignment_breaks op (found_thing (found_in c (shape left))) t) TY3 span) (or_else (result_err (found_in c (shape left)))
+      ∙ ap (λ t. or_else (own (assignment_breaks op (written_type (found_thing (found_in c (shape left)))) t) TY3 span) (or_else (result_err (found_in c (shape left)))
       (or_else (own (lacks is_written_to (found_thing (found_in c (shape left)))) TY5 left.span) (result_err (found_in c right))))) (thing_is right)
-      ∙ by_left (assignment_breaks op (found_thing (found_in c (shape left))) (found_thing (found_in c right))) span left.span (found_in c (shape left)) (result_err (found_in c right)))
+      ∙ by_left (assignment_breaks op (written_type (found_thing (found_in c (shape left)))) (found_thing (found_in c right))) span left.span (found_in c (shape left)) (result_err (found_in c right)))
 
   -- returns
   turned : (b : Bool) (span : Span) → or_else (own (not b) TY8 span) None ≡ (if b then None else Some (at TY8 span))

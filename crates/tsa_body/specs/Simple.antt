@@ -8,7 +8,7 @@ use Rattle.tsa_tree.specs.declared.kind.ThingType.{ThingType}
 use Rattle.tsa_tree.specs.declared.premise.Failure.{Failure}
 use Rattle.tsa_tree.specs.declared.premise.TypeCode.TheVariants.{TY3, TY5, TY8}
 use Rattle.tsa_tree.specs.types.Operands.{goes_to, is_integer, is_scalar}
-use Rattle.tsa_tree.specs.types.Simple.{assignment_breaks, is_written_to, is_void}
+use Rattle.tsa_tree.specs.types.Simple.{assignment_breaks, is_written_to, written_type, is_void}
 use Rattle.tsa_resolve.specs.declared.found.Found.{Found}
 use Rattle.tsa_resolve.specs.Parts.{found_thing}
 use Rattle.tsa_resolve.specs.Verdicts.{at}
@@ -21,7 +21,7 @@ written_by place (Ok f) right = if is_written_to f.thing then right else Some (a
 
 abbrev pub assigned : Option BinaryOp → Span → Target → Result Found Failure → Option Failure
 assigned op span left right =
-    if assignment_breaks op (found_thing left.found) (found_thing right) then Some (at TY3 span) else written_by left.span left.found (result_err right)
+    if assignment_breaks op (written_type (found_thing left.found)) (found_thing right) then Some (at TY3 span) else written_by left.span left.found (result_err right)
 
 -- a test or a value of a type is judged at the statement's first word
 abbrev pub passes : (ExpressionType → Bool) → Span → Result Found Failure → Option Failure

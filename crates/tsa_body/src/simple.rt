@@ -1,7 +1,8 @@
 //! What is wrong with assignments, tests and values of statements (C11 6.5.16, 6.8.4, 6.8.6.4), by what their expressions were found to be.
 ghost use Rattle.std.specs.Prelude.{◌≡◌};
 ghost use Rattle.tsa_body.specs.Simple.{assigned, tested_by, valued, returned};
-ghost use Rattle.tsa_tree.specs.types.Simple.{assignment_breaks as spec_breaks, is_written_to as spec_written, is_void as spec_is_void};
+ghost use Rattle.tsa_tree.specs.types.Simple.{assignment_breaks as spec_breaks, is_written_to as spec_written, written_type as spec_written_type, is_void as spec_is_void};
+ghost use Rattle.tsa_resolve.specs.Parts.{found_thing};
 
 use tsa_base::Span;
 use tsa_operand::{binary_type, breaks_binary, goes_to, is_integer, is_scalar};
@@ -42,6 +43,13 @@ fn is_written_to(t: ExpressionType) -> bool
     t.is_place && !t.thing.is_const
 }
 
+/// The type of a left side that may be written to; one that may not has none.
+fn written_type(left: Result<Found, Failure>) -> Option<ExpressionType>
+    ensures { result ≡ spec_written_type (found_thing left) }
+{
+    thing_of(left).filter(|t| is_written_to(*t))
+}
+
 /// The left side of an assignment: where it stands, and what it was found to be.
 #[derive(Clone, Copy)]
 pub struct Target {
@@ -58,7 +66,7 @@ pub fn assignment_failure(
 ) -> Option<Failure>
     ensures { result ≡ assigned op span left right }
 {
-    if assignment_breaks(op, thing_of(left.found), thing_of(right)) {
+    if assignment_breaks(op, written_type(left.found), thing_of(right)) {
         return Some(at(TypeCode::TY3, span));
     }
     match left.found {

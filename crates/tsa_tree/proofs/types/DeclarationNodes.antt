@@ -30,7 +30,7 @@ use Rattle.tsa_tree.specs.types.Premises.{premise, or_else, first}
 use Rattle.tsa_tree.specs.types.Scopes.{Scope, Tag, Members, found, context_of, with_name, with_owned, is_taken, is_named_taken, tag_in}
 use Rattle.tsa_tree.specs.types.Structs.{with_member, first_place, other_struct, members_premises, inside_struct, struct_premises}
 use Rattle.tsa_tree.specs.types.Types as type
-use Rattle.tsa_tree.specs.types.Types.{Kind, ThingType, ExpressionType, single}
+use Rattle.tsa_tree.specs.types.Types.{Kind, ThingType}
 use Rattle.tsa_tree.proofs.types.NodeLists.{Agree, no_nodes, joined, with_node, a_node}
 use Rattle.tsa_tree.proofs.types.ExpressionNodes.{asked_if, expression_agrees}
 

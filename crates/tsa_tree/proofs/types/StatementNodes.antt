@@ -16,13 +16,13 @@ use Rattle.tsa_tree.specs.types.FirstFailing.{failure_at}
 use Rattle.tsa_tree.specs.types.Known.{Context}
 use Rattle.tsa_tree.specs.types.Locals.{has_type, init_breaks, names_in_init, names_in_items, names_in, local_premises}
 use Rattle.tsa_tree.specs.types.Node as node
-use Rattle.tsa_tree.specs.types.Node.{Node, told_at}
+use Rattle.tsa_tree.specs.types.Node.{told_at}
 use Rattle.tsa_tree.specs.types.Nodes as nodes
 use Rattle.tsa_tree.specs.types.Nodes.{nodes_in, nodes_in_local_init, nodes_in_local_inits, nodes_in_given_init, nodes_in_local, nodes_in_simple, nodes_in_given, nodes_in_for_init, nodes_in_step, nodes_in_for, nodes_in_statement, nodes_in_statements}
 use Rattle.tsa_tree.specs.types.Operands.{lacks, is_scalar, is_integer}
 use Rattle.tsa_tree.specs.types.Premises.{Failure, premise, failure_of, or_else, first}
 use Rattle.tsa_tree.specs.types.Scopes.{Scope, context_of, is_taken, further}
-use Rattle.tsa_tree.specs.types.Simple.{assignment_breaks, assignment_premises, is_written_to, tested_premises, return_breaks, parts_of, return_premises}
+use Rattle.tsa_tree.specs.types.Simple.{assignment_breaks, assignment_premises, is_written_to, written_type, tested_premises, return_breaks, parts_of, return_premises}
 use Rattle.tsa_tree.specs.types.Statements.{Around, in_a_loop, in_a_switch, simple_premises, init_premises, behind_init, for_test, test_premises, step_premises, is_again, unless_again, is_case_again, case_premises, default_premises, label_premises, goto_premises, break_premises, continue_premises, for_premises, statement_premises, statements_premises, behind}
 use Rattle.tsa_tree.specs.types.Targets.{declared_in}
 use Rattle.tsa_tree.proofs.types.NodeLists.{Agree, no_nodes, joined, with_node, a_node, regrouped}
@@ -80,7 +80,7 @@ simple_agrees here (evaluation e span) = expression_agrees (context_of here) e
 simple_agrees here (assignment left op right span) =
     with_node
     (node.assignment (context_of here) left op right span)
-    (premise TY3 span (assignment_breaks op (type_of (context_of here) left) (type_of (context_of here) right)) ∷ [])
+    (premise TY3 span (assignment_breaks op (written_type (type_of (context_of here) left)) (type_of (context_of here) right)) ∷ [])
     refl
     (regrouped
     (premises_of (context_of here) left)

@@ -19,7 +19,7 @@ use Rattle.tsa_tree.specs.types.Node as node
 use Rattle.tsa_tree.specs.types.Node.{Node}
 use Rattle.tsa_tree.specs.types.Operands.{is_scalar, is_integer, goes_to, lacks, breaks_prefix, breaks_binary, breaks_index}
 use Rattle.tsa_tree.specs.types.Scopes.{context_of, found, is_taken, is_named_taken, tag_in}
-use Rattle.tsa_tree.specs.types.Simple.{assignment_breaks, is_written_to, return_breaks}
+use Rattle.tsa_tree.specs.types.Simple.{assignment_breaks, is_written_to, written_type, return_breaks}
 use Rattle.tsa_tree.specs.types.Statements.{is_elsewhere, is_case_again}
 use Rattle.tsa_tree.specs.types.Structs.{other_struct}
 
@@ -67,7 +67,7 @@ fails TY3 (node.prefix c op inner span) = breaks_prefix op (type_of c inner)
 fails TY3 (node.binary c op left right span) = breaks_binary op (type_of c left) (type_of c right)
 fails TY3 (node.access c base arrow span) = lacks (λ t. is_some (owner arrow t)) (type_of c base)
 fails TY3 (node.index c base at span) = breaks_index (type_of c base) (type_of c at)
-fails TY3 (node.assignment c left op right span) = assignment_breaks op (type_of c left) (type_of c right)
+fails TY3 (node.assignment c left op right span) = assignment_breaks op (written_type (type_of c left)) (type_of c right)
 -- .. a test is no scalar or a switch's value no integer (C11 6.8.4.1p1, 6.8.4.2p1, 6.8.5p2) ..
 fails TY3 (node.test c e span) = lacks is_scalar (type_of c e)
 fails TY3 (node.switch_value c e span) = lacks is_integer (type_of c e)

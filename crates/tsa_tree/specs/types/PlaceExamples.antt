@@ -34,6 +34,8 @@ pub record PlacesAreTold (told : List ℕ → Told) : Type 0 where
   pub step : told (codes "struct s { int x; }; void f(struct s *p) { ++p; }") ≡ refused TY3 43
   pub left_side_in_parentheses : told (codes "const int g = 1; void f(void) { (g) = 2; }") ≡ refused TY5 33
   pub left_side_of_a_step : told (codes "const int g = 1; void f(void) { ++g; }") ≡ refused TY5 34
+  pub left_side_before_what_goes_there : told (codes "enum { E }; void f(void) { E = NULL; }") ≡ refused TY5 27
+  pub operator_before_the_left_side : told (codes "struct s { int x; }; const int g = 1; void f(struct s *p) { g += p; }") ≡ refused TY3 60
   pub global_initialiser : told (codes "struct s { int x; }; struct s v; struct s w = v;") ≡ refused TY9 46
   pub list_for_a_number : told (codes "int g = { 1 };") ≡ refused TY9 8
   pub number_for_a_list : told (codes "int a[2] = 1;") ≡ refused TY9 11
