@@ -20,6 +20,14 @@ pub struct View<'w, 'a> {
     pub function: u32,
 }
 
+/// The use of a member: where the whole of it stands, the member's name, and whether an arrow stands before it.
+#[derive(Clone, Copy)]
+struct Access<'n> {
+    span: Span,
+    name: Name<'n>,
+    arrow: bool,
+}
+
 /// The parameter of a number.
 fn param_at(params: &[ThingType], number: usize) -> Option<ThingType>
     ensures { result ≡ slice_get params.now number }
@@ -82,22 +90,16 @@ impl<'w, 'a> View<'w, 'a> {
     }
 
     /// A member by its name.
-    fn field(
-        self,
-        span: Span,
-        name: Name<'_>,
-        arrow: bool,
-        base: Result<Found, Failure>,
-    ) -> Result<Found, Failure>
-        ensures { result ≡ field_part (context_of self.entry.scope.now) span (name_shape name.entry) arrow base }
+    fn field(self, access: Access<'_>, base: Result<Found, Failure>) -> Result<Found, Failure>
+        ensures { result ≡ field_part (context_of self.entry.scope.now) access.entry.span (name_shape access.entry.name) access.entry.arrow base }
     {
         let base = base?;
-        match owner(arrow, base.thing) {
+        match owner(access.arrow, base.thing) {
             Some(structure) => {
-                let member = self.scope.member(structure, name.text);
-                member_verdict(name.span, arrow, base, member)
+                let member = self.scope.member(structure, access.name.text);
+                member_verdict(access.name.span, access.arrow, base, member)
             }
-            None => Err(at(TypeCode::TY3, span)),
+            None => Err(at(TypeCode::TY3, access.span)),
         }
     }
 
@@ -135,7 +137,12 @@ impl<'w, 'a> View<'w, 'a> {
             }
             ExprKind::Field { base, name, arrow } => {
                 let base = self.expression(symbols, base)?;
-                Ok(self.field(expr.span, *name, *arrow, base))
+                let access = Access {
+                    span: expr.span,
+                    name: *name,
+                    arrow: *arrow,
+                };
+                Ok(self.field(access, base))
             }
             ExprKind::Index { base, index } => {
                 let base = self.expression(symbols, base)?;

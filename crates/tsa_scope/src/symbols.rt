@@ -103,4 +103,14 @@ impl Symbols {
         self.last = span.from;
         Ok(())
     }
+
+    /// Notes the names of another table, in their order.
+    pub fn append(&mut self, other: &Symbols) -> Result<(), NoMemory>
+        ensures { OnOk result (self.new ≡ self.old ++ other.now) }
+    {
+        'each: for named in &other.names {
+            self.note(named.span, named.symbol)?;
+        }
+        Ok(())
+    }
 }

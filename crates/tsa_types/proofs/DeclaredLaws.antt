@@ -40,9 +40,12 @@ declared_untaken here what taken span t h =
     (first_holds (first (typed_premises here what taken span t)) (first (length_premises (context_of here) t.length))
     (sym (first_append (typed_premises here what taken span t) (length_premises (context_of here) t.length)) ∙ h))
 
-pub ruleset typed = (typed_is)
+pub ruleset declared = (typed_is, declared_is)
 
-pub ruleset declared = (declared_is)
+-- a name is taken where it isn't free
+pub not_free : (free taken : Bool) → free ≡ not taken → not free ≡ taken
+not_free free true h = ap not h
+not_free free false h = ap not h
 
 -- what wasn't taken is declared
 pub is_fresh : (fresh asked taken : Bool) → fresh ≡ not taken → asked ≡ taken → asked ≡ false → fresh ≡ true

@@ -44,6 +44,10 @@ declaration_names c function d notes =
     sym (noted_append (noted notes (names_in_given c function d.ctype.length)) (names_in_attributes c function d.attrs) (names_in_given_init c function d.init))
     ∙ sym (noted_append notes (names_in_given c function d.ctype.length) (names_in_attributes c function d.attrs ++ names_in_given_init c function d.init))
 
+-- what fails first outside of where a global is known, by whether its name is taken
+abbrev pub outside_by : Scope → Declaration → Bool → Option Failure
+outside_by here d taken = first (typed_premises here declaring.Thing taken d.span d.ctype)
+
 -- a global outside of where it is known, and then inside
 module _ (here : Scope) (d : Declaration) where
   -- its premises where it is not known yet, and the first that fails where it is

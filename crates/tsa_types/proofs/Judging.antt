@@ -38,6 +38,14 @@ module _ (x f : Option Failure) (r : Result ⊤ TypeRefusal) (found : f ≡ x) (
       by None k = refl
       by (Some g) k = cc
 
+  -- what follows where nothing fails is so where the answer is right
+  pub on_kept : {P : Type 0} → (x ≡ None → P) → OnOk r P
+  on_kept {P} p = by r refl
+    where
+      by : (s : Result ⊤ TypeRefusal) → r ≡ s → OnOk s P
+      by (Ok u) h = p (judged_holds u h)
+      by (Err e) h = tt
+
 -- an answer of some, and of those behind them
 judges_some : (x y : Option Failure) (e : TypeRefusal) → Judges x (Err e) → Judges (or_else x y) (Err e)
 judges_some x y (At code span) h = ap (λ o. or_else o y) h

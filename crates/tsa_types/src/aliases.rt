@@ -9,7 +9,7 @@ ghost use Rattle.tsa_tree.specs.types.Symbols.{names_in_item};
 ghost use Rattle.tsa_tree.specs.types.Units.{item_premises, behind_item};
 ghost use Rattle.tsa_tree.specs.units.Syntax.{alias_item};
 
-use crate::declared::{NewName, judge_declared};
+use crate::declared::judge_type;
 use tsa_resolve::{TypeRefusal, View, judged};
 use tsa_scope::{Scope, Symbols};
 use tsa_tree::item::AliasDef;
@@ -36,13 +36,8 @@ pub fn declare_alias<'a>(
     ensures behind { OnOk result (scope.new ≡ behind_item scope.old (alias_item (name_shape alias.now.name) (type_shape alias.now.ctype) alias.now.span)) }
     ensures names { OnOk result (symbols.new ≡ symbols.old ++ names_in_item scope.old (alias_item (name_shape alias.now.name) (type_shape alias.now.ctype) alias.now.span)) }
 {
-    let name = NewName {
-        what: Declaring::Type,
-        taken: scope.is_taken(alias.name.text),
-        span: alias.span,
-    };
-    let told = judge_declared(View { scope, function: 0 }, symbols, name, &alias.ctype)?;
-    judged(told.failure)?;
-    scope.declare(alias.name.text, a_type_name(told.thing))?;
-    Ok(())
+    let view = View { scope, function: 0 };
+    let typing = judge_type(view, symbols, Declaring::Type, &alias.ctype)?;
+    let free = scope.declare(alias.name.text, a_type_name(typing.written.thing))?;
+    judged(typing.failure(!free, alias.span))
 }

@@ -1,75 +1,56 @@
 //! A name that is declared, with its written type: what is wrong with them (C11 6.7p3, 6.7.2).
-ghost use Rattle.std.specs.Prelude.{◌≡◌, ◌++◌, IfOk, OnOk};
+ghost use Rattle.std.specs.Prelude.{◌≡◌, ◌++◌, Bool, IfOk, OnOk};
 ghost use Rattle.tsa_resolve.specs.Lengths.{name_premises};
 ghost use Rattle.tsa_tree.specs.declarations.Shapes.{type_shape};
-ghost use Rattle.tsa_tree.specs.types.DeclaredTypes.{thing_type, is_refused, typed_premises, declared_premises};
-ghost use Rattle.tsa_tree.specs.types.Premises.{first};
+ghost use Rattle.tsa_tree.specs.types.DeclaredTypes.{thing_type, typed_premises, declared_premises};
+ghost use Rattle.tsa_tree.specs.types.Premises.{or_else, first};
 ghost use Rattle.tsa_tree.specs.types.Scopes.{context_of};
 ghost use Rattle.tsa_tree.specs.types.Symbols.{names_in_given};
 
 use tsa_base::{NoMemory, Span};
-use tsa_resolve::{View, first_of, typed_failure};
+use tsa_resolve::{View, Written, first_of, typed_failure};
 use tsa_scope::Symbols;
 use tsa_tree::decl::CType;
-use tsa_tree::kind::{Declaring, Resolved, ThingType};
+use tsa_tree::kind::Declaring;
 use tsa_tree::premise::Failure;
 
-/// A name that is declared: what as, whether it is taken, and where its declaration stands.
+/// The written type of what is declared: what it comes to, and whether that may not be declared so.
 #[derive(Clone, Copy)]
-pub struct NewName {
-    pub what: Declaring,
-    pub taken: bool,
-    pub span: Span,
+pub struct Typing {
+    pub written: Written,
+    pub refused: bool,
 }
 
-/// A declaration that was judged: the type of what is declared, and what is wrong with its name and its type.
-#[derive(Clone, Copy)]
-pub struct Declared {
-    pub thing: ThingType,
-    pub failure: Option<Failure>,
+impl Typing {
+    /// What is wrong with a name at a span, taken or not, and with this type of it but for a length.
+    pub fn outer_failure(self, taken: bool, span: Span) -> Option<Failure>
+        ensures { result ≡ first (name_premises taken self.refused span self.written.resolved) }
+    {
+        typed_failure(taken, self.refused, span, self.written.resolved)
+    }
+
+    /// The same with the length.
+    pub fn failure(self, taken: bool, span: Span) -> Option<Failure>
+        ensures { result ≡ or_else (first (name_premises taken self.refused span self.written.resolved)) self.written.length }
+    {
+        first_of(self.outer_failure(taken, span), self.written.length)
+    }
 }
 
-/// What is wrong with a name and with its type but for a length.
-fn name_failure(view: View<'_, '_>, name: NewName, resolved: Resolved) -> Option<Failure>
-    ensures { result ≡ first (name_premises name.taken (is_refused view.entry.scope.now name.what resolved) name.span resolved) }
-{
-    let refused = view.is_refused(name.what, resolved);
-    typed_failure(name.taken, refused, name.span, resolved)
-}
-
-/// A name with its written type but for the length, which is judged elsewhere. The names in the length are noted.
-#[tactic(auto, using(crate::proofs::DeclaredLaws::typed))]
-pub fn judge_typed(
-    view: View<'_, '_>,
-    symbols: &mut Symbols,
-    name: NewName,
-    ctype: &CType<'_>,
-) -> Result<Declared, NoMemory>
-    ensures thing { IfOk result (λ told. told.thing ≡ thing_type view.entry.scope.now (type_shape ctype.now)) }
-    ensures failure { IfOk result (λ told. told.failure ≡ first (typed_premises view.entry.scope.now name.what name.taken name.span (type_shape ctype.now))) }
-{
-    let written = view.written(symbols, ctype)?;
-    Ok(Declared {
-        thing: written.thing,
-        failure: name_failure(view, name, written.resolved),
-    })
-}
-
-/// A name with its written type, whose length's names are noted.
+/// The written type of what is declared, where it isn't known yet. The names in its length are noted.
 #[tactic(auto, using(crate::proofs::DeclaredLaws::declared))]
-pub fn judge_declared(
+pub fn judge_type(
     view: View<'_, '_>,
     symbols: &mut Symbols,
-    name: NewName,
+    what: Declaring,
     ctype: &CType<'_>,
-) -> Result<Declared, NoMemory>
-    ensures thing { IfOk result (λ told. told.thing ≡ thing_type view.entry.scope.now (type_shape ctype.now)) }
-    ensures failure { IfOk result (λ told. told.failure ≡ first (declared_premises view.entry.scope.now name.what name.taken name.span (type_shape ctype.now))) }
+) -> Result<Typing, NoMemory>
+    ensures thing { IfOk result (λ typing. typing.written.thing ≡ thing_type view.entry.scope.now (type_shape ctype.now)) }
+    ensures outer { IfOk result (λ typing. (taken : Bool) (span : Span) → first (name_premises taken typing.refused span typing.written.resolved) ≡ first (typed_premises view.entry.scope.now what taken span (type_shape ctype.now))) }
+    ensures whole { IfOk result (λ typing. (taken : Bool) (span : Span) → or_else (first (name_premises taken typing.refused span typing.written.resolved)) typing.written.length ≡ first (declared_premises view.entry.scope.now what taken span (type_shape ctype.now))) }
     ensures names { OnOk result (symbols.new ≡ symbols.old ++ names_in_given (context_of view.entry.scope.now) view.entry.function (type_shape ctype.now).length) }
 {
     let written = view.written(symbols, ctype)?;
-    Ok(Declared {
-        thing: written.thing,
-        failure: first_of(name_failure(view, name, written.resolved), written.length),
-    })
+    let refused = view.is_refused(what, written.resolved);
+    Ok(Typing { written, refused })
 }

@@ -64,40 +64,38 @@ fn value_worth(span: Span, found: Result<Found, Failure>) -> Result<i32, Failure
     int_value(found?.value()).ok_or(at(TypeCode::TY9, span))
 }
 
-/// What an enumerator is worth after the last value, or what is wrong with its own. Its names are noted where it is declared.
-#[tactic(auto, using(crate::proofs::EnumLaws::worth))]
+/// What an enumerator is worth after the last value, or what is wrong with its own. The names in its value are noted.
+#[tactic(auto, using(crate::proofs::EnumLaws::worth, tsa_resolve::proofs::SymbolLaws::notes))]
 fn worth(
     view: View<'_, '_>,
+    symbols: &mut Symbols,
     enumerator: &Enumerator<'_>,
     last: Option<i32>,
 ) -> Result<Result<i32, Failure>, NoMemory>
-    ensures { IfOk result (λ worth. worth ≡ value_verdict view.entry.scope.now (enumerator_shape enumerator.now) (next_after last)) }
+    ensures worth { IfOk result (λ worth. worth ≡ value_verdict view.entry.scope.now (enumerator_shape enumerator.now) (next_after last)) }
+    ensures names { OnOk result (symbols.new ≡ symbols.old ++ names_in_given (context_of view.entry.scope.now) view.entry.function (enumerator_shape enumerator.now).value) }
 {
     match &enumerator.value {
         Some(value) => {
-            let mut unnoted = Symbols::new(view.scope.allocator());
-            let found = view.expression(&mut unnoted, value)?;
+            let found = view.expression(symbols, value)?;
             Ok(value_worth(value.span, found))
         }
         None => Ok(count_on(last).ok_or(at(TypeCode::TY9, enumerator.name.span))),
     }
 }
 
-/// Notes the name of an enumerator that is worth this, and those in its value.
+/// Notes the name of an enumerator that is worth this, and the names in its value.
 #[tactic(auto, using(tsa_resolve::proofs::SymbolLaws::notes))]
 fn note_enumerator(
-    view: View<'_, '_>,
     symbols: &mut Symbols,
+    span: Span,
     worth: i32,
-    enumerator: &Enumerator<'_>,
+    inside: &Symbols,
 ) -> Result<(), NoMemory>
-    ensures { OnOk result (symbols.new ≡ symbols.old ++ ((enumerator.now.name.span, Symbol.Constant worth) ∷ names_in_given (context_of view.entry.scope.now) view.entry.function (enumerator_shape enumerator.now).value)) }
+    ensures { OnOk result (symbols.new ≡ symbols.old ++ ((span, Symbol.Constant worth) ∷ inside.now)) }
 {
-    symbols.note(enumerator.name.span, Symbol::Constant(worth))?;
-    if let Some(value) = &enumerator.value {
-        let _found = view.expression(symbols, value)?;
-    }
-    Ok(())
+    symbols.note(span, Symbol::Constant(worth))?;
+    symbols.append(inside)
 }
 
 /// An enumerator after the last value, which is known after its own: what it is worth.
@@ -112,17 +110,23 @@ fn declare_enumerator<'a>(
     ensures behind { IfOk result (λ z. scope.new ≡ with_name enumerator.now.name.text.now (spec_entry z) scope.old) }
     ensures names { IfOk result (λ z. symbols.new ≡ symbols.old ++ ((enumerator.now.name.span, Symbol.Constant z) ∷ names_in_given (context_of scope.old) 0 (enumerator_shape enumerator.now).value)) }
 {
-    if scope.is_taken(enumerator.name.text) {
-        return Err(refused(at(TypeCode::TY2, enumerator.name.span)));
-    }
+    let again = at(TypeCode::TY2, enumerator.name.span);
     let view = View { scope, function: 0 };
-    match worth(view, enumerator, last)? {
+    let mut inside = Symbols::new(scope.allocator());
+    match worth(view, &mut inside, enumerator, last)? {
         Ok(value) => {
-            note_enumerator(view, symbols, value, enumerator)?;
-            scope.declare(enumerator.name.text, enumerator_entry(value))?;
+            if !scope.declare(enumerator.name.text, enumerator_entry(value))? {
+                return Err(refused(again));
+            }
+            note_enumerator(symbols, enumerator.name.span, value, &inside)?;
             Ok(value)
         }
-        Err(failure) => Err(refused(failure)),
+        Err(failure) => {
+            if scope.is_taken(enumerator.name.text) {
+                return Err(refused(again));
+            }
+            Err(refused(failure))
+        }
     }
 }
 

@@ -9,7 +9,7 @@ ghost use Rattle.tsa_tree.specs.types.Scopes.{found, is_taken};
 ghost use Rattle.tsa_tree.specs.types.Symbols.{meant_function as spec_meant_function, number_of};
 ghost use Rattle.tsa_types.specs.Functions.{first_known};
 
-use crate::declared::{NewName, judge_declared};
+use crate::declared::judge_type;
 use tsa_base::NoMemory;
 use tsa_resolve::{TypeRefusal, View, judged};
 use tsa_scope::{FunctionTypes, Scope, Symbols};
@@ -145,21 +145,12 @@ pub fn declare_function<'a>(scope: &mut Scope<'a>, head: &FnTree<'a>) -> Result<
     ensures judged { Judges (first (declared_premises scope.old Declaring.Result (spec_is_another scope.old (head_shape head.now) (is_some head.now.body) (found scope.old.names head.now.name.text.now)) head.now.name.span (head_shape head.now).result)) result }
     ensures behind { OnOk result (scope.new ≡ behind_head scope.old (head_shape head.now) (is_some head.now.body)) }
 {
-    let name = NewName {
-        what: Declaring::Result,
-        taken: is_another(scope, head),
-        span: head.name.span,
-    };
+    let view = View { scope, function: 0 };
     let mut unnoted = Symbols::new(scope.allocator());
-    let told = judge_declared(
-        View { scope, function: 0 },
-        &mut unnoted,
-        name,
-        &head.result,
-    )?;
-    judged(told.failure)?;
+    let typing = judge_type(view, &mut unnoted, Declaring::Result, &head.result)?;
+    judged(typing.failure(is_another(scope, head), head.name.span))?;
     match scope.declared(head.name.text) {
-        None => add_function(scope, head, told.thing)?,
+        None => add_function(scope, head, typing.written.thing)?,
         Some(entry) => {
             if let Meaning::Function(number) = entry.meaning {
                 scope.give_body(number, head.body.is_some());

@@ -1,16 +1,17 @@
 //! Globals (C11 6.9.2): each is known in its own attributes, length and initialiser.
-ghost use Rattle.std.specs.Prelude.{◌≡◌, ◌++◌, option_map, IfOk, OnOk};
+ghost use Rattle.std.specs.Prelude.{◌≡◌, ◌++◌, Bool, option_map, IfOk, OnOk};
 ghost use Rattle.tsa_resolve.specs.Judged.{Judges};
+ghost use Rattle.tsa_resolve.specs.Lengths.{name_premises};
 ghost use Rattle.tsa_tree.specs.declarations.Shapes.{decl_shape, init_shape};
 ghost use Rattle.tsa_tree.specs.types.DeclaredTypes.{thing_type, typed_premises};
 ghost use Rattle.tsa_tree.specs.types.Globals.{bearer_of as spec_bearer_of, inside_global, global_premises, global_init};
 ghost use Rattle.tsa_tree.specs.types.Premises.{first};
-ghost use Rattle.tsa_tree.specs.types.Scopes.{context_of, is_taken};
+ghost use Rattle.tsa_tree.specs.types.Scopes.{context_of};
 ghost use Rattle.tsa_tree.specs.types.Symbols.{names_in_given_init, names_in_declaration, names_in_global};
 ghost use Rattle.tsa_tree.specs.types.Units.{behind_item};
 ghost use Rattle.tsa_tree.specs.units.Syntax.{global_item};
 
-use crate::declared::{Declared, NewName, judge_typed};
+use crate::declared::{Typing, judge_type};
 use crate::initialisers::initialiser;
 use tsa_base::NoMemory;
 use tsa_operand::{place, struct_of};
@@ -32,18 +33,14 @@ fn bearer_of(scope: &Scope<'_>, thing: ThingType) -> Bearer
     }
 }
 
-/// What a global is where it isn't known yet: its type, and what is wrong with its name and its type but for the length.
-fn judge_outside(scope: &Scope<'_>, decl: &Decl<'_>) -> Result<Declared, NoMemory>
-    ensures thing { IfOk result (λ told. told.thing ≡ thing_type scope.now (decl_shape decl.now).ctype) }
-    ensures failure { IfOk result (λ told. told.failure ≡ first (typed_premises scope.now Declaring.Thing (is_taken decl.now.name.text.now scope.now) decl.now.span (decl_shape decl.now).ctype)) }
+/// The type of a global where the global isn't known yet. The names in its length are noted elsewhere.
+fn judge_outside(scope: &Scope<'_>, decl: &Decl<'_>) -> Result<Typing, NoMemory>
+    ensures thing { IfOk result (λ typing. typing.written.thing ≡ thing_type scope.now (decl_shape decl.now).ctype) }
+    ensures outer { IfOk result (λ typing. (taken : Bool) → first (name_premises taken typing.refused decl.now.span typing.written.resolved) ≡ first (typed_premises scope.now Declaring.Thing taken decl.now.span (decl_shape decl.now).ctype)) }
 {
-    let name = NewName {
-        what: Declaring::Thing,
-        taken: scope.is_taken(decl.name.text),
-        span: decl.span,
-    };
+    let view = View { scope, function: 0 };
     let mut unnoted = Symbols::new(scope.allocator());
-    judge_typed(View { scope, function: 0 }, &mut unnoted, name, &decl.ctype)
+    judge_type(view, &mut unnoted, Declaring::Thing, &decl.ctype)
 }
 
 /// The initialiser of a global of a type, where there is one: what is wrong with it. Its names are noted.
@@ -91,15 +88,15 @@ pub fn declare_global<'a>(
     ensures names { OnOk result (symbols.new ≡ symbols.old ++ names_in_global scope.old (decl_shape decl.now)) }
 {
     let own = scope.next_global();
-    let told = judge_outside(scope, decl)?;
-    judged(told.failure)?;
+    let typing = judge_outside(scope, decl)?;
     let entry = Entry {
         meaning: Meaning::Global(own),
-        thing: told.thing,
+        thing: typing.written.thing,
     };
-    scope.declare(decl.name.text, entry)?;
+    let free = scope.declare(decl.name.text, entry)?;
+    judged(typing.outer_failure(!free, decl.span))?;
     symbols.note(decl.name.span, Symbol::Global(own))?;
-    judged(judge_inside(scope, symbols, told.thing, decl)?)?;
+    judged(judge_inside(scope, symbols, typing.written.thing, decl)?)?;
     scope.count_global()?;
     Ok(())
 }

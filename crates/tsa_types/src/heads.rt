@@ -9,7 +9,7 @@ ghost use Rattle.tsa_tree.specs.types.Premises.{first};
 ghost use Rattle.tsa_tree.specs.types.Scopes.{is_named_taken};
 ghost use Rattle.tsa_tree.specs.types.Symbols.{param_name, names_in_param, names_in_params, names_in_head};
 
-use crate::declared::{NewName, judge_declared};
+use crate::declared::judge_type;
 use crate::functions::declare_function;
 use tsa_base::NoMemory;
 use tsa_resolve::{TypeRefusal, View, judged};
@@ -70,24 +70,18 @@ fn declare_param<'a>(
     ensures behind { OnOk result (scope.new ≡ with_param local.number (param_shape param.now) scope.old) }
     ensures names { OnOk result (symbols.new ≡ symbols.old ++ names_in_param scope.old local.function local.number (param_shape param.now)) }
 {
-    let name = NewName {
-        what: Declaring::Thing,
-        taken: scope.is_named_taken(param.name),
-        span: param.span,
-    };
     note_name(symbols, local, param.name)?;
     let view = View {
         scope,
         function: local.function,
     };
-    let told = judge_declared(view, symbols, name, &param.ctype)?;
-    judged(told.failure)?;
+    let typing = judge_type(view, symbols, Declaring::Thing, &param.ctype)?;
     let entry = Entry {
         meaning: Meaning::Local(local.number),
-        thing: told.thing,
+        thing: typing.written.thing,
     };
-    scope.declare_named(param.name, entry)?;
-    Ok(())
+    let free = scope.declare_named(param.name, entry)?;
+    judged(typing.failure(!free, param.span))
 }
 
 /// The parameters of a function, each of which is known after itself, by numbers from 0 on.

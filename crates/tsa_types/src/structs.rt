@@ -11,7 +11,7 @@ ghost use Rattle.tsa_tree.specs.types.Structs.{member_premises, with_member, mem
 ghost use Rattle.tsa_tree.specs.types.Symbols.{names_in_attributes, names_in_member, names_in_members};
 
 use crate::aliases::a_type_name;
-use crate::declared::{NewName, judge_declared};
+use crate::declared::judge_type;
 use tsa_base::NoMemory;
 use tsa_operand::single;
 use tsa_resolve::{TypeRefusal, View, at, first_of, judged, refused};
@@ -54,16 +54,11 @@ fn declare_member<'a>(
     ensures same { OnOk result (scope.new ≡ scope.old) }
     ensures names { OnOk result (symbols.new ≡ symbols.old ++ names_in_member scope.old members.old (decl_shape decl.now)) }
 {
-    let name = NewName {
-        what: Declaring::Thing,
-        taken: members.has(decl.name.text),
-        span: decl.span,
-    };
-    let told = judge_declared(View { scope, function: 0 }, symbols, name, &decl.ctype)?;
+    let view = View { scope, function: 0 };
+    let typing = judge_type(view, symbols, Declaring::Thing, &decl.ctype)?;
     let wrong = guards(scope, symbols, members, decl.attrs)?;
-    judged(first_of(told.failure, wrong))?;
-    members.declare(decl.name.text, told.thing)?;
-    Ok(())
+    let free = members.declare(decl.name.text, typing.written.thing)?;
+    judged(first_of(typing.failure(!free, decl.span), wrong))
 }
 
 /// The members of a struct, after those that are declared.
