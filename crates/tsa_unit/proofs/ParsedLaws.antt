@@ -1,5 +1,5 @@
 -- What was read by the rows is what the grammar asks for, and the limits of a unit are told after refusals of tokens.
-use Rattle.std.proofs.Common.{ℕ, ◌≡◌, ◌≢◌, ◌∙◌, ap, sym, subst, refl, List, [], Option, Some, None, Result, Ok, Err, IfOk, length}
+use Rattle.std.proofs.Common.{ℕ, ◌≡◌, ◌≢◌, ◌∙◌, ap, subst, refl, List, [], Option, Some, None, Result, Ok, Err, IfOk, length}
 use Rattle.std.proofs.lemmas.List.{length-map}
 use Rattle.tsa_base.specs.declared.token.Span.{Span}
 use Rattle.tsa_base.specs.declared.token.Token.{Token}

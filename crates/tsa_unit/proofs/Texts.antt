@@ -1,5 +1,5 @@
 -- The tokens of a text are few, and each begins inside it.
-use Rattle.std.proofs.Common.{◌≤◌, ℕ, List, length, subst}
+use Rattle.std.proofs.Common.{◌≤◌, List, length, subst}
 use Rattle.std.proofs.lemmas.List.{length-map}
 use Rattle.tsa_base.specs.declared.limits.TheConstants.{INPUT_LIMIT}
 use Rattle.tsa_base.specs.declared.token.Token.{Token}
