@@ -1,5 +1,6 @@
 //! Each public call of the libraries once with ample memory, ends that fail in mid-stream, and what no command shows: the
-//! tokens of a text, and where the nodes of a tree stand in it. What commands show stands in the data of the program `rows`.
+//! tokens of a text, where the nodes of a tree stand in it, and what the names of a unit mean. What commands show stands in the data of
+//! the program `rows`.
 #![tactic(auto)]
 
 #[cfg(test)]
@@ -10,5 +11,7 @@ mod items;
 mod nodes;
 #[cfg(test)]
 mod statements;
+#[cfg(test)]
+mod symbols;
 #[cfg(test)]
 mod texts;
