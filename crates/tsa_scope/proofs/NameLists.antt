@@ -1,10 +1,13 @@
 -- Keys in a map, seen as the list of what they name: what is found among them, and a further one.
-use Rattle.std.proofs.Common.{◌≡◌, ℕ, arith, nat_lt, Bool, true, false, not, if◌then◌else◌, List, [], ◌∷◌, ◌++◌, map, length, Option, Some, None, is_some, ap, refl}
+use Rattle.std.proofs.Common.{◌≡◌, ◌∙◌, ℕ, suc, ◌+◌, arith, nat_lt, Bool, true, false, not, if◌then◌else◌, List, [], ◌∷◌, ◌++◌, map, length, position, Option, Some, None, is_some, ap, refl}
 use Rattle.std.proofs.lemmas.Bool.Decides.{nat_tests}
 use Rattle.std.proofs.lemmas.List.{length-append}
+use Rattle.std.specs.List.{position_or_len}
 use Rattle.std.specs.Map.{lookup}
 use Rattle.std.specs.Option.{unwrap_or}
+use Rattle.std.specs.Str.{bytes_eq}
 use Rattle.indexmap.specs.IndexMap.{insert_entry}
+use Rattle.tsa_scope.specs.Lookups.{numbered}
 
 -- what is found among keys that are seen as others
 pub lookup-seen : {K L X : Type 0} (seen : K → L) (test : L → Bool) (es : List (K × X))
@@ -68,3 +71,49 @@ module _ {A : Type 0} (xs : List A) (x : A) (n m : ℕ) (before : n ≡ length x
   pub kept : (known : Bool) → m ≡ length (or_further known xs x) → nat_lt n m ≡ false → or_further known xs x ≡ xs
   kept true behind fresh = refl
   kept false behind fresh = absurd (cc (longer false behind, fresh))
+
+-- a name by its number: the first entry that has it, among entries as they are kept and as contracts see them
+module _ {K : Type 0} (seen : K → List ℕ) (name : List ℕ) where
+  abbrev has_name : K → Bool
+  has_name key = bytes_eq name (seen key)
+
+  module _ {A : Type 0} where
+    abbrev shown : List (K × A) → List (List ℕ × A)
+    shown es = map (λ e. (seen e.0, e.1)) es
+
+    -- one that isn't there has none
+    absent : (b : Bool) (x : A) (v : Option A) (k : ℕ) (w : Option (ℕ × A)) → (if b then Some x else v) ≡ None → (v ≡ None → w ≡ None) → (if b then Some (k, x) else w) ≡ None
+    absent true x v k w h go = cc
+    absent false x v k w h go = go h
+
+    pub unnumbered : (es : List (K × A)) (k : ℕ) → lookup has_name es ≡ None → numbered (shown es) name k ≡ None
+    unnumbered [] k h = refl
+    unnumbered (e ∷ es) k h = absent (has_name e.0) e.1 (lookup has_name es) k (numbered (shown es) name (suc k)) h (unnumbered es (suc k))
+
+    -- one that is there has the number of its place
+    present : (b : Bool) (y x : A) (v : Option A) (k n : ℕ) (w : Option (ℕ × A)) → (if b then Some y else v) ≡ Some x → (v ≡ Some x → w ≡ Some (suc k + n, x))
+        → (if b then Some (k, y) else w) ≡ Some (k + (if not b then 1 + n else 0), x)
+    present true y x v k n w h go =
+        let here : k ≡ k + 0 = omega arith in
+        let same : y ≡ x = cc in
+        ap (λ z. Some (k, z)) same ∙ ap (λ m. Some (m, x)) here
+    present false y x v k n w h go =
+        let there : suc k + n ≡ k + (1 + n) = omega arith in
+        go h ∙ ap (λ m. Some (m, x)) there
+
+    pub numbered_at : (es : List (K × A)) (k : ℕ) (x : A) → lookup has_name es ≡ Some x → numbered (shown es) name k ≡ Some (k + position_or_len has_name (map (λ e. e.0) es), x)
+    numbered_at [] k x h = cc
+    numbered_at (e ∷ es) k x h =
+        present (has_name e.0) e.1 x (lookup has_name es) k (position_or_len has_name (map (λ e. e.0) es)) (numbered (shown es) name (suc k)) h (numbered_at es (suc k) x)
+
+-- the number of a place that was found
+pub position_is : {K : Type 0} (test : K → Bool) (keys : List K) (n : ℕ) → Some n ≡ position test keys → position_or_len test keys ≡ n
+position_is test keys n h = by (nat_lt (position_or_len test keys) (length keys)) h
+  where
+    by : (b : Bool) → Some n ≡ (if b then Some (position_or_len test keys) else None) → position_or_len test keys ≡ n
+    by true is = cc
+    by false is = cc
+
+-- a number counted from nothing
+pub from_nothing : (n : ℕ) → 0 + n ≡ n
+from_nothing n = omega arith

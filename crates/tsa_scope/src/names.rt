@@ -1,6 +1,7 @@
 //! Names that are known, with what they mean (C11 6.2.1).
 ghost use Rattle.std.specs.Prelude.{◌≡◌, ◌++◌, ◌∷◌, [], take, length, is_some, not, true, false, IfOk, OnErr, slice_get, option_map};
 ghost use Rattle.tsa_tree.specs.types.Scopes.{found};
+ghost use Rattle.tsa_scope.specs.Lookups.{numbered};
 
 use indexmap::IndexMap;
 use std::alloc::Global;
@@ -39,6 +40,14 @@ impl<'a, T: Copy> Names<'a, T> {
             return None;
         }
         self.entries.get(text).copied()
+    }
+
+    /// What a name means with its number, from 0 in order of declaration.
+    pub fn find(&self, text: &[u8]) -> Option<(usize, T)>
+        ensures { result ≡ numbered self.now text.now 0 }
+    {
+        let (number, _, value) = self.entries.get_full(text)?;
+        Some((number, *value))
     }
 
     /// Whether a name is known.

@@ -5,7 +5,7 @@ ghost use Rattle.tsa_tree.specs.types.Attributes.{is_lock};
 ghost use Rattle.tsa_tree.specs.types.DeclaredTypes.{is_whole};
 ghost use Rattle.tsa_tree.specs.types.Initialisers.{members_types};
 ghost use Rattle.tsa_tree.specs.types.Scopes.{found, tag_in, is_taken, is_named_taken, known_in};
-ghost use Rattle.tsa_scope.specs.Lookups.{member_in, params_in};
+ghost use Rattle.tsa_scope.specs.Lookups.{member_in, members_at, numbered, params_in};
 
 use crate::names::Names;
 use std::alloc::Global;
@@ -144,6 +144,20 @@ impl<'a> Scope<'a> {
         ensures { result ≡ member_in self.now structure name.now }
     {
         self.structs.get(structure as usize)?.get(name)
+    }
+
+    /// A struct's member by its name, with its number; none of a struct that isn't defined.
+    pub fn find_member(&self, structure: u32, name: &[u8]) -> Option<(usize, ThingType)>
+        ensures { result ≡ numbered (members_at self.now structure) name.now 0 }
+    {
+        self.structs.get(structure as usize)?.find(name)
+    }
+
+    /// A member that is looked up first, by its name, with its number.
+    pub fn find_owned(&self, name: &[u8]) -> Option<(usize, ThingType)>
+        ensures { result ≡ numbered self.now.owned name.now 0 }
+    {
+        self.owned.find(name)
     }
 
     /// How many members a struct has; none where it isn't defined.

@@ -104,7 +104,7 @@ impl Symbols {
         Ok(())
     }
 
-    /// Notes the names of another table, in their order.
+    /// Notes the names of another table, in their order. A refused call may have noted the first of them.
     pub fn append(&mut self, other: &Symbols) -> Result<(), NoMemory>
         ensures { OnOk result (self.new ≡ self.old ++ other.now) }
     {
