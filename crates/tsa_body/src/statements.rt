@@ -1,15 +1,14 @@
 //! Statements (C11 6.8): each is judged where what stands before it is known, and a block's names end with it.
 ghost use Rattle.std.specs.Prelude.{◌≡◌, ◌++◌, IfOk, OnOk};
 
-use crate::around::{Around, Key};
 use crate::leaves::leaf;
-use crate::loops::ForHead;
-use crate::simple::{switched, tested};
-use crate::targets::{collect_cases, first_default};
 use crate::walk::Walk;
 use tsa_base::{NoMemory, Span};
+use tsa_jump::{Around, Key, collect_cases, first_default};
 use tsa_resolve::{TypeRefusal, View, first_of, judged, refused};
 use tsa_scope::{Cases, Symbols};
+use tsa_simple::{ForHead, declare_local, for_head, switched, tested};
+use tsa_tree::decl::Decl;
 use tsa_tree::expr::Expr;
 use tsa_tree::premise::Failure;
 use tsa_tree::stmt::{Stmt, StmtKind};
@@ -32,7 +31,9 @@ impl<'t, 'a> Tail<'t, 'a> {
 
 impl<'a> Walk<'a> {
     ghost use Rattle.std.specs.Prelude.{◌+◌, ◌∷◌, [], option_map};
+    ghost use Rattle.tsa_tree.specs.declarations.Shapes.{decl_shape};
     ghost use Rattle.tsa_tree.specs.expressions.Shapes.{shape};
+    ghost use Rattle.tsa_tree.specs.types.Locals.{local_premises, behind_local};
     ghost use Rattle.tsa_tree.specs.statements.Shapes.{stmt_shape, stmt_shapes, init_given, step_given};
     ghost use Rattle.tsa_tree.specs.types.Expressions.{premises_of};
     ghost use Rattle.tsa_tree.specs.types.Operands.{is_scalar, is_integer};
@@ -40,12 +41,12 @@ impl<'a> Walk<'a> {
     ghost use Rattle.tsa_tree.specs.types.Scopes.{context_of, further};
     ghost use Rattle.tsa_tree.specs.types.Simple.{tested as spec_tested, tested_premises};
     ghost use Rattle.tsa_tree.specs.types.Statements.{in_a_loop, in_a_switch, behind_init, case_premises, for_premises, leaf_premises, statement_premises, statements_premises, behind, behind_all};
-    ghost use Rattle.tsa_tree.specs.types.Symbols.{names_in, names_in_for, names_in_leaf, names_in_statement, names_in_statements};
+    ghost use Rattle.tsa_tree.specs.types.Symbols.{names_in, names_in_for, names_in_leaf, names_in_local, names_in_statement, names_in_statements};
     ghost use Rattle.tsa_tree.specs.types.Targets.{declared_by_init, declared_in, declared_in_all};
     ghost use Rattle.tsa_resolve.specs.Judged.{Judges};
 
     /// A test of a statement that begins at a span. Its names are noted.
-    #[tactic(auto, using(crate::proofs::SimpleLaws::tests))]
+    #[tactic(auto, using(tsa_simple::proofs::SimpleLaws::tests))]
     fn test(
         &mut self,
         function: u32,
@@ -65,7 +66,7 @@ impl<'a> Walk<'a> {
     }
 
     /// The value of a `switch` that begins at a span. Its names are noted.
-    #[tactic(auto, using(crate::proofs::SimpleLaws::tests))]
+    #[tactic(auto, using(tsa_simple::proofs::SimpleLaws::tests))]
     fn value(
         &mut self,
         function: u32,
@@ -85,7 +86,7 @@ impl<'a> Walk<'a> {
     }
 
     /// The test of a `do` by itself, which is judged at its first word; its names are noted behind its body.
-    #[tactic(auto, using(crate::proofs::SimpleLaws::tests))]
+    #[tactic(auto, using(tsa_simple::proofs::SimpleLaws::tests))]
     fn test_ahead(&self, span: Span, test: &Expr<'_>) -> Result<Option<Failure>, NoMemory>
         ensures judged { IfOk result (λ failure. failure ≡ first (spec_tested (context_of self.now.scope) is_scalar span (shape test.now) ∷ [])) }
     {
@@ -99,7 +100,7 @@ impl<'a> Walk<'a> {
     }
 
     /// An expression behind what stood before it. Its names are noted.
-    #[tactic(auto, using(crate::proofs::SimpleLaws::tests, crate::proofs::StatementLaws::judges_it))]
+    #[tactic(auto, using(tsa_simple::proofs::SimpleLaws::tests, crate::proofs::StatementLaws::judges_it))]
     fn evaluate(&mut self, function: u32, expr: &Expr<'_>) -> Result<(), TypeRefusal>
         ensures judged { Judges (first (premises_of (context_of self.old.scope) (shape expr.now))) result }
         ensures kept { OnOk result (self.new.scope ≡ self.old.scope) }
@@ -114,7 +115,7 @@ impl<'a> Walk<'a> {
     }
 
     /// A case at a span, but for its statement. The names in its value are noted.
-    #[tactic(auto, using(crate::proofs::CaseLaws::cases))]
+    #[tactic(auto, using(tsa_jump::proofs::CaseLaws::cases))]
     fn case(
         &mut self,
         around: &Around<'_, '_>,
@@ -135,6 +136,17 @@ impl<'a> Walk<'a> {
             found,
         };
         Ok(around.case_failure(span, key))
+    }
+
+    /// A local, which is known behind it. Its names are noted.
+    #[tactic(auto, using(crate::proofs::StatementLaws::judges_it))]
+    fn local(&mut self, function: u32, decl: &Decl<'a>) -> Result<(), TypeRefusal>
+        ensures judged { Judges (first (local_premises self.old.scope (decl_shape decl.now))) result }
+        ensures behind { OnOk result (self.new.scope ≡ behind_local self.old.scope (decl_shape decl.now)) }
+        ensures names { OnOk result (self.new.symbols ≡ self.old.symbols ++ names_in_local self.old.scope function (decl_shape decl.now)) }
+    {
+        let told = declare_local(&mut self.scope, &mut self.symbols, function, decl)?;
+        judged(told.failure)
     }
 
     /// A statement that has no other in it and declares nothing. Its names are noted.
@@ -159,10 +171,11 @@ impl<'a> Walk<'a> {
         ensures behind { OnOk result (self.new.scope ≡ behind self.old.scope (stmt_shape stmt.now.kind stmt.now.span)) }
         ensures names { OnOk result (self.new.symbols ≡ self.old.symbols ++ names_in_statement self.old.scope around.now.function (stmt_shape stmt.now.kind stmt.now.span)) }
     {
+        let at = stmt.span;
         match &stmt.kind {
             StmtKind::Block(items) => self.block(around, items),
             StmtKind::If { test, yes, no } => {
-                let wrong = self.test(around.function, stmt.span, test)?;
+                let wrong = self.test(around.function, at, test)?;
                 self.after(around, wrong, yes)?;
                 match no {
                     Some(no) => self.nested(around, no),
@@ -170,36 +183,32 @@ impl<'a> Walk<'a> {
                 }
             }
             StmtKind::While { test, body } => {
-                let wrong = self.test(around.function, stmt.span, test)?;
+                let wrong = self.test(around.function, at, test)?;
                 self.after(&around.in_a_loop(), wrong, body)
             }
-            StmtKind::DoWhile { body, test } => {
-                self.do_loop(around, body, Tail::new(stmt.span, test))
-            }
+            StmtKind::DoWhile { body, test } => self.do_loop(around, body, Tail::new(at, test)),
             StmtKind::For {
                 init,
                 test,
                 step,
                 body,
             } => {
-                let head = ForHead::new(*init, test.as_ref(), *step, stmt.span);
+                let head = ForHead::new(*init, test.as_ref(), *step, at);
                 self.for_loop(around, &head, body)
             }
             StmtKind::Switch { value, body } => {
-                let wrong = self.value(around.function, stmt.span, value)?;
+                let wrong = self.value(around.function, at, value)?;
                 self.switch(around, wrong, body)
             }
             StmtKind::Case { value, body } => {
-                let wrong = self.case(around, stmt.span, value)?;
+                let wrong = self.case(around, at, value)?;
                 self.after(around, wrong, body)
             }
-            StmtKind::Otherwise { body } => {
-                self.after(around, around.default_failure(stmt.span), body)
-            }
+            StmtKind::Otherwise { body } => self.after(around, around.default_failure(at), body),
             StmtKind::Label { name, body } => {
-                self.after(around, around.label_failure(*name, stmt.span), body)
+                self.after(around, around.label_failure(*name, at), body)
             }
-            StmtKind::Local(decl) => judged(self.local(around.function, decl)?.failure),
+            StmtKind::Local(decl) => self.local(around.function, decl),
             _ => self.alone(around, stmt),
         }
     }
@@ -271,7 +280,7 @@ impl<'a> Walk<'a> {
         ensures names { OnOk result (self.new.symbols ≡ self.old.symbols ++ (names_in_for self.old.scope around.now.function (init_given head.now.init) (option_map (λ x. shape x.now) head.now.test) (step_given head.now.step) ++ names_in_statement (behind_init self.old.scope (init_given head.now.init)) around.now.function (stmt_shape body.now.kind body.now.span))) }
     {
         let names = self.scope.names_len();
-        let wrong = self.for_head(around.function, head)?;
+        let wrong = for_head(&mut self.scope, &mut self.symbols, around.function, head)?;
         if let Err(refusal) = self.after(&around.in_a_loop(), wrong, body) {
             return Err(refusal);
         }

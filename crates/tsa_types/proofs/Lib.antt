@@ -1,16 +1,5 @@
-pub mod DeclaredLaws
-pub mod EnumLaws
-pub mod EnumLists
 pub mod FunctionLaws
-pub mod GlobalLaws
 pub mod HeadLaws
-pub mod InitialiserLaws
 pub mod ItemNames
-pub mod Judging
-pub mod Lists
-pub mod MemberLists
 pub mod ParamLists
-pub mod PartLaws
-pub mod PlaceLaws
-pub mod StructLaws
 pub mod UnitLaws

@@ -9,8 +9,8 @@ ghost use Rattle.tsa_tree.specs.types.Scopes.{found, is_taken};
 ghost use Rattle.tsa_tree.specs.types.Symbols.{meant_function as spec_meant_function, number_of};
 ghost use Rattle.tsa_types.specs.Functions.{first_known};
 
-use crate::declared::judge_type;
 use tsa_base::NoMemory;
+use tsa_data::judge_type;
 use tsa_resolve::{TypeRefusal, View, judged};
 use tsa_scope::{FunctionTypes, Scope, Symbols};
 use tsa_tree::item::{FnTree, Param};

@@ -9,9 +9,9 @@ ghost use Rattle.tsa_tree.specs.types.Premises.{first};
 ghost use Rattle.tsa_tree.specs.types.Scopes.{is_named_taken};
 ghost use Rattle.tsa_tree.specs.types.Symbols.{param_name, names_in_param, names_in_params, names_in_head};
 
-use crate::declared::judge_type;
 use crate::functions::declare_function;
 use tsa_base::NoMemory;
+use tsa_data::judge_type;
 use tsa_resolve::{TypeRefusal, View, judged};
 use tsa_scope::{Scope, Symbols};
 use tsa_tree::expr::Name;

@@ -1,15 +1,8 @@
-//! The declarations of a unit are typed (C11 6.7, 6.9): what is wrong with them, what is known after each, and what their names mean.
+//! The functions and the items of a unit are typed (C11 6.9): the first failing node, or what each name means.
 #![tactic(auto)]
 
-mod aliases;
-mod declared;
-mod enumerators;
 mod functions;
-mod globals;
 mod heads;
-mod initialisers;
-mod parts;
-mod structs;
 mod typed;
 mod unit;
 

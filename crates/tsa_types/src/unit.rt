@@ -11,15 +11,13 @@ ghost use Rattle.tsa_tree.specs.types.Symbols.{names_in_statements, names_in_ite
 ghost use Rattle.tsa_tree.specs.types.Units.{outermost, item_premises, behind_item, items_premises, names_in_unit_items, names_in_unit, refusal_of_types};
 ghost use Rattle.tsa_tree.specs.units.Shapes.{function_shape, item_shape, item_shapes};
 
-use crate::aliases::declare_alias;
-use crate::enumerators::declare_enum;
 use crate::functions::function_number;
-use crate::globals::declare_global;
 use crate::heads::declare_head;
-use crate::structs::declare_struct;
 use std::alloc::Global;
 use tsa_base::NoMemory;
-use tsa_body::{Around, Walk, collect_all_labels};
+use tsa_body::Walk;
+use tsa_data::{declare_alias, declare_enum, declare_global, declare_struct};
+use tsa_jump::{Around, collect_all_labels};
 use tsa_resolve::{TypeRefusal, View};
 use tsa_scope::{Cases, Names, Scope, Symbols, outset};
 use tsa_tree::item::{FnTree, Item};

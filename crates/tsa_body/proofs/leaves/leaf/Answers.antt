@@ -5,8 +5,8 @@ use Rattle.tsa_tree.specs.statements.Syntax.{return}
 use Rattle.tsa_tree.specs.types.Premises.{first}
 use Rattle.tsa_tree.specs.types.Scopes.{context_of}
 use Rattle.tsa_tree.specs.types.Statements.{leaf_premises}
-use Rattle.tsa_body.specs.Simple.{returned}
-use Rattle.tsa_body.proofs.SimpleLaws.{return_is, seen_found}
+use Rattle.tsa_simple.specs.Simple.{returned}
+use Rattle.tsa_simple.proofs.SimpleLaws.{return_is, seen_found}
 use Rattle.tsa_body.proofs.leaves.leaf.Goals as goal
 
 pub returns-in_ok-found-in-Return-clause-judged : goal.returns-in_ok-found-in-Return-clause-judged

@@ -82,7 +82,7 @@ statement-block-requires t c = (omega (arith, ap tall (block_at c.args.stmt.now 
 pub for_loop-returns-clause-judged : goal.for_loop-returns-clause-judged
 for_loop-returns-clause-judged t c =
     sym (for_goes c.args.around.now c.args.self.now.scope (init_given c.args.head.now.init) (option_map (λ x. shape x.now) c.args.head.now.test) (step_given c.args.head.now.step)
-    c.args.head.now.span (shape_of c.args.body.now) c.for_head.new.self.scope c.in_a_loop.result c.in_ok-wrong.wrong c.in_ok-wrong.ensures.judged c.in_ok-wrong.ensures.behind
+    c.args.head.now.span (shape_of c.args.body.now) c.for_head.new.scope c.in_a_loop.result c.in_ok-wrong.wrong c.in_ok-wrong.ensures.judged c.in_ok-wrong.ensures.behind
     c.in_a_loop.ensures)
     ∙ c.in_default.ensures.judged
 

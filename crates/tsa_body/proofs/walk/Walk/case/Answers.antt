@@ -1,6 +1,6 @@
 use Rattle.std.proofs.Common.{◌∙◌, refl}
 use Rattle.tsa_tree.specs.types.Scopes.{context_of}
-use Rattle.tsa_body.proofs.CaseLaws.{case_is}
+use Rattle.tsa_jump.proofs.CaseLaws.{case_is}
 use Rattle.tsa_body.proofs.walk.Walk.case.Goals as goal
 
 pub returns-clause-judged : goal.returns-clause-judged

@@ -1,5 +1,0 @@
-pub mod Cases
-pub mod Leaves
-pub mod Locals
-pub mod Loops
-pub mod Simple

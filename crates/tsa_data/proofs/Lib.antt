@@ -1,0 +1,11 @@
+pub mod DeclaredLaws
+pub mod EnumLaws
+pub mod EnumLists
+pub mod GlobalLaws
+pub mod InitialiserLaws
+pub mod Judging
+pub mod Lists
+pub mod MemberLists
+pub mod PartLaws
+pub mod PlaceLaws
+pub mod StructLaws

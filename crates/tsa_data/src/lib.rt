@@ -1,0 +1,16 @@
+//! Declarations of types and of globals are typed (C11 6.7): what is wrong with them, what is known after each, and what their names mean.
+#![tactic(auto)]
+
+mod aliases;
+mod declared;
+mod enumerators;
+mod globals;
+mod initialisers;
+mod parts;
+mod structs;
+
+pub use aliases::declare_alias;
+pub use declared::{Typing, judge_type};
+pub use enumerators::declare_enum;
+pub use globals::declare_global;
+pub use structs::declare_struct;

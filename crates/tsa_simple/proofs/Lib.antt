@@ -1,0 +1,3 @@
+pub mod LocalLaws
+pub mod LoopLaws
+pub mod SimpleLaws

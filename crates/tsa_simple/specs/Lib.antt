@@ -1,0 +1,4 @@
+pub mod Leaves
+pub mod Locals
+pub mod Loops
+pub mod Simple
