@@ -58,7 +58,7 @@ pub struct Sight<'w, 'a> {
 }
 
 impl<'w, 'a> Sight<'w, 'a> {
-    ghost use Rattle.std.specs.Prelude.{None, option_and_then};
+    ghost use Rattle.std.specs.Prelude.{None, true, option_and_then};
     ghost use Rattle.tsa_tree.specs.types.Scopes.{known_in, context_of};
     ghost use Rattle.tsa_tree.specs.types.DeclaredTypes.{value_in};
     ghost use Rattle.tsa_way.specs.LockPaths.{stable_in, to_member, name_way, member_step as spec_member_step, element_step as spec_element_step, index_step as spec_index_step, variable as spec_variable, or_variable, leads as spec_leads, lock_way};
@@ -121,7 +121,7 @@ impl<'w, 'a> Sight<'w, 'a> {
 
     /// What an index is worth that is a constant.
     #[tactic(auto, using(crate::proofs::Values::value_is))]
-    fn value_at(self, index: &Expr<'_>) -> Result<Option<Number>, NoMemory>
+    pub fn value_at(self, index: &Expr<'_>) -> Result<Option<Number>, NoMemory>
         ensures { IfOk result (λ value. value ≡ value_in (context_of self.entry.scope.now) (shape index.now)) }
     {
         let view = View {
@@ -250,5 +250,12 @@ impl<'w, 'a> Sight<'w, 'a> {
             }
             None => Ok(None),
         }
+    }
+
+    /// The path of what a pointer's value is the address of; none where it leads along a pointer that may change or to no place.
+    pub fn address_path(self, expr: &Expr<'_>) -> Result<Option<Path>, NoMemory>
+        ensures { IfOk result (λ path. path ≡ option_map (λ led. led.way) (spec_leads (stable_in self.entry.stable.now) self.entry.scope.now true (shape expr.now))) }
+    {
+        Ok(path_of(self.leads(true, expr)?))
     }
 }
