@@ -22,7 +22,7 @@ use tsa_tree::number::Number;
 use tsa_tree::premise::{Failure, TypeCode};
 
 /// A constant as an `int`, where it fits.
-fn int_value(value: Option<Number>) -> Option<i32>
+pub fn int_value(value: Option<Number>) -> Option<i32>
     ensures { result ≡ spec_int_value value }
 {
     match value? {
@@ -38,7 +38,7 @@ fn int_value(value: Option<Number>) -> Option<i32>
 }
 
 /// What comes after the last value, or first, where that is an `int`.
-fn count_on(last: Option<i32>) -> Option<i32>
+pub fn count_on(last: Option<i32>) -> Option<i32>
     ensures { result ≡ as_int (next_after last) }
 {
     match last {
@@ -48,7 +48,7 @@ fn count_on(last: Option<i32>) -> Option<i32>
 }
 
 /// What an enumerator is known as.
-fn enumerator_entry(value: i32) -> Entry
+pub fn enumerator_entry(value: i32) -> Entry
     ensures { result ≡ spec_entry value }
 {
     Entry {

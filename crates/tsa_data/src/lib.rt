@@ -9,8 +9,8 @@ mod initialisers;
 mod parts;
 mod structs;
 
-pub use aliases::declare_alias;
+pub use aliases::{a_type_name, declare_alias};
 pub use declared::{Typing, judge_type};
-pub use enumerators::declare_enum;
+pub use enumerators::{count_on, declare_enum, enumerator_entry, int_value};
 pub use globals::declare_global;
 pub use structs::declare_struct;
