@@ -65,3 +65,5 @@ pub record ChecksAreAsWritten : Type 0 where
   pub empty_statement : IsNotThin (codes "void f(void) { ; }")
   pub constant : IsNotThin (codes "const int g;")
   pub unsigned_number : IsNotThin (codes "int g; void f(void) { g = 1u; }")
+  -- more places than a unit may have
+  pub too_many_places : Refuses (codes "struct s { int x; }; struct s a[10], b[32760];") LimitPassed 1 38 (codes "LM6 over 65536 places")

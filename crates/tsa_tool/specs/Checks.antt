@@ -10,8 +10,11 @@ use Rattle.tsa_expr.specs.declared.refusal.SyntaxRefusal.TheVariants.{At, Functi
 use Rattle.tsa_unit.specs.Parsing.{unit_of}
 use Rattle.tsa_tree.specs.declared.premise.Failure.{Failure}
 use Rattle.tsa_tree.specs.types.FirstFailing.{first_failing}
+use Rattle.tsa_base.specs.declared.token.Span.{Span}
+use Rattle.tsa_place.specs.Calls.{Layout}
+use Rattle.tsa_place.specs.Units.{placed_in}
 use Rattle.tsa_tool.specs.declared.check.Refusal.{Refusal}
-use Rattle.tsa_tool.specs.declared.check.Refusal.TheVariants.{Lex, Syntax, Types, NotBuilt}
+use Rattle.tsa_tool.specs.declared.check.Refusal.TheVariants.{Lex, Syntax, Types, Places, NotBuilt}
 use Rattle.tsa_tool.specs.Items.{Item}
 use Rattle.tsa_tool.specs.Limits.{is_thin_unit}
 use Rattle.tsa_tool.specs.Program.{bodies_of}
@@ -66,10 +69,22 @@ typed_in bytes = do
   typed ← or_failing tree (first_failing tree)
   Ok typed
 
+-- a unit, or the declarator at which there are too many places
+abbrev pub or_too_many : List UnitItem → Result Layout Span → Result (List UnitItem) Refusal
+or_too_many tree (Ok l) = Ok tree
+or_too_many tree (Err span) = Err (Places span.from)
+
+-- the unit of an input that has no more places than it may, or the first refusal up to that limit
+unfoldable pub sized_in : List ℕ → Result (List UnitItem) Refusal
+sized_in bytes = do
+  tree ← typed_in bytes
+  sized ← or_too_many tree (placed_in tree)
+  Ok sized
+
 -- the items of an input, whether or not they may stand after each other
 unfoldable pub items_in : List ℕ → Result (List Item) Refusal
 items_in bytes = do
-  tree ← typed_in bytes
+  tree ← sized_in bytes
   items ← ok_or NotBuilt (thin_of tree)
   Ok items
 

@@ -18,7 +18,7 @@ use Rattle.tsa_tool.specs.Lines.{Warned}
 use Rattle.tsa_tool.specs.declared.answer.Status.{Status}
 use Rattle.tsa_tool.specs.declared.answer.Status.TheVariants.{Accepted, Printed, Warned as Warns, Refused, WordsRefused, LimitPassed}
 use Rattle.tsa_tool.specs.declared.check.Refusal.{Refusal}
-use Rattle.tsa_tool.specs.declared.check.Refusal.TheVariants.{Lex, Syntax, Types, NotBuilt}
+use Rattle.tsa_tool.specs.declared.check.Refusal.TheVariants.{Lex, Syntax, Types, Places, NotBuilt}
 use Rattle.tsa_tool.specs.declared.command.Command.{Command}
 use Rattle.tsa_tool.specs.declared.command.Command.TheVariants.{Check, Print}
 
@@ -88,6 +88,7 @@ abbrev pub refused_report : List ℕ → Refusal → Report
 refused_report bytes (Lex code byte) = record { status = Refused; text = line (place_text (place_at bytes byte) ++ lex_text code) }
 refused_report bytes (Syntax code byte) = record { status = syntax_status code; text = line (place_text (place_at bytes byte) ++ syntax_text code) }
 refused_report bytes (Types code byte) = record { status = Refused; text = line (place_text (place_at bytes byte) ++ type_text code) }
+refused_report bytes (Places byte) = record { status = LimitPassed; text = line (place_text (place_at bytes byte) ++ codes "LM6 over 65536 places") }
 refused_report bytes NotBuilt = record { status = Refused; text = line (codes "NB0 form is not built yet") }
 
 abbrev pub accepted : Report

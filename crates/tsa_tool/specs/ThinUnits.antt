@@ -9,7 +9,9 @@ use Rattle.tsa_expr.specs.declared.refusal.SyntaxRefusal.TheVariants.{At, Functi
 use Rattle.tsa_unit.specs.Parsing.{unit_of}
 use Rattle.tsa_tree.specs.declared.premise.Failure.{Failure}
 use Rattle.tsa_tree.specs.types.FirstFailing.{first_failing}
-use Rattle.tsa_tool.specs.declared.check.Refusal.TheVariants.{Lex, Syntax, Types, NotBuilt}
+use Rattle.tsa_tool.specs.declared.check.Refusal.TheVariants.{Lex, Syntax, Types, Places, NotBuilt}
+use Rattle.tsa_place.specs.Calls.{Layout}
+use Rattle.tsa_place.specs.Units.{placed_in}
 use Rattle.tsa_tool.specs.Items.{Item}
 use Rattle.tsa_tool.specs.Names.{fits}
 use Rattle.tsa_tool.specs.Program.{bodies_of}
@@ -18,7 +20,7 @@ use Rattle.tsa_tool.specs.Lines.{Warned, unit_warned}
 use Rattle.tsa_tool.specs.Checks.{byte_of, warned_in}
 use Rattle.tsa_tool.specs.ThinTrees.{AreItems}
 
--- the text has tokens, they are a unit, its types are right, its tree is of the items, each item may stand after those before it, and no limit is
+-- the text has tokens, they are a unit, its types are right, it has no more places than it may, its tree is of the items, each item may stand after those before it, and no limit is
 -- passed
 pub record IsThin (text : List ℕ) (items : List Item) : Type 0 where
   pub tokens : List Lexeme
@@ -26,18 +28,22 @@ pub record IsThin (text : List ℕ) (items : List Item) : Type 0 where
   pub lexed : tokens_of text ≡ Ok tokens
   pub parsed : unit_of tokens ≡ Ok tree
   pub typed : first_failing tree ≡ None
+  pub layout : Layout
+  pub placed : placed_in tree ≡ Ok layout
   pub formed : AreItems tree items
   pub fits_each : (before : List Item) (item : Item) (behind : List Item) → items ≡ before ++ item ∷ behind → fits text before item ≡ true
   pub items_within : items_are_within items ≡ true
   pub bodies_within : list_all body_is_within (bodies_of text items) ≡ true
 
--- the text has tokens, they are a unit, its types are right, and it isn't thin
+-- the text has tokens, they are a unit, its types are right, it has no more places than it may, and it isn't thin
 pub record IsNotBuilt (text : List ℕ) : Type 0 where
   pub tokens : List Lexeme
   pub tree : List UnitItem
   pub lexed : tokens_of text ≡ Ok tokens
   pub parsed : unit_of tokens ≡ Ok tree
   pub typed : first_failing tree ≡ None
+  pub layout : Layout
+  pub placed : placed_in tree ≡ Ok layout
   pub no_items : (items : List Item) → IsThin text items → ⊥
 
 pub record ThinUnitsAreWarnedOf : Type 0 where
@@ -53,7 +59,10 @@ pub record ThinUnitsAreWarnedOf : Type 0 where
   -- a unit of which a premise of types fails is refused by the first one
   pub at_node : (text : List ℕ) (tokens : List Lexeme) (tree : List UnitItem) (failure : Failure) →
       tokens_of text ≡ Ok tokens → unit_of tokens ≡ Ok tree → first_failing tree ≡ Some failure → warned_in text ≡ Err (Types failure.code failure.span.from)
+  -- a unit with too many places is refused by the declarator at which there are
+  pub at_declarator : (text : List ℕ) (tokens : List Lexeme) (tree : List UnitItem) (span : Span) →
+      tokens_of text ≡ Ok tokens → unit_of tokens ≡ Ok tree → first_failing tree ≡ None → placed_in tree ≡ Err span → warned_in text ≡ Err (Places span.from)
   pub memory : (tokens : List Lexeme) → unit_of tokens ≡ Err NoMemory → ⊥
-  -- exactly a unit of right types that isn't thin is a form that isn't built
+  -- exactly a unit of right types, with no more places than it may have, that isn't thin is a form that isn't built
   pub other : (text : List ℕ) → IsNotBuilt text → warned_in text ≡ Err NotBuilt
   pub not_built : (text : List ℕ) → warned_in text ≡ Err NotBuilt → IsNotBuilt text

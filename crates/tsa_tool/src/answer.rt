@@ -142,6 +142,7 @@ fn refuse(alloc: Global, bytes: &[u8], refusal: Refusal) -> Result<Answer, NoMem
         Refusal::Lex { code, byte } => refuse_byte(alloc, bytes, code, byte),
         Refusal::Syntax { code, byte } => refuse_syntax(alloc, bytes, code, byte),
         Refusal::Types { code, byte } => refuse_types(alloc, bytes, code, byte),
+        Refusal::Places { byte } => refuse_places(alloc, bytes, byte),
         Refusal::NotBuilt => answer_of(alloc, Status::Refused, b"NB0 form is not built yet\n"),
     }
 }
@@ -178,6 +179,16 @@ fn refuse_types(alloc: Global, bytes: &[u8], code: TypeCode, byte: u32) -> Resul
     Ok(Answer {
         status: Status::Refused,
         text: placed_line(alloc, bytes, byte, type_text(code))?,
+    })
+}
+
+// The answer to a unit that has too many places, from the declarator at a byte on.
+fn refuse_places(alloc: Global, bytes: &[u8], byte: u32) -> Result<Answer, NoMemory>
+    ensures { IfOk result (λ answer. report_of answer ≡ refused_report bytes.now (Refusal.Places byte)) }
+{
+    Ok(Answer {
+        status: Status::LimitPassed,
+        text: placed_line(alloc, bytes, byte, b"LM6 over 65536 places")?,
     })
 }
 

@@ -7,7 +7,7 @@ ghost use Rattle.tsa_tree.specs.tokens.Signs.{lexemes};
 ghost use Rattle.tsa_tree.specs.tokens.Texts.{AreOfText};
 ghost use Rattle.tsa_tree.specs.units.Shapes.{item_shapes};
 ghost use Rattle.tsa_unit.specs.Parsing.{unit_of};
-ghost use Rattle.tsa_tool.specs.Checks.{lexed, byte_of, refusal_of, placed, tree_in, typed_in, items_in, judged_items, warned_in};
+ghost use Rattle.tsa_tool.specs.Checks.{lexed, byte_of, refusal_of, placed, tree_in, typed_in, sized_in, items_in, judged_items, warned_in};
 ghost use Rattle.tsa_tool.specs.Reports.{printed_report};
 ghost use Rattle.tsa_tool.specs.Warned.{warned_of};
 ghost use Rattle.tsa_tool.specs.declared.answer.Status.TheVariants.{Printed};
@@ -24,18 +24,20 @@ use std::alloc::Global;
 use tsa_base::{LexCode, LineStarts, NoMemory, Token};
 use tsa_expr::{SyntaxCode, SyntaxRefusal};
 use tsa_lex::{LexRefusal, lex};
+use tsa_place::{PlaceRefusal, Places};
 use tsa_print::print_unit;
 use tsa_tree::Parsed;
 use tsa_types::{TypeCode, TypeRefusal, Typed, type_check};
 use tsa_unit::parse;
 
 /// Why a unit is refused, with a line of its own: a byte that makes it no tokens, a token or a function that its syntax
-/// refuses, a node that its types refuse, or a form that isn't built yet.
+/// refuses, a node that its types refuse, a declarator at which there are too many places, or a form that isn't built yet.
 #[derive(Clone, Copy)]
 pub enum Refusal {
     Lex { code: LexCode, byte: u32 },
     Syntax { code: SyntaxCode, byte: u32 },
     Types { code: TypeCode, byte: u32 },
+    Places { byte: u32 },
     NotBuilt,
 }
 
@@ -163,6 +165,24 @@ fn read_typed<'a>(alloc: Global, bump: &'a Bump, bytes: &[u8]) -> Result<Typed<'
     }
 }
 
+// The unit of an input that has no more places than it may, in an arena.
+#[tactic(auto, unfolding(crate::specs::Checks::sized_in), using(crate::proofs::TypedLaws::places))]
+fn read_sized<'a>(alloc: Global, bump: &'a Bump, bytes: &[u8]) -> Result<Typed<'a>, ToolRefusal>
+    requires { length bytes.now ≤ INPUT_LIMIT }
+    ensures tree { IfOk result (λ typed. sized_in bytes.now ≡ Ok (item_shapes typed.unit.now.items.now)) }
+    ensures count { IfOk result (λ typed. length typed.unit.now.items.now ≤ INPUT_LIMIT) }
+    ensures refused { (r : _) → IsErrOf result (ToolRefusal.Refused r) → sized_in bytes.now ≡ Err r }
+{
+    let typed = read_typed(alloc, bump, bytes)?;
+    match Places::new(alloc, typed.unit()) {
+        Ok(_) => Ok(typed),
+        Err(PlaceRefusal::TooMany { span }) => Err(ToolRefusal::Refused(Refusal::Places {
+            byte: span.from,
+        })),
+        Err(PlaceRefusal::NoMemory) => Err(ToolRefusal::NoMemory),
+    }
+}
+
 // The items of an input that are a unit of the thin language, in an arena.
 #[tactic(auto, unfolding(crate::specs::Checks::items_in))]
 fn read_items<'a>(alloc: Global, bump: &'a Bump, bytes: &[u8]) -> Result<ThinUnit<'a>, ToolRefusal>
@@ -171,7 +191,7 @@ fn read_items<'a>(alloc: Global, bump: &'a Bump, bytes: &[u8]) -> Result<ThinUni
     ensures count { IfOk result (λ unit. vec_len unit.items ≤ INPUT_LIMIT) }
     ensures refused { (r : _) → IsErrOf result (ToolRefusal.Refused r) → items_in bytes.now ≡ Err r }
 {
-    let typed = read_typed(alloc, bump, bytes)?;
+    let typed = read_sized(alloc, bump, bytes)?;
     match thin(alloc, typed.unit().items)? {
         Some(unit) => Ok(unit),
         None => Err(NOT_BUILT),
