@@ -7,3 +7,4 @@ pub mod Words
 pub mod NumberLemmas
 pub mod GapLemmas
 pub mod PunctLemmas
+pub mod Quick

@@ -3,11 +3,13 @@
 
 mod front;
 mod gaps;
+mod laws;
 mod numbers;
 mod puncts;
 mod reserved;
 mod scan;
 mod tokens;
 
+pub use laws::quick_tokens_are_tokens;
 pub use reserved::is_reserved;
 pub use tokens::{LexRefusal, lex};
