@@ -11,23 +11,15 @@ use Rattle.tsa_tree.specs.types.DeclaredTypes.{value_in, constant_premises}
 use Rattle.tsa_tree.specs.types.Known.{Context}
 use Rattle.tsa_tree.specs.types.Premises.{or_else, first}
 use Rattle.tsa_tree.specs.types.Statements.{Around, is_case_again, case_premises}
-use Rattle.tsa_resolve.specs.Found.{number_in, constant_in, found_in, with_constant}
+use Rattle.tsa_resolve.specs.Found.{number_in, constant_in, found_in, found_value, with_constant}
 use Rattle.tsa_resolve.specs.Verdicts.{at, verdict_of}
 use Rattle.tsa_resolve.proofs.ConstantLaws.{constant_is}
-use Rattle.tsa_resolve.proofs.LengthLaws.{fixed_fails, fixed_passes, fixed_misses, value_typed, value_untyped}
-use Rattle.tsa_jump.specs.Cases.{value_by, or_no_constant, constant_by, case_by}
+use Rattle.tsa_resolve.proofs.LengthLaws.{fixed_fails, fixed_passes, fixed_misses}
+use Rattle.tsa_resolve.proofs.ValueLaws.{value_is}
+use Rattle.tsa_jump.specs.Cases.{or_no_constant, constant_by, case_by}
 use Rattle.tsa_jump.specs.declared.around.Key.{Key}
 
 module _ (c : Context) (e : Expr) where
-  value_of : (v : Result ExpressionType Failure) → verdict_of c (shape e) ≡ v → value_by (with_constant (constant_in c (shape e)) v) ≡ value_in c (shape e)
-  value_of (Err failure) h = sym (value_untyped c (shape e) failure h)
-  value_of (Ok t) h = sym (value_typed c (shape e) t h ∙ constant_is c (shape e))
-
-  -- what a value is worth
-  pub worth_is : value_by (found_in c (shape e)) ≡ value_in c (shape e)
-  unfolding found_in
-  worth_is = value_of (verdict_of c (shape e)) refl
-
   constant_of_case : (v : Result ExpressionType Failure) → verdict_of c (shape e) ≡ v
       → constant_by e.span (with_constant (constant_in c (shape e)) v) ≡ first (constant_premises c is_some (shape e))
   constant_of_case (Err failure) h = sym (fixed_fails c (shape e) failure h)
@@ -52,14 +44,12 @@ module _ (c : Context) (e : Expr) where
       → case_by a span key ≡ first (case_premises a c (shape e) span)
   unfolding case_premises first
   case_is a span key place is =
-      ap (λ r. if a.in_switch && is_case_again a.cases span.from (value_by r) then Some (at TY2 span) else (if not a.in_switch then Some (at TY7 span) else constant_by key.span r)) is
-      ∙ ap (λ s. if a.in_switch && is_case_again a.cases span.from (value_by (found_in c (shape e))) then Some (at TY2 span)
+      ap (λ r. if a.in_switch && is_case_again a.cases span.from (found_value r) then Some (at TY2 span) else (if not a.in_switch then Some (at TY7 span) else constant_by key.span r)) is
+      ∙ ap (λ s. if a.in_switch && is_case_again a.cases span.from (found_value (found_in c (shape e))) then Some (at TY2 span)
       else (if not a.in_switch then Some (at TY7 span) else constant_by s (found_in c (shape e)))) place
       ∙ ap (λ n. if a.in_switch && is_case_again a.cases span.from n then Some (at TY2 span)
-      else (if not a.in_switch then Some (at TY7 span) else constant_by e.span (found_in c (shape e)))) worth_is
+      else (if not a.in_switch then Some (at TY7 span) else constant_by e.span (found_in c (shape e)))) (value_is c e)
       ∙ ap (λ x. if a.in_switch && is_case_again a.cases span.from (value_in c (shape e)) then Some (at TY2 span) else (if not a.in_switch then Some (at TY7 span) else x)) constant_is_one
       ∙ by_tests (a.in_switch && is_case_again a.cases span.from (value_in c (shape e))) (not a.in_switch) span (first (constant_premises c is_some (shape e)))
 
 pub ruleset cases = (case_is)
-
-pub ruleset worths = (worth_is)

@@ -6,14 +6,9 @@ use Rattle.tsa_tree.specs.declared.premise.Failure.{Failure}
 use Rattle.tsa_tree.specs.declared.premise.TypeCode.TheVariants.{TY2, TY7, TY9}
 use Rattle.tsa_tree.specs.types.Statements.{Around, is_case_again}
 use Rattle.tsa_resolve.specs.declared.found.Found.{Found}
-use Rattle.tsa_resolve.specs.Found.{found_constant}
+use Rattle.tsa_resolve.specs.Found.{found_constant, found_value}
 use Rattle.tsa_resolve.specs.Verdicts.{at}
 use Rattle.tsa_jump.specs.declared.around.Key.{Key}
-
--- what has no type has no value
-abbrev pub value_by : Result Found Failure → Option Number
-value_by (Ok f) = found_constant f
-value_by (Err failure) = None
 
 abbrev pub or_no_constant : Span → Option Number → Option Failure
 or_no_constant span (Some n) = None
@@ -26,5 +21,5 @@ constant_by span (Ok f) = or_no_constant span (found_constant f)
 -- a value that an earlier case has, no switch round it, and then what is wrong with the value
 abbrev pub case_by : Around → Span → Key → Option Failure
 case_by a span key =
-    if a.in_switch && is_case_again a.cases span.from (value_by key.found) then Some (at TY2 span)
+    if a.in_switch && is_case_again a.cases span.from (found_value key.found) then Some (at TY2 span)
     else (if not a.in_switch then Some (at TY7 span) else constant_by key.span key.found)

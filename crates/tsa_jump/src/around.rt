@@ -7,7 +7,7 @@ ghost use Rattle.tsa_jump.specs.Cases.{case_by};
 
 use std::marker::Model;
 use tsa_base::Span;
-use tsa_resolve::{Found, at};
+use tsa_resolve::{Found, at, value_of};
 use tsa_scope::{Cases, Names};
 use tsa_tree::expr::Name;
 use tsa_tree::kind::ThingType;
@@ -63,16 +63,14 @@ pub struct Key {
 }
 
 impl Key {
-    ghost use Rattle.tsa_jump.specs.Cases.{value_by, constant_by};
+    ghost use Rattle.tsa_jump.specs.Cases.{constant_by};
+    ghost use Rattle.tsa_resolve.specs.Found.{found_value};
 
     /// What it is worth, where it is a constant.
     pub fn value(self) -> Option<Number>
-        ensures { result ≡ value_by self.found }
+        ensures { result ≡ found_value self.found }
     {
-        match self.found {
-            Ok(found) => found.value(),
-            Err(_) => None,
-        }
+        value_of(self.found)
     }
 
     /// What is wrong with it by itself: what fails in it, or that it is no constant.

@@ -6,11 +6,9 @@ ghost use Rattle.tsa_tree.specs.types.DeclaredTypes.{value_in};
 ghost use Rattle.tsa_tree.specs.types.Scopes.{context_of};
 ghost use Rattle.tsa_tree.specs.types.Targets.{with_label, labels_behind, labels_behind_all, with_value, cases_behind, cases_behind_all, or_place as spec_or_place, default_in, default_in_all};
 
-use crate::around::Key;
 use tsa_base::NoMemory;
 use tsa_resolve::View;
-use tsa_scope::{Cases, Names, Symbols};
-use tsa_tree::expr::Expr;
+use tsa_scope::{Cases, Names};
 use tsa_tree::number::Number;
 use tsa_tree::stmt::{Stmt, StmtKind};
 
@@ -76,20 +74,6 @@ fn note_case(cases: &mut Cases, value: Option<Number>, place: u32) -> Result<(),
     }
 }
 
-/// What the value of a case is worth, where it is a constant. Its names are noted elsewhere.
-#[tactic(auto, using(crate::proofs::CaseLaws::worths))]
-fn worth(view: View<'_, '_>, value: &Expr<'_>) -> Result<Option<Number>, NoMemory>
-    ensures { IfOk result (λ worth. worth ≡ value_in (context_of view.entry.scope.now) (shape value.now)) }
-{
-    let mut unheard = Symbols::new(view.scope.allocator());
-    let found = view.expression(&mut unheard, value)?;
-    let key = Key {
-        span: value.span,
-        found,
-    };
-    Ok(key.value())
-}
-
 /// The cases of a switch in a statement, behind those that are known: those of a switch inside are that one's.
 #[cycle(casing)]
 #[tactic(auto, unfolding(tsa_tree::specs::types::Targets::cases_behind, tsa_tree::specs::types::Targets::cases_behind_all))]
@@ -109,7 +93,7 @@ pub fn collect_cases(view: View<'_, '_>, cases: &mut Cases, stmt: &Stmt<'_>) -> 
         StmtKind::DoWhile { body, .. } => collect_cases(view, cases, body),
         StmtKind::For { body, .. } => collect_cases(view, cases, body),
         StmtKind::Case { value, body } => {
-            note_case(cases, worth(view, value)?, stmt.span.from)?;
+            note_case(cases, view.value(value)?, stmt.span.from)?;
             collect_cases(view, cases, body)
         }
         StmtKind::Otherwise { body } => collect_cases(view, cases, body),

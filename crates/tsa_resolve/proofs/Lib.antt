@@ -8,4 +8,5 @@ pub mod NameLists
 pub mod Sequences
 pub mod Steps
 pub mod SymbolLaws
+pub mod ValueLaws
 pub mod Walk

@@ -48,6 +48,11 @@ number_in _ = None
 abbrev pub found_constant : Found → Option Number
 found_constant f = number_in f.constant
 
+-- what something is worth by what it was found to be: what has no type has no value
+abbrev pub found_value : Result Found Failure → Option Number
+found_value (Ok f) = found_constant f
+found_value (Err failure) = None
+
 -- What operators make of constants.
 abbrev pub prefix_constant : UnaryOp → Constant → Constant
 prefix_constant prefix.Address (constant.Place n) = constant.Address n

@@ -7,6 +7,7 @@ mod declared;
 mod expressions;
 mod found;
 mod refusal;
+mod values;
 mod verdicts;
 
 pub use accesses::first_of;
@@ -14,4 +15,5 @@ pub use declared::{Length, Written, tag_failure, typed_failure};
 pub use expressions::View;
 pub use found::{Constant, Found};
 pub use refusal::{TypeRefusal, judged, refused};
+pub use values::value_of;
 pub use verdicts::{at, thing_of};

@@ -2,26 +2,17 @@
 ghost use Rattle.std.specs.Prelude.{◌≡◌, option_map, IfOk};
 ghost use Rattle.tsa_way.specs.LockPaths.{is_address as spec_is_address, is_pointer as spec_is_pointer};
 ghost use Rattle.tsa_tree.specs.expressions.Shapes.{shape};
-ghost use Rattle.tsa_way.specs.Founds.{value_found};
 
 use crate::leads::{Led, in_range, meant};
 use crate::path::{Path, PathStep, Root};
 use tsa_base::NoMemory;
 use tsa_operand::is_integer_kind;
-use tsa_resolve::{Found, View};
-use tsa_scope::{Scope, Symbols};
+use tsa_resolve::View;
+use tsa_scope::Scope;
 use tsa_tree::expr::{Expr, ExprKind, UnaryOp};
 use tsa_tree::kind::{Kind, ThingType};
 use tsa_tree::meaning::{Entry, Meaning};
 use tsa_tree::number::Number;
-use tsa_tree::premise::Failure;
-
-/// The value of an index that has a type.
-fn value_of(found: Result<Found, Failure>) -> Option<Number>
-    ensures { result ≡ value_found found }
-{
-    found.ok()?.value()
-}
 
 /// Whether a kind is that of a pointer to a struct.
 fn is_pointer(kind: Kind) -> bool
@@ -120,7 +111,6 @@ impl<'w, 'a> Sight<'w, 'a> {
     }
 
     /// What an index is worth that is a constant.
-    #[tactic(auto, using(crate::proofs::Values::value_is))]
     pub fn value_at(self, index: &Expr<'_>) -> Result<Option<Number>, NoMemory>
         ensures { IfOk result (λ value. value ≡ value_in (context_of self.entry.scope.now) (shape index.now)) }
     {
@@ -128,9 +118,7 @@ impl<'w, 'a> Sight<'w, 'a> {
             scope: self.scope,
             function: 0,
         };
-        let mut unnoted = Symbols::new(self.scope.allocator());
-        let found = view.expression(&mut unnoted, index)?;
-        Ok(value_of(found))
+        view.value(index)
     }
 
     /// The step by an index that is such a local.

@@ -1,4 +1,4 @@
--- What an index is worth, by what it was found to be.
+-- What an expression is worth, by what it was found to be.
 use Rattle.std.proofs.Common.{◌≡◌, ◌∙◌, Result, Ok, Err, refl, sym}
 use Rattle.tsa_tree.specs.declared.expr.Expr.{Expr}
 use Rattle.tsa_tree.specs.declared.kind.ExpressionType.{ExpressionType}
@@ -6,18 +6,19 @@ use Rattle.tsa_tree.specs.declared.premise.Failure.{Failure}
 use Rattle.tsa_tree.specs.expressions.Shapes.{shape}
 use Rattle.tsa_tree.specs.types.DeclaredTypes.{value_in}
 use Rattle.tsa_tree.specs.types.Known.{Context}
-use Rattle.tsa_resolve.specs.Found.{with_constant, constant_in, found_in}
+use Rattle.tsa_resolve.specs.Found.{with_constant, constant_in, found_in, found_value}
 use Rattle.tsa_resolve.specs.Verdicts.{verdict_of}
 use Rattle.tsa_resolve.proofs.ConstantLaws.{constant_is}
 use Rattle.tsa_resolve.proofs.LengthLaws.{value_typed, value_untyped}
-use Rattle.tsa_way.specs.Founds.{value_found}
 
 module _ (c : Context) (e : Expr) where
-  by_verdict : (v : Result ExpressionType Failure) → verdict_of c (shape e) ≡ v → value_found (with_constant (constant_in c (shape e)) v) ≡ value_in c (shape e)
+  by_verdict : (v : Result ExpressionType Failure) → verdict_of c (shape e) ≡ v → found_value (with_constant (constant_in c (shape e)) v) ≡ value_in c (shape e)
   by_verdict (Ok t) h = sym (value_typed c (shape e) t h ∙ constant_is c (shape e))
   by_verdict (Err f) h = sym (value_untyped c (shape e) f h)
 
-  -- what an index was found to be tells what it is worth
-  pub value_is : value_found (found_in c (shape e)) ≡ value_in c (shape e)
+  -- what an expression was found to be tells what it is worth
+  pub value_is : found_value (found_in c (shape e)) ≡ value_in c (shape e)
   unfolding found_in
   value_is = by_verdict (verdict_of c (shape e)) refl
+
+pub ruleset values = (value_is)
