@@ -1,13 +1,4 @@
-pub mod Sizes
-pub mod Standing
 pub mod Listed
-pub mod Tables
-pub mod GuardLists
-pub mod MemberLists
-pub mod Below
-pub mod Begins
-pub mod Evaluating
-pub mod WayLists
 pub mod ItemLists
 pub mod Leaving
 pub mod Putting

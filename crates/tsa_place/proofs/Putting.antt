@@ -5,7 +5,7 @@ use Rattle.std.proofs.lemmas.List.{append_assoc, length-append, take-append-le}
 use Rattle.tsa_tree.specs.declared.kind.Kind.{Kind}
 use Rattle.tsa_tree.specs.declared.kind.Kind.TheVariants as type
 use Rattle.tsa_tree.specs.declared.kind.ThingType.{ThingType}
-use Rattle.tsa_place.specs.declared.filling.From.{From}
+use Rattle.tsa_place.specs.declared.filling.Origin.{Origin}
 use Rattle.tsa_place.specs.declared.filling.One.{One}
 use Rattle.tsa_place.specs.declared.filling.Elements.{Elements}
 use Rattle.tsa_place.specs.declared.filling.Members.{Members}
@@ -13,12 +13,13 @@ use Rattle.tsa_place.specs.declared.filling.Left.{Left}
 use Rattle.tsa_place.specs.declared.filling.Left.TheVariants as left
 use Rattle.tsa_place.specs.declared.filling.Rows.{Rows}
 use Rattle.tsa_place.specs.declared.known.Known.{Known}
-use Rattle.tsa_place.specs.Layouts.{Part, Structures, structure_at, kind_size, thing_size, size_of, members_size}
-use Rattle.tsa_place.specs.Places.{Placed, Given, Values, a_place, element_of, member_of, kind_places, elements_places, members_places, thing_places, places_inside}
-use Rattle.tsa_place.specs.Standing.{IsWithin, AllBelow, IsOrdered}
+use Rattle.tsa_layout.specs.Layouts.{Part, Structures, structure_at, kind_size, thing_size, size_of, members_size}
+use Rattle.tsa_layout.specs.Places.{Given, Values, a_place, element_of, member_of, kind_places, elements_places, members_places, thing_places, places_inside}
+use Rattle.tsa_layout.specs.declared.place.Placed.{Placed}
+use Rattle.tsa_layout.specs.Standing.{IsWithin, AllBelow, IsOrdered}
 use Rattle.tsa_place.specs.Filling.{given, size_left, one_left, all_left, AreLeft, Leaves, values_by, with_one, with_left, with_thing, IsReady, Puts}
-use Rattle.tsa_place.proofs.Sizes.{inside_sized, members_sized}
-use Rattle.tsa_place.proofs.Standing.{members_below, object_is}
+use Rattle.tsa_layout.proofs.Sizes.{inside_sized, members_sized}
+use Rattle.tsa_layout.proofs.Standing.{members_below, object_is}
 
 -- a member of some that are defined
 part_within : (n : ℕ) (ms : List Part) (k : ℕ) (m : Part) → AllBelow n ms → slice_get ms k ≡ Some m → IsWithin n m.thing
@@ -163,7 +164,7 @@ module _ (k : Known) (old mid new : Rows) (same : mid.places.items ≡ old.place
       ap (λ m. kind_places (places_inside space values) (size_of space) values (element_of (given e.from) i) (Some i) o e.kind ++ each values m (suc i) (o + size)) less
       ∙ ap (λ j. kind_places (places_inside space values) (size_of space) values (element_of (given e.from) i) (Some i) o e.kind ++ each values (suc n - 1) j (o + size)) next
 
-  pub element_put : (others : Elements) (f : From) (index count : ℕ) → 0 < e.count → others ≡ record { from = e.from; index = index; count = count; kind = e.kind } → index ≡ e.index + 1
+  pub element_put : (others : Elements) (f : Origin) (index count : ℕ) → 0 < e.count → others ≡ record { from = e.from; index = index; count = count; kind = e.kind } → index ≡ e.index + 1
       → count ≡ e.count - 1 → given f ≡ element_of (given e.from) e.index → Leaves space old.left.items mid.left.items (left.Elements others)
       → Puts k mid new (with_one k mid (record { from = f; index = Some e.index; kind = e.kind })) → Puts k old new (with_left k old (left.Elements e))
   element_put others f index count some is i_is n_is f_is leaves p =
@@ -205,7 +206,7 @@ module _ (k : Known) (old mid new : Rows) (same : mid.places.items ≡ old.place
   abbrev of_thing : Part → ℕ
   of_thing part = thing_size (size_of room) part.thing
 
-  pub member_put : (others : Members) (f : From) (number : ℕ) (part : Part) (thing : ThingType) → thing ≡ part.thing → slice_get (structure_at room m.structure).members m.number ≡ Some part
+  pub member_put : (others : Members) (f : Origin) (number : ℕ) (part : Part) (thing : ThingType) → thing ≡ part.thing → slice_get (structure_at room m.structure).members m.number ≡ Some part
       → others ≡ record { from = m.from; owner = m.owner; number = number; structure = m.structure } → number ≡ m.number + 1
       → given f ≡ member_of (given m.from) m.owner m.number part → Leaves room old.left.items mid.left.items (left.Members others)
       → Puts k mid new (with_thing k mid f thing) → Puts k old new (with_left k old (left.Members m))

@@ -13,8 +13,9 @@ use Rattle.tsa_tree.specs.units.Syntax.{UnitItem, structure_item, alias_item, en
 use Rattle.tsa_place.specs.declared.refusal.PlaceRefusal.{PlaceRefusal}
 use Rattle.tsa_place.specs.declared.refusal.PlaceRefusal.TheVariants.{TooMany, NoMemory}
 use Rattle.tsa_place.specs.Answers.{Places, GivesAll}
-use Rattle.tsa_place.specs.Calls.{Layout}
-use Rattle.tsa_place.specs.Units.{unless, unless_taken, worth, enumerators_behind, members_after, behind_data, data_placed, too_many_at, or_behind, placed_behind}
+use Rattle.tsa_layout.specs.Calls.{Layout}
+use Rattle.tsa_layout.specs.Parts.{unless, unless_taken, members_after}
+use Rattle.tsa_place.specs.Units.{worth, enumerators_behind, behind_data, data_placed, too_many_at, or_behind, placed_behind}
 
 -- names change no struct
 of_named : (name : Option Identifier) (e : Entry) (here : Scope) → (with_named name e here).structs ≡ here.structs

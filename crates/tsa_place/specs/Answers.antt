@@ -6,9 +6,9 @@ use Rattle.tsa_tree.specs.types.Scopes.{Scope}
 use Rattle.tsa_tree.specs.units.Syntax.{UnitItem}
 use Rattle.tsa_place.specs.declared.refusal.PlaceRefusal.{PlaceRefusal}
 use Rattle.tsa_place.specs.declared.refusal.PlaceRefusal.TheVariants.{TooMany, NoMemory}
-use Rattle.tsa_place.specs.Layouts.{Part}
-use Rattle.tsa_place.specs.Places.{Placed}
-use Rattle.tsa_place.specs.Calls.{Layout}
+use Rattle.tsa_layout.specs.Layouts.{Part}
+use Rattle.tsa_layout.specs.declared.place.Placed.{Placed}
+use Rattle.tsa_layout.specs.Calls.{Layout}
 use Rattle.tsa_place.specs.Units.{passes, with_part, behind_data, data_placed, too_many_at}
 
 -- more places behind others

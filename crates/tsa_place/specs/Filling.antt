@@ -1,22 +1,24 @@
 -- What of a thing has no place yet, and which places are put one after another.
 use Rattle.std.specs.Prelude.{◌≡◌, ℕ, ◌+◌, ◌*◌, ◌<◌, ◌≤◌, List, [], ◌∷◌, ◌++◌, drop, take, length, option_map}
 use Rattle.tsa_tree.specs.declarations.Shapes.{init_shape}
-use Rattle.tsa_place.specs.declared.filling.From.{From}
+use Rattle.tsa_place.specs.declared.filling.Origin.{Origin}
 use Rattle.tsa_place.specs.declared.filling.One.{One}
 use Rattle.tsa_place.specs.declared.filling.Members.{Members}
 use Rattle.tsa_place.specs.declared.filling.Left.{Left}
 use Rattle.tsa_place.specs.declared.filling.Left.TheVariants as left
 use Rattle.tsa_place.specs.declared.filling.Rows.{Rows}
 use Rattle.tsa_place.specs.declared.known.Known.{Known}
-use Rattle.tsa_place.specs.Layouts.{Part, Structures, structure_at, kind_size, thing_size, size_of, members_size}
-use Rattle.tsa_place.specs.Places.{Placed, Given, Values, kind_places, elements_places, members_places, thing_places, places_inside}
-use Rattle.tsa_place.specs.Calls.{Layout}
-use Rattle.tsa_place.specs.Units.{values_in, place_limit}
-use Rattle.tsa_place.specs.Standing.{IsBelow, IsOrdered}
+use Rattle.tsa_layout.specs.Layouts.{Part, Structures, structure_at, kind_size, thing_size, size_of, members_size}
+use Rattle.tsa_layout.specs.Places.{Given, Values, kind_places, elements_places, members_places, thing_places, places_inside}
+use Rattle.tsa_layout.specs.declared.place.Placed.{Placed}
+use Rattle.tsa_layout.specs.Calls.{Layout}
+use Rattle.tsa_layout.specs.Parts.{place_limit}
+use Rattle.tsa_place.specs.Units.{values_in}
+use Rattle.tsa_layout.specs.Standing.{IsBelow, IsOrdered}
 use Rattle.tsa_tree.specs.declared.kind.ThingType.{ThingType}
 
 -- what a part has from where it lies, with its initialiser as a tree
-abbrev pub given : From → Given
+abbrev pub given : Origin → Given
 given f = record { holder = f.holder; is_const = f.is_const; is_guarded = f.is_guarded; init = option_map (λ x. init_shape x.now) f.init }
 
 module _ (structs : Structures) where
@@ -90,7 +92,7 @@ module _ (k : Known) (rows : Rows) where
   abbrev pub with_left : Left → List Placed
   with_left l = and_left k rows (size_left structs l) (one_left structs values l here)
 
-  abbrev pub with_thing : From → ThingType → List Placed
+  abbrev pub with_thing : Origin → ThingType → List Placed
   with_thing from t = and_left k rows (thing_size (size_of structs) t) (thing_places (places_inside structs values) (size_of structs) values (given from) here t)
 
 -- structs hold by value what is defined before them, the places of earlier globals are among those that are there, and something of all that is left has no place

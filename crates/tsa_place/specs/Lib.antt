@@ -1,9 +1,4 @@
-pub mod Layouts
-pub mod Places
-pub mod Calls
 pub mod Units
-pub mod Standing
 pub mod Examples
-pub mod Tables
 pub mod Filling
 pub mod Answers

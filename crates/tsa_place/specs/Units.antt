@@ -1,93 +1,27 @@
 -- The places of a unit (C11 6.2.4p1, 6.7.9): global by global, with the value of each cell at the start.
-use Rattle.std.specs.Prelude.{ℕ, ◌+◌, nat_lt, ℤ, pos, ◌+ℤ◌, Bool, true, false, List, [], ◌∷◌, ◌++◌, length, Option, Some, None, is_some, option_and_then, Result, Ok, Err, if◌then◌else◌}
+use Rattle.std.specs.Prelude.{ℕ, ◌+◌, nat_lt, ℤ, pos, ◌+ℤ◌, Bool, true, false, List, [], ◌∷◌, ◌++◌, length, Option, Some, None, option_and_then, Result, Ok, Err, if◌then◌else◌}
 use Rattle.tsa_base.specs.declared.token.Span.{Span}
 use Rattle.tsa_base.specs.declared.value.Value.{Value}
 use Rattle.tsa_base.specs.declared.value.Value.TheVariants.{Int, Unsigned, Pointer}
-use Rattle.tsa_tree.specs.attributes.Syntax.{Attribute}
-use Rattle.tsa_tree.specs.declared.attr.AttrKind.{AttrKind}
-use Rattle.tsa_tree.specs.declared.attr.AttrKind.TheVariants as attr
 use Rattle.tsa_tree.specs.declared.number.Number.{Number}
 use Rattle.tsa_tree.specs.declarations.Syntax.{Declaration, EnumConstant, Initialiser, value, list}
-use Rattle.tsa_tree.specs.expressions.Syntax.{Identifier, Expression, Arguments, none, more}
+use Rattle.tsa_tree.specs.expressions.Syntax.{Identifier, Expression}
 use Rattle.tsa_tree.specs.types.Arithmetic.{unsigned_of, int_of}
-use Rattle.tsa_tree.specs.types.Attributes.{is_lock}
-use Rattle.tsa_tree.specs.types.DeclaredTypes.{thing_type, is_whole, value_in}
+use Rattle.tsa_tree.specs.types.DeclaredTypes.{thing_type, value_in}
 use Rattle.tsa_tree.specs.types.Enums.{as_int, int_value, value_or_zero, enumerator_entry}
 use Rattle.tsa_tree.specs.types.Globals.{global_entry}
-use Rattle.tsa_tree.specs.types.Scopes.{Scope, Members, found, context_of, with_owned, with_name, with_named, with_globals, with_struct, is_taken, is_named_taken, a_type_name}
-use Rattle.tsa_tree.specs.declared.meaning.Entry.{Entry}
-use Rattle.tsa_tree.specs.types.Structs.{with_member}
+use Rattle.tsa_tree.specs.types.Scopes.{Scope, context_of, with_globals, a_type_name}
 use Rattle.tsa_tree.specs.types.Types.{single}
 use Rattle.tsa_tree.specs.declared.kind.Kind.{Kind}
 use Rattle.tsa_tree.specs.declared.kind.Kind.TheVariants as type
-use Rattle.tsa_tree.specs.declared.kind.ThingType.{ThingType}
 use Rattle.tsa_tree.specs.types.Units.{outset}
 use Rattle.tsa_tree.specs.units.Syntax.{UnitItem, structure_item, alias_item, enumeration_item, global_item, function_item, body_item}
-use Rattle.tsa_way.specs.Ways.{Way}
-use Rattle.tsa_way.specs.LockPaths.{lock_way, leads, stable_in}
-use Rattle.tsa_place.specs.Layouts.{Part, Structure, size_of, thing_size}
-use Rattle.tsa_place.specs.Places.{Given, Values, Global, has_some, places_of}
-use Rattle.tsa_place.specs.Calls.{Layout, evaluated, no_locals}
-
--- no local is known in a guard or in a global's initialiser
-abbrev pub no_stable : ℕ → Bool
-no_stable = stable_in []
-
--- the paths of the arguments of `guarded_by`, in order
-unfoldable pub argument_ways : Scope → Arguments → List (Option Way)
-argument_ways here none = []
-argument_ways here (more first rest) = lock_way no_stable here first ∷ argument_ways here rest
-
-abbrev pub is_guard : AttrKind → Bool
-is_guard attr.GuardedBy = true
-is_guard _ = false
-
-unfoldable pub guard_ways : Scope → List Attribute → List (Option Way)
-guard_ways here [] = []
-guard_ways here (a ∷ rest) = if is_guard a.kind then argument_ways here a.args ++ guard_ways here rest else guard_ways here rest
-
--- a struct that isn't defined yet is refused by types where it is used by value, and counts as `int`
-abbrev pub whole : Scope → ThingType → ThingType
-whole here t = record { kind = if is_whole here t.kind then t.kind else type.Int; length = t.length; is_const = t.is_const }
-
-abbrev pub part_in : Scope → Scope → Declaration → Part
-part_in here inside d = record { name = d.name.text; thing = whole here (thing_type here d.ctype); guards = guard_ways inside d.attrs; span = d.span }
-
--- a member that is declared again is refused by types, and isn't known by its name
-abbrev pub unless_known : Bool → Members → Members → Members
-unless_known true before longer = before
-unless_known false before longer = longer
-
-abbrev pub member_behind : Scope → Members → Declaration → Members
-member_behind here before d = unless_known (is_some (found before d.name.text)) before (with_member here before d)
-
-unfoldable pub members_after : Scope → Members → List Declaration → Members
-members_after here before [] = before
-members_after here before (d ∷ rest) = members_after here (member_behind here before d) rest
-
--- in the guard of a member the members before it are known first
-unfoldable pub parts_behind : Scope → Members → List Declaration → List Part
-parts_behind here before [] = []
-parts_behind here before (d ∷ rest) = part_in here (with_owned before here) d ∷ parts_behind here (member_behind here before d) rest
-
-abbrev pub structure_in : Scope → List Declaration → Structure
-structure_in here members = record { is_lock = is_lock here (Some (length here.structs)); members = parts_behind here [] members }
-
--- a name that is declared again is refused by types, and isn't known by this
-abbrev pub unless : Bool → Scope → Scope → Scope
-unless true before after = before
-unless false before after = after
-
-abbrev pub unless_taken : List ℕ → Entry → Scope → Scope
-unless_taken name entry here = unless (is_taken name here) here (with_name name entry here)
-
-abbrev pub unless_named : Option Identifier → Entry → Scope → Scope
-unless_named name entry here = unless (is_named_taken name here) here (with_named name entry here)
-
--- what is known behind a struct
-abbrev pub behind_structure : Scope → Option Identifier → List Declaration → Scope
-behind_structure here alias members =
-    unless_named alias (a_type_name (single (type.Structure (length here.structs)) false)) (with_struct (members_after here [] members) here)
+use Rattle.tsa_way.specs.LockPaths.{leads}
+use Rattle.tsa_layout.specs.Layouts.{Part, Structure, size_of, thing_size}
+use Rattle.tsa_layout.specs.Places.{Given, Values, has_some, places_of}
+use Rattle.tsa_layout.specs.declared.place.Holder.TheVariants.{Global}
+use Rattle.tsa_layout.specs.Calls.{Layout, evaluated, no_locals}
+use Rattle.tsa_layout.specs.Parts.{no_stable, part_in, structure_in, unless_taken, unless_named, behind_structure, place_limit}
 
 -- What is known behind an enum: each enumerator behind its own value, which counts on from the last where none is written, and is 0 where it has none.
 abbrev pub worth_written : Scope → Option Expression → ℤ → Option ℤ
@@ -154,14 +88,10 @@ known_global here d = unless_taken d.name.text (global_entry here d) here
 abbrev pub global_part : Scope → Declaration → Part
 global_part here d = part_in here (known_global here d) d
 
--- a unit may have 65,536 places
-abbrev pub place_limit : ℕ
-place_limit = 65536
-
 abbrev pub passes : Layout → Part → Bool
 passes l part = nat_lt place_limit (length l.places + thing_size (size_of l.structs) part.thing)
 
--- What is known behind an item that isn't a function: no length, guard or initialiser names a function.
+-- What is known behind an item. Functions are left out: no length and no initialiser of a global calls one, and a guard that does has no path.
 abbrev pub behind_data : Scope → UnitItem → Scope
 behind_data here (structure_item tag alias attrs members span) = behind_structure here alias members
 behind_data here (alias_item name ctype span) = unless_taken name.text (a_type_name (thing_type here ctype)) here

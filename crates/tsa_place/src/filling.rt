@@ -1,23 +1,21 @@
 //! The places of a thing are put one after another (C11 6.2.5p20, 6.7.2.1p15), with a list of what has none yet in place of a recursion.
 ghost use Rattle.std.specs.Prelude.{Some, ◌≡◌, ◌++◌, ◌+◌, ◌≤◌, ◌∷◌, [], nat_lt, length, option_map, slice_get, IfOk, OnOk};
 ghost use Rattle.tsa_place.specs.Filling.{given, things_left, IsDefined, IsLeft, Leaves, values_by, with_one, with_left, with_thing, IsReady, Puts};
-ghost use Rattle.tsa_place.specs.Layouts.{size_of, thing_size};
-ghost use Rattle.tsa_place.specs.Places.{a_place, item_of as spec_item_of, element_of as spec_element_of, member_of as spec_member_of, places_of};
-ghost use Rattle.tsa_place.specs.Standing.{IsBelow, IsOrdered, IsWithin};
-ghost use Rattle.tsa_place.specs.Units.{place_limit};
+ghost use Rattle.tsa_layout.specs.Layouts.{size_of, thing_size};
+ghost use Rattle.tsa_layout.specs.Places.{a_place, item_of as spec_item_of, element_of as spec_element_of, member_of as spec_member_of, places_of};
+ghost use Rattle.tsa_layout.specs.Standing.{IsBelow, IsOrdered, IsWithin};
+ghost use Rattle.tsa_layout.specs.Parts.{place_limit};
 ghost use Rattle.tsa_tree.specs.declarations.Shapes.{init_shape};
 
 use crate::known::Known;
-use crate::parts::Part;
-use crate::place::{Holder, Placed};
-use crate::structures::Structures;
 use tsa_base::NoMemory;
+use tsa_layout::{Holder, Part, Placed, Structures};
 use tsa_tree::decl::Init;
 use tsa_tree::kind::{Kind, ThingType};
 
 /// What a part has from where it lies: what declares it, whether it is `const` or guarded, and its initialiser where one is written.
 #[derive(Clone, Copy)]
-pub struct From<'t> {
+pub struct Origin<'t> {
     pub holder: Holder,
     pub is_const: bool,
     pub is_guarded: bool,
@@ -27,7 +25,7 @@ pub struct From<'t> {
 /// A place alone: what it has from where it lies, its index where it is an element, and what it is.
 #[derive(Clone, Copy)]
 pub struct One<'t> {
-    pub from: From<'t>,
+    pub from: Origin<'t>,
     pub index: Option<u32>,
     pub kind: Kind,
 }
@@ -35,7 +33,7 @@ pub struct One<'t> {
 /// So many elements of an array, from an index on.
 #[derive(Clone, Copy)]
 pub struct Elements<'t> {
-    pub from: From<'t>,
+    pub from: Origin<'t>,
     pub index: u32,
     pub count: u32,
     pub kind: Kind,
@@ -44,7 +42,7 @@ pub struct Elements<'t> {
 /// Members of the struct object at a place, from a number on.
 #[derive(Clone, Copy)]
 pub struct Members<'t> {
-    pub from: From<'t>,
+    pub from: Origin<'t>,
     pub owner: u32,
     pub number: u32,
     pub structure: u32,
@@ -93,10 +91,10 @@ fn item_of<'t>(init: Option<&'t Init<'t>>, number: u32) -> Option<&'t Init<'t>>
 }
 
 /// What the element of an index has.
-fn element_of<'t>(from: From<'t>, index: u32) -> From<'t>
+fn element_of<'t>(from: Origin<'t>, index: u32) -> Origin<'t>
     ensures { given result ≡ spec_element_of (given from.entry) index }
 {
-    From {
+    Origin {
         holder: from.holder,
         is_const: from.is_const,
         is_guarded: from.is_guarded,
@@ -105,10 +103,10 @@ fn element_of<'t>(from: From<'t>, index: u32) -> From<'t>
 }
 
 /// What a member has of the object at a place.
-fn member_of<'t>(from: From<'t>, owner: u32, number: u32, part: &Part) -> From<'t>
+fn member_of<'t>(from: Origin<'t>, owner: u32, number: u32, part: &Part) -> Origin<'t>
     ensures { given result ≡ spec_member_of (given from.entry) owner number part.now }
 {
-    From {
+    Origin {
         holder: Holder::Member { owner, number },
         is_const: from.is_const || part.thing.is_const,
         is_guarded: from.is_guarded || !part.guards.is_empty(),
@@ -218,7 +216,7 @@ impl<'t, 'a> Known<'t, 'a> {
     }
 
     /// Puts the first place of a thing.
-    fn thing(self, rows: &mut Rows<'t>, from: From<'t>, thing: ThingType) -> Result<(), NoMemory>
+    fn thing(self, rows: &mut Rows<'t>, from: Origin<'t>, thing: ThingType) -> Result<(), NoMemory>
         requires ready { IsReady self rows.old }
         requires within { IsWithin (length self.structs.now) thing }
         ensures { OnOk result (Puts self.entry rows.old rows.new (with_thing self.entry rows.old from.entry thing)) }
@@ -281,7 +279,7 @@ impl<'t, 'a> Known<'t, 'a> {
     pub fn place(
         self,
         rows: &mut Rows<'t>,
-        from: From<'t>,
+        from: Origin<'t>,
         thing: ThingType,
     ) -> Result<(), NoMemory>
         requires ready { IsReady self rows.old }
@@ -302,7 +300,7 @@ impl<'t, 'a> Known<'t, 'a> {
     pub fn with_thing(
         self,
         places: Vec<Placed>,
-        from: From<'t>,
+        from: Origin<'t>,
         thing: ThingType,
     ) -> Result<Vec<Placed>, NoMemory>
         requires earlier { self.count ≡ length places.items }

@@ -2,24 +2,21 @@
 ghost use Rattle.std.specs.Prelude.{◌≡◌, ◌+◌, ◌≤◌, ◌<◌, length, Some, slice_get, option_map, IfOk, OnOk};
 ghost use Rattle.tsa_place.specs.Answers.{Adds, with_kept, with_places};
 ghost use Rattle.tsa_place.specs.Filling.{given};
-ghost use Rattle.tsa_place.specs.Layouts.{size_of, thing_size};
-ghost use Rattle.tsa_place.specs.Places.{places_of};
-ghost use Rattle.tsa_place.specs.Standing.{IsOrdered, IsWithin};
-ghost use Rattle.tsa_place.specs.Units.{no_places, given_by, values_in, with_structure, structure_in, behind_structure, place_limit};
+ghost use Rattle.tsa_layout.specs.Layouts.{size_of, thing_size};
+ghost use Rattle.tsa_layout.specs.Places.{places_of};
+ghost use Rattle.tsa_layout.specs.Standing.{IsOrdered, IsWithin};
+ghost use Rattle.tsa_layout.specs.Parts.{structure_in, behind_structure, place_limit};
+ghost use Rattle.tsa_place.specs.Units.{no_places, given_by, values_in, with_structure};
 ghost use Rattle.tsa_tree.specs.declarations.Shapes.{decl_shapes, init_shape};
 ghost use Rattle.tsa_tree.specs.expressions.Shapes.{name_shape};
 
-use crate::definitions::define_struct;
-use crate::filling::{From, next_place};
+use crate::filling::{Origin, next_place};
 use crate::known::Known;
-use crate::layout::Layout;
-use crate::parts::Part;
-use crate::place::{Holder, Placed};
 use crate::refusal::PlaceRefusal;
-use crate::structures::Structures;
 use std::alloc::Global;
 use std::marker::Model;
 use tsa_base::NoMemory;
+use tsa_layout::{Holder, Layout, Part, Placed, Structures, define_struct};
 use tsa_scope::Scope;
 use tsa_tree::decl::Init;
 use tsa_tree::item::StructDef;
@@ -37,8 +34,8 @@ pub struct Globals {
 
 impl Model for Globals {
     ghost use Rattle.std.specs.Prelude.{◌≤◌, length};
-    ghost use Rattle.tsa_place.specs.Calls.{Layout};
-    ghost use Rattle.tsa_place.specs.Units.{place_limit};
+    ghost use Rattle.tsa_layout.specs.Calls.{Layout};
+    ghost use Rattle.tsa_layout.specs.Parts.{place_limit};
 
     ghost Value = { Layout };
 
@@ -92,11 +89,11 @@ impl Globals {
     }
 
     /// What the next global has.
-    fn next<'t>(&self, part: &Part, init: Option<&'t Init<'t>>) -> Result<From<'t>, NoMemory>
+    fn next<'t>(&self, part: &Part, init: Option<&'t Init<'t>>) -> Result<Origin<'t>, NoMemory>
         ensures { IfOk result (λ from. given from ≡ given_by part.now (length self.now.globals) (option_map (λ x. init_shape x.now) init.entry)) }
     {
         let number = u32::try_from(self.globals.len()).ok().ok_or(NoMemory)?;
-        Ok(From {
+        Ok(Origin {
             holder: Holder::Global(number),
             is_const: part.thing.is_const,
             is_guarded: !part.guards.is_empty(),
@@ -105,7 +102,12 @@ impl Globals {
     }
 
     /// Puts the places of the next global.
-    fn fill(&mut self, scope: &Scope<'_>, from: From<'_>, thing: ThingType) -> Result<(), NoMemory>
+    fn fill(
+        &mut self,
+        scope: &Scope<'_>,
+        from: Origin<'_>,
+        thing: ThingType,
+    ) -> Result<(), NoMemory>
         requires within { IsWithin (length self.old.structs) thing }
         requires ordered { IsOrdered self.old.structs }
         requires fits { length self.old.places + thing_size (size_of self.old.structs) thing ≤ place_limit }

@@ -1,14 +1,15 @@
 //! Names of types, enumerators and globals, each known behind its declaration where its name isn't taken (C11 6.7.2.2, 6.7.8, 6.9.2).
 ghost use Rattle.std.specs.Prelude.{◌≡◌, pos, option_map, IfOk, OnOk};
-ghost use Rattle.tsa_place.specs.Units.{worth as spec_worth, worth_written, unless_taken, enumerators_behind, behind_enumeration, known_global, global_part, behind_data};
+ghost use Rattle.tsa_layout.specs.Parts.{unless_taken};
+ghost use Rattle.tsa_place.specs.Units.{worth as spec_worth, worth_written, enumerators_behind, behind_enumeration, known_global, global_part, behind_data};
 ghost use Rattle.tsa_tree.specs.declarations.Shapes.{decl_shape, enumerator_shape, enumerator_shapes, type_shape};
 ghost use Rattle.tsa_tree.specs.expressions.Shapes.{name_shape, shape};
 ghost use Rattle.tsa_tree.specs.types.Enums.{next_after, enumerator_entry as spec_entry};
 ghost use Rattle.tsa_tree.specs.units.Syntax.{alias_item};
 
-use crate::parts::{Part, declared_thing, part_of, whole};
 use tsa_base::NoMemory;
 use tsa_data::{a_type_name, count_on, enumerator_entry, int_value};
+use tsa_layout::{Part, declared_thing, part_of, whole};
 use tsa_operand::single;
 use tsa_scope::Scope;
 use tsa_tree::decl::Decl;
