@@ -69,7 +69,7 @@ not_last t n h = by (nat_eq t n) refl
     by true e = let same : t ≡ n = eqb-true t n e in absurd (omega (arith, h, same))
     by false e = refl
 
-other_less : (t n : ℕ) → nat_eq t n ≡ false → t < suc n → t < n
+pub other_less : (t n : ℕ) → nat_eq t n ≡ false → t < suc n → t < n
 other_less t n e h = grind (arith, nat_tests, e, h)
 
 -- places and sizes that are the same for the structs before one
@@ -101,11 +101,11 @@ module _ (f g : Inside) (size other : ℕ → ℕ) (values : Values) (n : ℕ) (
         ∙ ap (λ z. kind_places g other values (element_of x i) (Some i) o kind ++ elements_places f size values x k (suc i) (o + z) kind) (sizes kind h)
         ∙ ap (λ ps. kind_places g other values (element_of x i) (Some i) o kind ++ ps) (elements x k (suc i) (o + kind_size other kind) kind h)
 
-    things : (x : Given) (o : ℕ) (kind : Kind) (l : Option ℕ) → IsBelow n kind → pieces f size values x o kind l ≡ pieces g other values x o kind l
+    pub things : (x : Given) (o : ℕ) (kind : Kind) (l : Option ℕ) → IsBelow n kind → pieces f size values x o kind l ≡ pieces g other values x o kind l
     things x o kind None h = kinds x None o kind h
     things x o kind (Some k) h = elements x k 0 o kind h
 
-    thing_sizes : (kind : Kind) (l : Option ℕ) (c : Bool) → IsBelow n kind
+    pub thing_sizes : (kind : Kind) (l : Option ℕ) (c : Bool) → IsBelow n kind
         → thing_size size (record { kind = kind; length = l; is_const = c }) ≡ thing_size other (record { kind = kind; length = l; is_const = c })
     thing_sizes kind None c h = sizes kind h
     thing_sizes kind (Some k) c h = ap (λ z. k * z) (sizes kind h)
@@ -140,7 +140,7 @@ module _ (s : Structure) (earlier : Structures) (t : ℕ) (less : t < length ear
       (not_last t (length earlier) less)
 
 -- members that are below some structs are below more
-below_more : (m n : ℕ) (kind : Kind) → m ≤ n → IsBelow m kind → IsBelow n kind
+pub below_more : (m n : ℕ) (kind : Kind) → m ≤ n → IsBelow m kind → IsBelow n kind
 below_more m n (type.Structure t) h x = omega (arith, h, x)
 below_more m n type.Int h x = tt
 below_more m n type.Unsigned h x = tt

@@ -4,3 +4,4 @@ pub mod Calls
 pub mod Parts
 pub mod Standing
 pub mod Tables
+pub mod Stores

@@ -6,3 +6,8 @@ pub mod Rounds
 pub mod EnumeratorLists
 pub mod Fitting
 pub mod UnitLists
+pub mod Asking
+pub mod Later
+pub mod Rows
+pub mod Laid
+pub mod Leading

@@ -39,4 +39,17 @@ places_are_listed = record {
   within_the_limit = refl;
   past_the_limit = refl;
   nested_past_the_limit = refl;
+  to_an_object = refl;
+  to_an_element = refl;
+  to_a_const = refl;
+  const_to_a_const = refl;
+  to_another_struct = refl;
+  to_a_cell = refl;
+  to_what_is_guarded = refl;
+  past_the_end = refl;
+  to_none = refl;
+  a_number = refl;
+  too_great = refl;
+  an_unsigned = refl;
+  of_another_type = refl;
 }

@@ -5,11 +5,13 @@ use Rattle.tsa_base.specs.Tokens.{tokens_of}
 use Rattle.tsa_base.specs.declared.token.Span.{Span}
 use Rattle.tsa_base.specs.declared.value.Value.{Value}
 use Rattle.tsa_base.specs.declared.value.Value.TheVariants.{Int, Unsigned, Pointer}
+use Rattle.tsa_tree.specs.declared.kind.Kind.TheVariants as type
 use Rattle.tsa_tree.specs.types.Texts.{unit_in}
 use Rattle.tsa_layout.specs.Calls.{Layout, text_of, guards_of, is_addressable}
 use Rattle.tsa_layout.specs.declared.place.Guard.{Guard}
 use Rattle.tsa_layout.specs.declared.place.Guard.TheVariants.{Lock, Nothing}
 use Rattle.tsa_layout.specs.declared.place.Placed.{Placed}
+use Rattle.tsa_layout.specs.Stores.{is_value_of}
 use Rattle.tsa_place.specs.Units.{no_places, placed_in}
 
 -- the places of a text that is a unit, or the byte at which there are too many
@@ -81,6 +83,14 @@ along = lock ++ codes "struct i { struct l c; }; struct o { struct i b[3]; int n
 abbrev nested : List ℕ
 nested = lock ++ codes "struct l m, k; struct t { int x GUARDED_BY(k); struct l in; int y GUARDED_BY(in) GUARDED_BY(m); }; struct t g GUARDED_BY(m);"
 
+-- objects to which pointers may point, or may not
+abbrev objects : List ℕ
+objects = lock ++ codes "struct s { int x; }; struct t { int y; }; struct l m; struct s v; const struct s w; struct s a[2]; struct t u; struct s g GUARDED_BY(m);"
+
+-- whether a pointer to `struct s`, to const or not, may hold the address of a place of theirs
+abbrev may_hold : Bool → ℕ → Bool
+may_hold to_const place = is_value_of (layout objects) (type.Pointer 1 to_const) (Pointer (Some place))
+
 pub record PlacesAreListed : Type 0 where
   pub accounts_count : length (layout accounts).places ≡ 8
   pub element_text : text accounts 4 ≡ codes "b[" ++ (decimal 1 ++ codes "]")
@@ -111,3 +121,16 @@ pub record PlacesAreListed : Type 0 where
   pub within_the_limit : too_many (codes "struct s { int x; }; struct s a[32768];") ≡ None
   pub past_the_limit : too_many (codes "struct s { int x; }; struct s a[10], b[32760];") ≡ Some 37
   pub nested_past_the_limit : too_many (codes "struct s { int x[256]; }; struct t { struct s y[256]; }; int g; struct t v;") ≡ Some 73
+  pub to_an_object : may_hold false 2 ≡ true
+  pub to_an_element : may_hold false 8 ≡ true
+  pub to_a_const : may_hold false 4 ≡ false
+  pub const_to_a_const : may_hold true 4 ≡ true
+  pub to_another_struct : may_hold false 10 ≡ false
+  pub to_a_cell : may_hold false 3 ≡ false
+  pub to_what_is_guarded : may_hold false 12 ≡ false
+  pub past_the_end : may_hold false 14 ≡ false
+  pub to_none : is_value_of (layout objects) (type.Pointer 1 false) (Pointer None) ≡ true
+  pub a_number : is_value_of (layout objects) type.Int (Int (pos 2147483647)) ≡ true
+  pub too_great : is_value_of (layout objects) type.Int (Int (pos 2147483648)) ≡ false
+  pub an_unsigned : is_value_of (layout objects) type.Unsigned (Unsigned 4294967295) ≡ true
+  pub of_another_type : is_value_of (layout objects) type.Unsigned (Int (pos 1)) ≡ false

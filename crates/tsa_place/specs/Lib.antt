@@ -2,3 +2,4 @@ pub mod Units
 pub mod Examples
 pub mod Filling
 pub mod Answers
+pub mod Leading
