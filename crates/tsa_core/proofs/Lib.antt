@@ -1,0 +1,6 @@
+pub mod TextPoints
+pub mod TypedTerms
+pub mod Counts
+pub mod EdgesInside
+pub mod EdgeOutcomes
+pub mod Worked

@@ -1,0 +1,48 @@
+//! Laws of the core program.
+ghost use Rattle.tsa_core.specs.Examples.{ControlIsAsWritten, PointsAreAsWritten, UsesAreAsWritten, ProgramsAreAsWritten};
+ghost use Rattle.tsa_core.specs.Laws.{PointsAreThoseOfTheText, TermsHaveTheirTypes, EdgesStayInside, OutcomesAreOfTheActions, OutcomesAreOfThePoints};
+
+/// A body has the points of its text, and does at each of them what the text does.
+pub fn points_are_those_of_the_text()
+    ensures { PointsAreThoseOfTheText }
+{}
+
+/// What an expression means has the type of the expression, where it has one.
+pub fn terms_have_their_types()
+    ensures { TermsHaveTheirTypes }
+{}
+
+/// Edges go from a point of a body that isn't its end to a point of the body.
+pub fn edges_stay_inside()
+    ensures { EdgesStayInside }
+{}
+
+/// An edge's outcome is one that the point from which it goes may have, so that a constant test has only its own, and one that its action can have.
+pub fn outcomes_are_of_the_actions()
+    ensures points { OutcomesAreOfThePoints }
+    ensures actions { OutcomesAreOfTheActions }
+{}
+
+/// Statements lead from point to point as they are written.
+#[tactic(auto, using(crate::proofs::Worked::control_is_as_written))]
+pub fn control_is_as_written()
+    ensures { ControlIsAsWritten }
+{}
+
+/// Points do what is written there.
+#[tactic(auto, using(crate::proofs::Worked::points_are_as_written))]
+pub fn points_are_as_written()
+    ensures { PointsAreAsWritten }
+{}
+
+/// Points read and write what is written there, each with its guards, and hand on the paths of arguments.
+#[tactic(auto, using(crate::proofs::Worked::uses_are_as_written))]
+pub fn uses_are_as_written()
+    ensures { UsesAreAsWritten }
+{}
+
+/// Units have the locks, the functions and the attributes that are written.
+#[tactic(auto, using(crate::proofs::Worked::programs_are_as_written))]
+pub fn programs_are_as_written()
+    ensures { ProgramsAreAsWritten }
+{}

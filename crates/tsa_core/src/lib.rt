@@ -1,0 +1,9 @@
+//! The core program: what rules, machine and proofs speak of. It has resolved terms, and no names, spans or tokens.
+#![tactic(auto)]
+
+mod laws;
+
+pub use laws::{
+    control_is_as_written, edges_stay_inside, outcomes_are_of_the_actions, points_are_as_written,
+    points_are_those_of_the_text, programs_are_as_written, terms_have_their_types, uses_are_as_written,
+};
