@@ -4,3 +4,5 @@ pub mod Counts
 pub mod EdgesInside
 pub mod EdgeOutcomes
 pub mod Worked
+pub mod GoingOn
+pub mod KnownLocals

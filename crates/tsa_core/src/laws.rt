@@ -1,6 +1,6 @@
 //! Laws of the core program.
 ghost use Rattle.tsa_core.specs.Examples.{ControlIsAsWritten, PointsAreAsWritten, UsesAreAsWritten, ProgramsAreAsWritten};
-ghost use Rattle.tsa_core.specs.Laws.{PointsAreThoseOfTheText, TermsHaveTheirTypes, EdgesStayInside, OutcomesAreOfTheActions, OutcomesAreOfThePoints};
+ghost use Rattle.tsa_core.specs.Laws.{PointsAreThoseOfTheText, TermsHaveTheirTypes, EdgesStayInside, OutcomesAreOfTheActions, OutcomesAreOfThePoints, PointsGoOn, PointsSpeakOfKnown};
 
 /// A body has the points of its text, and does at each of them what the text does.
 pub fn points_are_those_of_the_text()
@@ -45,4 +45,14 @@ pub fn uses_are_as_written()
 #[tactic(auto, using(crate::proofs::Worked::programs_are_as_written))]
 pub fn programs_are_as_written()
     ensures { ProgramsAreAsWritten }
+{}
+
+/// Every point goes on for each outcome that it may have, but for the values that a switch doesn't name.
+pub fn points_go_on()
+    ensures { PointsGoOn }
+{}
+
+/// No point speaks of a local that isn't known there: a local isn't mentioned by its own initialiser.
+pub fn points_speak_of_known()
+    ensures { PointsSpeakOfKnown }
 {}
