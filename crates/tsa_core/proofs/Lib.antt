@@ -6,3 +6,5 @@ pub mod EdgeOutcomes
 pub mod Worked
 pub mod GoingOn
 pub mod KnownLocals
+pub mod LocalLists
+pub mod Beginnings

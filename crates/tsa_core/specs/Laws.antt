@@ -19,7 +19,7 @@ use Rattle.tsa_tree.specs.types.Scopes.{Scope, context_of}
 use Rattle.tsa_tree.specs.types.Targets.{declared_in_all}
 use Rattle.tsa_tree.specs.types.Units.{outset}
 use Rattle.tsa_tree.specs.units.Syntax.{UnitItem}
-use Rattle.tsa_core.specs.Bodies.{Action, evaluate, set_local, set_cell, declare, test, branch, go_on, give, Known, Point, Body, known_in_body, point_of, body_of, can_have}
+use Rattle.tsa_core.specs.Bodies.{Action, evaluate, set_local, set_cell, declare, test, branch, go_on, give, Known, Point, Body, known_in_body, kinds_by, point_of, body_of, can_have}
 use Rattle.tsa_core.specs.Control.{Outcome, Next, Yes, No, Rest, Chosen, Edge, count_all, body_edges, next_point}
 use Rattle.tsa_core.specs.Meanings.{Call, meaning}
 use Rattle.tsa_core.specs.Programs.{Bodied, bodied_function}
@@ -141,11 +141,20 @@ PointBelow result k = CallsBelow k.here.locals (point_of result k).call × ActsB
 abbrev pub PointsSpeakOfKnown : Type 0
 PointsSpeakOfKnown = (here : Scope) (result : Kind) (body : Statements) → KnowsBelow here → All (PointBelow result) (known_in_body here body)
 
--- a body declares as many locals as its text, and at no point are more known than those and the ones before
+-- Locals are numbered in order of their declarations, from one on.
+abbrev pub IsNumbered : ℕ → Scope → Deed → Type 0
+IsNumbered n here (declares d) = here.locals ≡ n
+IsNumbered n here _ = Unit {0}
+
+abbrev pub AreNumbered : ℕ → List Known → Type 0
+AreNumbered n [] = Unit {0}
+AreNumbered n (k ∷ ks) = IsNumbered n k.here k.deed × AreNumbered (n + length (kinds_by k.here k.deed)) ks
+
+-- a body declares as many locals as its text, which go on from those before, and at no point are more known
 abbrev pub LocalsAreListed : Type 0
 LocalsAreListed = (here : Scope) (result : Kind) (body : Statements)
     → (length (body_of here result body).locals ≡ declared_in_all body)
-    × All (λ k. k.here.locals ≤ here.locals + declared_in_all body) (known_in_body here body)
+    × (AreNumbered here.locals (known_in_body here body) × All (λ k. k.here.locals ≤ here.locals + declared_in_all body) (known_in_body here body))
 
 -- where the statements of a unit's function begin, the locals that are known are its parameters
 abbrev pub BodiesBeginBelow : Type 0

@@ -78,7 +78,7 @@ pub record Bodied : Type 0 where
   pub head : Head
   pub body : Statements
 
-abbrev or_body : Bool → Bodied → Option Bodied → Option Bodied
+abbrev pub or_body : Bool → Bodied → Option Bodied → Option Bodied
 or_body true x other = Some x
 or_body false x other = other
 

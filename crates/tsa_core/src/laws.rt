@@ -1,6 +1,6 @@
 //! Laws of the core program.
 ghost use Rattle.tsa_core.specs.Examples.{ControlIsAsWritten, PointsAreAsWritten, UsesAreAsWritten, ProgramsAreAsWritten};
-ghost use Rattle.tsa_core.specs.Laws.{PointsAreThoseOfTheText, TermsHaveTheirTypes, EdgesStayInside, OutcomesAreOfTheActions, OutcomesAreOfThePoints, PointsGoOn, PointsSpeakOfKnown};
+ghost use Rattle.tsa_core.specs.Laws.{PointsAreThoseOfTheText, TermsHaveTheirTypes, EdgesStayInside, OutcomesAreOfTheActions, OutcomesAreOfThePoints, LocalsAreListed, PointsGoOn, PointsSpeakOfKnown, BodiesBeginBelow};
 
 /// A body has the points of its text, and does at each of them what the text does.
 pub fn points_are_those_of_the_text()
@@ -55,4 +55,14 @@ pub fn points_go_on()
 /// No point speaks of a local that isn't known there: a local isn't mentioned by its own initialiser.
 pub fn points_speak_of_known()
     ensures { PointsSpeakOfKnown }
+{}
+
+/// A body's locals are those that its text declares, numbered in order behind those before it.
+pub fn locals_are_listed()
+    ensures { LocalsAreListed }
+{}
+
+/// Where the statements of a unit's function begin, the locals that are known are its parameters.
+pub fn bodies_begin_below()
+    ensures { BodiesBeginBelow }
 {}
