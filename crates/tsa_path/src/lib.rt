@@ -1,0 +1,13 @@
+//! Paths as functions and their callers have them (C11 6.5.2.2p4): arguments in the place of parameters, numbers, and texts in C.
+#![tactic(auto)]
+
+mod key;
+mod refusal;
+mod substitution;
+mod table;
+
+pub use key::is_same;
+pub use refusal::InternRefusal;
+pub use substitution::{constant_path, substitute};
+pub use table::PathTable;
+pub use tsa_way::{Path, PathStep, Root};

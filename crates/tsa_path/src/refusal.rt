@@ -1,0 +1,10 @@
+//! Why a table takes no path.
+
+use tsa_way::Path;
+
+/// Why a path got no number: it is new and there is no room for it, or memory is wanted. The path comes back.
+#[derive(Drop)]
+pub enum InternRefusal {
+    Full(Path),
+    NoMemory(Path),
+}
