@@ -1,3 +1,6 @@
 pub mod StepLists
 pub mod Same
 pub mod Keys
+pub mod Elements
+pub mod Keeping
+pub mod Numbers

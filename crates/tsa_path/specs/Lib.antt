@@ -1,3 +1,4 @@
 pub mod Substitution
 pub mod Sameness
 pub mod PathTables
+pub mod Laws

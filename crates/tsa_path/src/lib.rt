@@ -2,11 +2,13 @@
 #![tactic(auto)]
 
 mod key;
+mod laws;
 mod refusal;
 mod substitution;
 mod table;
 
 pub use key::is_same;
+pub use laws::{paths_are_told_apart, paths_keep_their_numbers, substitution_keeps_the_meaning};
 pub use refusal::InternRefusal;
 pub use substitution::{constant_path, substitute};
 pub use table::PathTable;
