@@ -2,3 +2,5 @@ pub mod Substitution
 pub mod Sameness
 pub mod PathTables
 pub mod Laws
+pub mod PathTexts
+pub mod Labels

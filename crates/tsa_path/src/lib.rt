@@ -3,13 +3,18 @@
 
 mod key;
 mod laws;
+mod names;
 mod refusal;
 mod substitution;
 mod table;
+mod texts;
+mod trail;
 
 pub use key::is_same;
 pub use laws::{paths_are_told_apart, paths_keep_their_numbers, substitution_keeps_the_meaning};
+pub use names::{Named, PathNames};
 pub use refusal::InternRefusal;
 pub use substitution::{constant_path, substitute};
 pub use table::PathTable;
+pub use texts::path_text;
 pub use tsa_way::{Path, PathStep, Root};
