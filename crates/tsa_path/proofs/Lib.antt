@@ -4,3 +4,4 @@ pub mod Keys
 pub mod Elements
 pub mod Keeping
 pub mod Numbers
+pub mod Examples

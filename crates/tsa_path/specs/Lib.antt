@@ -4,3 +4,4 @@ pub mod PathTables
 pub mod Laws
 pub mod PathTexts
 pub mod Labels
+pub mod Examples

@@ -1,4 +1,5 @@
 //! Laws of paths.
+ghost use Rattle.tsa_path.specs.Examples.{SubstitutionsAreAsWritten, TextsAreAsWritten};
 ghost use Rattle.tsa_path.specs.Laws.{SameBitsSameElements, SubstitutionKeepsTheMeaning};
 ghost use Rattle.tsa_path.specs.PathTables.{NumbersStay, TableHoldsDifferentPaths, TableStaysWithinItsLimit};
 ghost use Rattle.tsa_path.specs.Sameness.{SameWaysAreEqual};
@@ -23,4 +24,11 @@ pub fn paths_keep_their_numbers()
     ensures different { TableHoldsDifferentPaths }
     ensures limit { TableStaysWithinItsLimit }
     ensures numbers { NumbersStay }
+{}
+
+/// Paths have the paths in callers and the texts that stand beside them.
+#[tactic(auto, using(crate::proofs::Examples::substitutions_are_as_written, crate::proofs::Examples::texts_are_as_written))]
+pub fn paths_are_as_written()
+    ensures substitutions { SubstitutionsAreAsWritten }
+    ensures texts { TextsAreAsWritten }
 {}
