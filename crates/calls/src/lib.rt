@@ -10,6 +10,8 @@ mod items;
 #[cfg(test)]
 mod nodes;
 #[cfg(test)]
+mod paths;
+#[cfg(test)]
 mod places;
 #[cfg(test)]
 mod statements;

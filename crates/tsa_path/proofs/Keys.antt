@@ -48,7 +48,7 @@ inserted : (key : Key) (keys : List Key) → is_full (paths keys) key.path ≡ f
 inserted key keys e h =
     let known = list_any (test.ghosts.eq key) keys in
     let room_left : (not known && nat_le path_limit (length keys)) ≡ false =
-        ap (λ b. not b && nat_le path_limit (length keys)) (known_is key keys) ∙ ap (λ n. not (is_known (paths keys) key.path) && nat_le path_limit n) (sym (length-map keys (λ k. k.path))) ∙ e
+    ap (λ b. not b && nat_le path_limit (length keys)) (known_is key keys) ∙ ap (λ n. not (is_known (paths keys) key.path) && nat_le path_limit n) (sym (length-map keys (λ k. k.path))) ∙ e
     in
     room known (length keys) (length (insert_key test.ghosts.eq keys key)) room_left h (shorter known keys key) (longer known keys key)
 

@@ -11,7 +11,10 @@ mod texts;
 mod trail;
 
 pub use key::is_same;
-pub use laws::{paths_are_as_written, paths_are_told_apart, paths_keep_their_numbers, substitution_keeps_the_meaning};
+pub use laws::{
+    paths_are_as_written, paths_are_told_apart, paths_keep_their_numbers,
+    substitution_keeps_the_meaning,
+};
 pub use names::{Named, PathNames};
 pub use refusal::InternRefusal;
 pub use substitution::{constant_path, substitute};

@@ -60,11 +60,7 @@ fn as_pointer(alloc: Global, path: &Path) -> Result<Option<Path>, NoMemory>
 }
 
 /// The path to where the argument for a parameter points.
-fn begin(
-    alloc: Global,
-    args: &[Option<Path>],
-    parameter: u32,
-) -> Result<Option<Path>, NoMemory>
+fn begin(alloc: Global, args: &[Option<Path>], parameter: u32) -> Result<Option<Path>, NoMemory>
     ensures { IfOk result (λ path. path ≡ option_and_then spec_as_pointer (spec_given args.now parameter)) }
 {
     match given(args, parameter) {

@@ -11,12 +11,12 @@ invariant_of-self c =
 
 pub returns-clause-number : goal.returns-clause-number
 returns-clause-number c = elim c.match-insert_full.branch [
-  in-Ok w ↦ rw w.result-is (w.in-Ok.ensures.index ∙ number_is (record { path = c.args.path }) c.self.inside.keys.keys ∙ ap (λ ways. number_of ways c.args.path) c.self.view_is)
+  | in-Ok w ↦ rw w.result-is (w.in-Ok.ensures.index ∙ number_is (record { path = c.args.path }) c.self.inside.keys.keys ∙ ap (λ ways. number_of ways c.args.path) c.self.view_is)
   | in-Err w ↦ rw w.result-is tt
 ]
 
 pub returns-clause-taken : goal.returns-clause-taken
 returns-clause-taken c = elim c.match-insert_full.branch [
-  in-Ok w ↦ rw w.result-is (ap paths w.in-Ok.ensures.keys ∙ insert_is (record { path = c.args.path }) c.self.inside.keys.keys ∙ ap (λ ways. with_path ways c.args.path) c.self.view_is)
+  | in-Ok w ↦ rw w.result-is (ap paths w.in-Ok.ensures.keys ∙ insert_is (record { path = c.args.path }) c.self.inside.keys.keys ∙ ap (λ ways. with_path ways c.args.path) c.self.view_is)
   | in-Err w ↦ rw w.result-is tt
 ]
