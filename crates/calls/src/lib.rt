@@ -1,5 +1,5 @@
 //! Each public call of the libraries once with ample memory, ends that fail in mid-stream, and what no command shows: the
-//! tokens of a text, where the nodes of a tree stand in it, what the names of a unit mean, and its places. What commands show stands in the data of
+//! tokens of a text, where the nodes of a tree stand in it, what the names of a unit mean, its places, and paths. What commands show stands in the data of
 //! the program `rows`.
 #![tactic(auto)]
 
