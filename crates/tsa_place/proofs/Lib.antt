@@ -11,3 +11,9 @@ pub mod Later
 pub mod Rows
 pub mod Laid
 pub mod Leading
+pub mod TextsApart
+pub mod TextsAlong
+pub mod TextsTold
+pub mod TextsNamed
+pub mod TextsTyped
+pub mod TextsTell

@@ -11,7 +11,7 @@ mod refusal;
 mod unit;
 mod values;
 
-pub use laws::{places_are_as_written, places_have_one_way};
+pub use laws::{places_are_as_written, places_have_one_way_and_text};
 pub use places::Places;
 pub use refusal::PlaceRefusal;
 pub use tsa_layout::{Guard, PlaceKind};
