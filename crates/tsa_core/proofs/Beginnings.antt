@@ -1,5 +1,5 @@
 -- Where a body begins, the locals that are known are its parameters.
-use Rattle.std.proofs.Common.{◌≡◌, ℕ, ℤ, suc, ◌+◌, ◌+ℤ◌, pos, ◌≤◌, arith, Bool, true, false, List, [], ◌∷◌, ◌++◌, length, slice_get, Option, Some, None, refl, subst}
+use Rattle.std.proofs.Common.{◌≡◌, ℕ, ℤ, suc, ◌+◌, ◌+ℤ◌, pos, ◌≤◌, arith, Bool, true, false, List, [], ◌∷◌, length, slice_get, Option, Some, None, refl, subst}
 use Rattle.std.proofs.lemmas.List.Elements.{All-append, All-nil}
 use Rattle.std.specs.Str.{bytes_eq}
 use Rattle.tsa_tree.specs.declarations.Syntax.{EnumConstant, Parameter, Head}

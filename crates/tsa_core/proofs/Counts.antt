@@ -1,9 +1,9 @@
 -- How many points statements have, by their parts.
-use Rattle.std.proofs.Common.{◌≡◌, ◌∙◌, ℕ, suc, ◌+◌, arith, List, ◌∷◌, ◌++◌, length, Option, ap, sym}
+use Rattle.std.proofs.Common.{◌≡◌, suc, ◌+◌, arith, ◌∷◌, ◌++◌, length, Option, ap}
 use Rattle.std.proofs.lemmas.List.{length-append}
 use Rattle.tsa_base.specs.declared.token.Span.{Span}
 use Rattle.tsa_tree.specs.expressions.Syntax.{Expression}
-use Rattle.tsa_tree.specs.points.Syntax.{points_of, points_of_all, points_of_init, points_of_step, point_of_test, point_of_for}
+use Rattle.tsa_tree.specs.points.Syntax.{points_of, points_of_all, points_of_init, points_of_step, point_of_for}
 use Rattle.tsa_tree.specs.statements.Syntax.{Simple, ForInit, Statement, if_else, do_loop, for_loop, Statements, more}
 use Rattle.tsa_core.specs.Control.{count, count_all}
 

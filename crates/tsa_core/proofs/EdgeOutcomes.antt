@@ -1,5 +1,5 @@
 -- An edge's outcome is one that its point may have.
-use Rattle.std.proofs.Common.{◌≡◌, ℕ, ℤ, zero, suc, ◌+◌, ◌<◌, arith, Bool, true, false, List, [], ◌∷◌, ◌++◌, All, length, map, slice_get, slice_index_or, Option, Some, None, option_map, if◌then◌else◌, refl, sym, ap, subst, inl, inr, ◌⊎◌}
+use Rattle.std.proofs.Common.{◌≡◌, ℕ, ℤ, suc, ◌+◌, arith, Bool, true, false, List, [], ◌∷◌, ◌++◌, All, length, map, slice_get, slice_index_or, Option, Some, None, option_map, if◌then◌else◌, refl, sym, ap, subst, inl, inr, ◌⊎◌}
 use Rattle.std.proofs.lemmas.List.Elements.{All-append, All-cons, All-nil}
 use Rattle.std.proofs.lemmas.Option.{slice_get-map}
 use Rattle.tsa_tree.specs.declarations.Syntax.{Declaration, Initialiser, value, list}

@@ -1,18 +1,18 @@
 -- Every point goes on for each outcome that it may have, but for the values that a switch doesn't name.
-use Rattle.std.proofs.Common.{◌≡◌, ◌∙◌, ℕ, ℤ, zero, suc, ◌+◌, arith, Bool, true, false, ◌||◌, ◌==◌, nat_eq, List, [], ◌∷◌, ◌++◌, find, length, slice_get, Option, Some, None, option_map, is_some, if◌then◌else◌, refl, ap, subst}
+use Rattle.std.proofs.Common.{◌≡◌, ◌∙◌, ℕ, zero, suc, ◌+◌, arith, Bool, true, false, ◌||◌, nat_eq, List, [], ◌∷◌, ◌++◌, find, length, slice_get, Option, Some, None, option_map, is_some, if◌then◌else◌, refl, ap, subst}
 use Rattle.std.proofs.lemmas.Bool.Decides.{nat_tests}
 use Rattle.std.proofs.lemmas.List.Folds.{list_any-append}
 use Rattle.std.specs.List.{list_any}
 use Rattle.tsa_tree.specs.declared.number.Number.{Number}
 use Rattle.tsa_tree.specs.expressions.Syntax.{Expression}
-use Rattle.tsa_tree.specs.points.Syntax.{Deed, declares, evaluates, assigns, tests, switches, jumps, idles, returns, ends, points_of_init, points_of_step}
+use Rattle.tsa_tree.specs.points.Syntax.{declares, evaluates, assigns, tests, switches, jumps, idles, returns, ends, points_of_init, points_of_step}
 use Rattle.tsa_tree.specs.statements.Syntax.{Simple, evaluation, assignment, ForInit, no_init, simple_init, local_init, Statement, block, empty, local, simple, if_alone, if_else, while_loop, do_loop, for_loop, switch, case, otherwise, label, break, continue, goto, return, Statements, none, more}
 use Rattle.tsa_tree.specs.types.Arithmetic.{is_nonzero}
 use Rattle.tsa_tree.specs.types.Scopes.{Scope, further}
 use Rattle.tsa_tree.specs.types.Statements.{behind, behind_init}
 use Rattle.tsa_tree.specs.types.Targets.{declared_in}
 use Rattle.tsa_core.specs.Bodies.{Known, knows, known_init, known_step, known, known_all}
-use Rattle.tsa_core.specs.Control.{Outcome, Next, Yes, No, Rest, Chosen, Edge, edge, count, first, first_all, test_at, step_at, inner_at, again_at, Cases, cases, Targets, in_loop, in_switch, label_at, test_edges, tested_edges, for_edges, step_edges, case_edge, case_edges, has_default, rest_edges, switch_edges, edges, edges_all, count_all, body_targets, body_edges, leaves_by, next_point}
+use Rattle.tsa_core.specs.Control.{Outcome, Next, Yes, No, Rest, Chosen, Edge, edge, count, first, first_all, test_at, step_at, inner_at, again_at, Cases, cases, Targets, in_loop, in_switch, label_at, test_edges, tested_edges, for_edges, step_edges, case_edges, switch_edges, edges, edges_all, count_all, body_targets, body_edges, leaves_by}
 use Rattle.tsa_core.specs.Laws.{is_told, test_value, goes, is_next, is_chosen, PointsGoOn}
 use Rattle.tsa_core.proofs.EdgeOutcomes.{init_count, step_count}
 use Rattle.tsa_core.proofs.TextPoints.{known_count}
@@ -177,12 +177,13 @@ mutual
       let one = tested_edges here test at (first arm (suc at) follow) (first other (suc at + count arm) follow) in
       let es = edges here arm (suc at) follow t in
       let fs = edges there other (suc at + count arm) follow t in
-      let n = known_count here arm in
-      (goes_left one (es ++ fs) at (knows here (tests (Some test))) (test_goes here (Some test) at (first arm (suc at) follow) (first other (suc at + count arm) follow)),
-      right one (es ++ fs) (ks ++ js) (suc at)
-      (together (es ++ fs) ks js (suc at) (suc at + count arm) (omega (arith, n))
-      (left es fs ks (suc at) (go_on here arm (suc at) follow t))
-      (right es fs js (suc at + count arm) (go_on there other (suc at + count arm) follow t))))
+      let n = known_count here arm in (
+        goes_left one (es ++ fs) at (knows here (tests (Some test))) (test_goes here (Some test) at (first arm (suc at) follow) (first other (suc at + count arm) follow)),
+        right one (es ++ fs) (ks ++ js) (suc at)
+            (together (es ++ fs) ks js (suc at) (suc at + count arm) (omega (arith, n))
+            (left es fs ks (suc at) (go_on here arm (suc at) follow t))
+            (right es fs js (suc at + count arm) (go_on there other (suc at + count arm) follow t))),
+      )
   go_on here (while_loop test body span) at follow t =
       let t' = in_loop follow at t in
       let one = tested_edges here test at (first body (suc at) at) follow in
@@ -214,18 +215,20 @@ mutual
       let s = step_count there step in
       together (one ++ (two ++ (three ++ four))) is (k ∷ (ss ++ bs)) at (test_at init at) (omega (arith, i))
       (left one (two ++ (three ++ four)) is at (init_goes here init at (test_at init at)))
-      (right one (two ++ (three ++ four)) (k ∷ (ss ++ bs)) (test_at init at)
-      (goes_left two (three ++ four) (test_at init at) k (test_goes there test (test_at init at) (first body (inner_at init step at) again) follow),
-      right two (three ++ four) (ss ++ bs) (step_at init at)
-      (together (three ++ four) ss bs (step_at init at) (inner_at init step at) (omega (arith, s))
-      (left three four ss (step_at init at) (step_goes there step (step_at init at) (test_at init at)))
-      (right three four bs (inner_at init step at) (go_on there body (inner_at init step at) again t')))))
+      (right one (two ++ (three ++ four)) (k ∷ (ss ++ bs)) (test_at init at) (
+        goes_left two (three ++ four) (test_at init at) k (test_goes there test (test_at init at) (first body (inner_at init step at) again) follow),
+        right two (three ++ four) (ss ++ bs) (step_at init at)
+            (together (three ++ four) ss bs (step_at init at) (inner_at init step at) (omega (arith, s))
+            (left three four ss (step_at init at) (step_goes there step (step_at init at) (test_at init at)))
+            (right three four bs (inner_at init step at) (go_on there body (inner_at init step at) again t'))),
+      ))
   go_on here (switch key body span) at follow t =
       let cs = cases here body (suc at) follow in
       let t' = in_switch follow t in
-      let es = edges here body (suc at) follow t' in
-      (goes_left (switch_edges cs at follow) es at (knows here (switches key)) (switch_goes here key cs at follow),
-      right (switch_edges cs at follow) es (known here body) (suc at) (go_on here body (suc at) follow t'))
+      let es = edges here body (suc at) follow t' in (
+        goes_left (switch_edges cs at follow) es at (knows here (switches key)) (switch_goes here key cs at follow),
+        right (switch_edges cs at follow) es (known here body) (suc at) (go_on here body (suc at) follow t'),
+      )
   go_on here (case key body span) at follow t = go_on here body at follow t
   go_on here (otherwise body span) at follow t = go_on here body at follow t
   go_on here (label name body span) at follow t = go_on here body at follow t

@@ -8,3 +8,4 @@ pub mod GoingOn
 pub mod KnownLocals
 pub mod LocalLists
 pub mod Beginnings
+pub mod FunctionNumbers

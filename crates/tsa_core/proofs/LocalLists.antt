@@ -1,11 +1,10 @@
 -- The locals of a body are those that its text declares, in order.
-use Rattle.std.proofs.Common.{◌≡◌, ◌∙◌, ℕ, suc, ◌+◌, ◌≤◌, arith, Bool, true, false, List, [], ◌∷◌, ◌++◌, All, length, Option, Some, None, refl, sym, ap, subst}
+use Rattle.std.proofs.Common.{◌≡◌, ◌∙◌, ℕ, ◌+◌, ◌≤◌, arith, Bool, true, false, List, [], ◌∷◌, ◌++◌, All, length, Option, Some, None, refl, ap, subst}
 use Rattle.std.proofs.lemmas.Grind.{flat_map-append}
 use Rattle.std.proofs.lemmas.List.{length-append}
 use Rattle.std.proofs.lemmas.List.Elements.{All-append, All-cons, All-nil}
 use Rattle.tsa_tree.specs.declarations.Syntax.{Declaration}
-use Rattle.tsa_tree.specs.expressions.Syntax.{Expression}
-use Rattle.tsa_tree.specs.points.Syntax.{Deed, declares, evaluates, assigns, tests, switches, jumps, idles, returns, ends, simple_deed}
+use Rattle.tsa_tree.specs.points.Syntax.{Deed, declares, tests, switches, jumps, idles, returns, ends, simple_deed}
 use Rattle.tsa_tree.specs.statements.Syntax.{Simple, evaluation, assignment, ForInit, no_init, simple_init, local_init, Statement, block, empty, local, simple, if_alone, if_else, while_loop, do_loop, for_loop, switch, case, otherwise, label, break, continue, goto, return, Statements, none, more}
 use Rattle.tsa_tree.specs.types.Locals.{local_entry, unless_taken}
 use Rattle.tsa_tree.specs.types.Scopes.{Scope, further, is_taken}
@@ -253,7 +252,10 @@ locals_are_listed here result body =
     let n : declared_at (ks ++ knows here ends ∷ []) ≡ declared_at ks + 0 = both ks (knows here ends ∷ []) in
     let d = all_declare_as here body in
     let end = here.locals + declared_in_all body in
-    let whole : here.locals + declared_in_all body ≤ end = omega arith in
-    (omega (arith, n, d), (
-    numbered here.locals (here.locals + declared_at ks) ks (knows here ends ∷ []) refl (all_numbered here body) (tt, tt),
-    All-append (Within end) ks (knows here ends ∷ []) (all_within end here body whole) (alone end here ends (omega arith))))
+    let whole : here.locals + declared_in_all body ≤ end = omega arith in (
+      omega (arith, n, d),
+      (
+        numbered here.locals (here.locals + declared_at ks) ks (knows here ends ∷ []) refl (all_numbered here body) (tt, tt),
+        All-append (Within end) ks (knows here ends ∷ []) (all_within end here body whole) (alone end here ends (omega arith)),
+      ),
+    )

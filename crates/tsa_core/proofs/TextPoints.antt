@@ -1,10 +1,9 @@
 -- A body does at its points what its text does there.
-use Rattle.std.proofs.Common.{◌≡◌, ◌∙◌, List, [], ◌∷◌, ◌++◌, length, map, Option, Some, None, refl, sym, ap, ap₂}
+use Rattle.std.proofs.Common.{◌≡◌, ◌∙◌, List, ◌∷◌, ◌++◌, length, map, Option, Some, None, refl, sym, ap, ap₂}
 use Rattle.std.proofs.lemmas.List.{length-map, map-append}
 use Rattle.tsa_base.specs.declared.token.Span.{Span}
 use Rattle.tsa_tree.specs.expressions.Syntax.{Expression}
-use Rattle.tsa_tree.specs.declared.kind.Kind.{Kind}
-use Rattle.tsa_tree.specs.points.Syntax.{Deed, tests, ends, PlacedDeed, points_of, points_of_all, points_of_init, points_of_step, point_of_for, points_of_body}
+use Rattle.tsa_tree.specs.points.Syntax.{Deed, tests, PlacedDeed, points_of, points_of_all, points_of_init, points_of_step, point_of_for, points_of_body}
 use Rattle.tsa_tree.specs.statements.Syntax.{Simple, ForInit, no_init, simple_init, local_init, Statement, block, empty, local, simple, if_alone, if_else, while_loop, do_loop, for_loop, switch, case, otherwise, label, break, continue, goto, return, Statements, none, more}
 use Rattle.tsa_tree.specs.types.Scopes.{Scope, further}
 use Rattle.tsa_tree.specs.types.Statements.{behind, behind_init}
@@ -85,5 +84,7 @@ body_deeds : (here : Scope) (body : Statements) (close : Span) → deeds (known_
 body_deeds here body close = both (known_all here body) _ (points_of_all body) _ (statements_deeds here body) refl
 
 pub points_are_those : PointsAreThoseOfTheText
-points_are_those here result body close = (body_deeds here body close,
-  length-map (known_in_body here body) (point_of result) ∙ as_long (known_in_body here body) (points_of_body body close) (body_deeds here body close))
+points_are_those here result body close = (
+  body_deeds here body close,
+  length-map (known_in_body here body) (point_of result) ∙ as_long (known_in_body here body) (points_of_body body close) (body_deeds here body close),
+)

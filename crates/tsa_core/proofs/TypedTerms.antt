@@ -3,7 +3,7 @@ use Rattle.std.proofs.Common.{◌≡◌, ◌∙◌, ℕ, suc, Bool, true, false,
 use Rattle.tsa_tree.specs.declared.kind.ExpressionType.{ExpressionType}
 use Rattle.tsa_tree.specs.declared.kind.ThingType.{ThingType}
 use Rattle.tsa_tree.specs.declared.meaning.Entry.{Entry}
-use Rattle.tsa_tree.specs.expressions.Syntax.{Expression, number, null, named, call, unary, binary, field, index}
+use Rattle.tsa_tree.specs.expressions.Syntax.{number, null, named, call, unary, binary, field, index}
 use Rattle.tsa_tree.specs.types.Expressions.{type_of, types_of, unless, both, entry_type, result_type, member_type, owner, member_of}
 use Rattle.tsa_tree.specs.types.Operands.{prefix_type, binary_type, element_type}
 use Rattle.tsa_tree.specs.types.Scopes.{Scope, Members, found, context_of}

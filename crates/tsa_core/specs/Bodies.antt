@@ -1,9 +1,8 @@
 -- What a body does at each of its points, and what is known there.
-use Rattle.std.specs.Prelude.{ℕ, suc, pos, Bool, true, false, ◌||◌, not, nat_eq, is_some, List, [], ◌∷◌, ◌++◌, map, Option, Some, None}
+use Rattle.std.specs.Prelude.{ℕ, pos, Bool, true, false, not, nat_eq, List, [], ◌∷◌, ◌++◌, map, Option, Some, None}
 use Rattle.std.specs.List.{list_any, flat_map}
-use Rattle.tsa_base.specs.declared.token.Span.{Span}
 use Rattle.tsa_base.specs.declared.value.Value.TheVariants.{Int}
-use Rattle.tsa_tree.specs.declarations.Syntax.{Declaration, Initialiser, value, list}
+use Rattle.tsa_tree.specs.declarations.Syntax.{Initialiser, value}
 use Rattle.tsa_tree.specs.declared.expr.BinaryOp.{BinaryOp}
 use Rattle.tsa_tree.specs.declared.kind.Kind.{Kind}
 use Rattle.tsa_tree.specs.expressions.Syntax.{Expression}

@@ -1,12 +1,11 @@
 -- Bodies as they are written: how their points follow each other, what each of them does, and what it uses.
-use Rattle.std.specs.Prelude.{◌≡◌, ℕ, ℤ, pos, negsuc, Bool, true, false, List, [], ◌∷◌, ◌++◌, map, Option, Some, None, option_map, codes}
-use Rattle.tsa_base.specs.declared.value.Value.TheVariants.{Int, Pointer}
+use Rattle.std.specs.Prelude.{◌≡◌, ℕ, pos, negsuc, Bool, true, false, List, [], ◌∷◌, ◌++◌, map, Option, Some, None, codes}
+use Rattle.tsa_base.specs.declared.value.Value.TheVariants.{Int}
 use Rattle.tsa_lex.specs.Quick.{quick_tokens_of}
 use Rattle.tsa_tree.specs.declared.attr.AttrKind.{AttrKind}
 use Rattle.tsa_tree.specs.declared.attr.AttrKind.TheVariants as attr
 use Rattle.tsa_tree.specs.declared.expr.BinaryOp.TheVariants as op
 use Rattle.tsa_tree.specs.declared.expr.UnaryOp.TheVariants as prefix
-use Rattle.tsa_tree.specs.declared.kind.Kind.{Kind}
 use Rattle.tsa_tree.specs.declared.kind.Kind.TheVariants as type
 use Rattle.tsa_tree.specs.types.Texts.{unit_in}
 use Rattle.tsa_way.specs.declared.path.PathStep.{PathStep}
@@ -15,9 +14,9 @@ use Rattle.tsa_way.specs.declared.path.Root.{Root}
 use Rattle.tsa_way.specs.declared.path.Root.TheVariants as root
 use Rattle.tsa_way.specs.Ways.{Way}
 use Rattle.tsa_core.specs.Bodies.{Action, evaluate, set_local, set_cell, declare, test, branch, go_on, give, Point, Body}
-use Rattle.tsa_core.specs.Control.{Outcome, Next, Yes, No, Rest, Chosen, Edge, edge}
-use Rattle.tsa_core.specs.Meanings.{Call, null_pointer}
-use Rattle.tsa_core.specs.Programs.{Attr, Function, LockKind, Program, program_of}
+use Rattle.tsa_core.specs.Control.{Next, Yes, No, Rest, Chosen, Edge, edge}
+use Rattle.tsa_core.specs.Meanings.{null_pointer}
+use Rattle.tsa_core.specs.Programs.{Attr, Function, Program, program_of}
 use Rattle.tsa_core.specs.Terms.{Term, constant, variable, answer, global, member, element, target, load, address, converted, prefixed, joined}
 use Rattle.tsa_core.specs.Uses.{Access, Uses}
 

@@ -1,6 +1,6 @@
 -- Laws of the core program: its points are those of the text, its terms have the types of their expressions, edges go from point to point by what
 -- the points do, every point but a return and the end goes on, and no point speaks of a local that isn't known there.
-use Rattle.std.specs.Prelude.{◌≡◌, ℕ, ◌+◌, ◌<◌, ◌≤◌, pos, Bool, true, false, not, ◌&&◌, List, [], ◌∷◌, All, map, length, Option, Some, None, option_map, is_some, slice_get}
+use Rattle.std.specs.Prelude.{◌≡◌, ℕ, ◌+◌, ◌<◌, ◌≤◌, pos, Bool, true, false, not, List, [], ◌∷◌, All, map, length, Option, Some, None, option_map, is_some, slice_get}
 use Rattle.tsa_base.specs.declared.token.Span.{Span}
 use Rattle.tsa_tree.specs.declared.kind.ExpressionType.{ExpressionType}
 use Rattle.tsa_tree.specs.declared.kind.Kind.{Kind}
@@ -10,20 +10,20 @@ use Rattle.tsa_tree.specs.declared.meaning.Meaning.TheVariants as meant
 use Rattle.tsa_tree.specs.declared.number.Number.{Number}
 use Rattle.tsa_tree.specs.declared.number.Number.TheVariants as numeral
 use Rattle.tsa_tree.specs.expressions.Syntax.{Expression}
-use Rattle.tsa_tree.specs.points.Syntax.{Deed, declares, evaluates, assigns, tests, switches, jumps, idles, returns, ends, points_of_body}
+use Rattle.tsa_tree.specs.points.Syntax.{Deed, declares, tests, switches, returns, ends, points_of_body}
 use Rattle.tsa_tree.specs.statements.Syntax.{Statements}
 use Rattle.tsa_tree.specs.types.Arithmetic.{is_nonzero}
 use Rattle.tsa_tree.specs.types.DeclaredTypes.{value_in}
 use Rattle.tsa_tree.specs.types.Expressions.{type_of}
-use Rattle.tsa_tree.specs.types.Scopes.{Scope, context_of}
+use Rattle.tsa_tree.specs.types.Scopes.{Scope, context_of, known_in}
 use Rattle.tsa_tree.specs.types.Targets.{declared_in_all}
 use Rattle.tsa_tree.specs.types.Units.{outset}
 use Rattle.tsa_tree.specs.units.Syntax.{UnitItem}
-use Rattle.tsa_core.specs.Bodies.{Action, evaluate, set_local, set_cell, declare, test, branch, go_on, give, Known, Point, Body, known_in_body, kinds_by, point_of, body_of, can_have}
+use Rattle.tsa_core.specs.Bodies.{Action, evaluate, set_local, set_cell, declare, test, branch, go_on, give, Known, known_in_body, kinds_by, point_of, body_of, can_have}
 use Rattle.tsa_core.specs.Control.{Outcome, Next, Yes, No, Rest, Chosen, Edge, count_all, body_edges, next_point}
 use Rattle.tsa_core.specs.Meanings.{Call, meaning}
-use Rattle.tsa_core.specs.Programs.{Bodied, bodied_function}
-use Rattle.tsa_core.specs.Terms.{Term, constant, variable, answer, global, member, element, target, load, address, converted, prefixed, joined, Sense}
+use Rattle.tsa_core.specs.Programs.{Bodied, Declared, bodied_function, declared_functions}
+use Rattle.tsa_core.specs.Terms.{Term, constant, variable, answer, global, member, element, target, load, address, converted, prefixed, joined}
 
 -- a body does at its points, in order, what the text does there, and has as many
 abbrev pub PointsAreThoseOfTheText : Type 0
@@ -160,3 +160,12 @@ LocalsAreListed = (here : Scope) (result : Kind) (body : Statements)
 abbrev pub BodiesBeginBelow : Type 0
 BodiesBeginBelow = (items : List UnitItem) (name : List ℕ) (b : Bodied) → bodied_function name (outset items) items ≡ Some b
     → KnowsBelow b.here × (b.here.locals ≡ length b.head.params)
+
+-- a name that means a function where a body begins is the name of the function that has the number
+abbrev pub HasName : List Declared → ℕ → List ℕ → Type 0
+HasName ds n name = option_map (λ d. d.head.name.text) (slice_get ds n) ≡ Some name
+
+abbrev pub FunctionsAreNumbered : Type 0
+FunctionsAreNumbered = (items : List UnitItem) (name : List ℕ) (b : Bodied) (callee : List ℕ) (e : Entry) (n : ℕ)
+    → bodied_function name (outset items) items ≡ Some b → known_in b.here callee ≡ Some e → e.meaning ≡ meant.Function n
+    → HasName (declared_functions (outset items) items) n callee

@@ -14,7 +14,7 @@ use Rattle.tsa_tree.specs.types.Heads.{inside, params_of}
 use Rattle.tsa_tree.specs.types.Runnable.{is_lock_function, is_environment}
 use Rattle.tsa_tree.specs.types.Scopes.{Scope, found}
 use Rattle.tsa_tree.specs.types.Units.{outset, behind_item, is_capability}
-use Rattle.tsa_tree.specs.units.Syntax.{UnitItem, structure_item, alias_item, enumeration_item, global_item, function_item, body_item}
+use Rattle.tsa_tree.specs.units.Syntax.{UnitItem, structure_item, function_item, body_item}
 use Rattle.tsa_way.specs.LockPaths.{lock_way}
 use Rattle.tsa_way.specs.Ways.{Way}
 use Rattle.tsa_layout.specs.Calls.{Layout}

@@ -15,7 +15,7 @@ use Rattle.tsa_tree.specs.expressions.Syntax.{Expression, Arguments, number, nul
 use Rattle.tsa_tree.specs.points.Syntax.{Deed, declares, evaluates, assigns, tests, switches, jumps, idles, returns, ends}
 use Rattle.tsa_tree.specs.types.DeclaredTypes.{value_in}
 use Rattle.tsa_tree.specs.types.Expressions.{owner}
-use Rattle.tsa_tree.specs.types.Operands.{integer_kind, pointer_kind}
+use Rattle.tsa_tree.specs.types.Operands.{pointer_kind}
 use Rattle.tsa_tree.specs.types.Scopes.{Scope, context_of, known_in}
 use Rattle.tsa_scope.specs.Lookups.{members_at, numbered, params_in}
 use Rattle.tsa_way.specs.LockPaths.{leads}
@@ -24,7 +24,7 @@ use Rattle.tsa_way.specs.declared.path.Root.{Root}
 use Rattle.tsa_way.specs.declared.path.Root.TheVariants as root
 use Rattle.tsa_way.specs.Ways.{Way, from, onward}
 use Rattle.tsa_layout.specs.Calls.{Layout, part_guards}
-use Rattle.tsa_layout.specs.Layouts.{Part, structure_at}
+use Rattle.tsa_layout.specs.Layouts.{structure_at}
 use Rattle.tsa_core.specs.Bodies.{Known}
 use Rattle.tsa_core.specs.Meanings.{is_cell, meaning, or_call}
 

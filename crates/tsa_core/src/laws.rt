@@ -1,6 +1,6 @@
 //! Laws of the core program.
 ghost use Rattle.tsa_core.specs.Examples.{ControlIsAsWritten, PointsAreAsWritten, UsesAreAsWritten, ProgramsAreAsWritten};
-ghost use Rattle.tsa_core.specs.Laws.{PointsAreThoseOfTheText, TermsHaveTheirTypes, EdgesStayInside, OutcomesAreOfTheActions, OutcomesAreOfThePoints, LocalsAreListed, PointsGoOn, PointsSpeakOfKnown, BodiesBeginBelow};
+ghost use Rattle.tsa_core.specs.Laws.{PointsAreThoseOfTheText, TermsHaveTheirTypes, EdgesStayInside, FunctionsAreNumbered, OutcomesAreOfTheActions, OutcomesAreOfThePoints, LocalsAreListed, PointsGoOn, PointsSpeakOfKnown, BodiesBeginBelow};
 
 /// A body has the points of its text, and does at each of them what the text does.
 pub fn points_are_those_of_the_text()
@@ -65,4 +65,9 @@ pub fn locals_are_listed()
 /// Where the statements of a unit's function begin, the locals that are known are its parameters.
 pub fn bodies_begin_below()
     ensures { BodiesBeginBelow }
+{}
+
+/// A name that means a function where a body of a unit begins is the name of the function that has the number in the program.
+pub fn functions_are_numbered()
+    ensures { FunctionsAreNumbered }
 {}
