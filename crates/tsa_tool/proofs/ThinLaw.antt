@@ -15,7 +15,7 @@ use Rattle.tsa_tree.specs.types.FirstFailing.{first_failing}
 use Rattle.tsa_tool.specs.declared.check.Refusal.{Refusal}
 use Rattle.tsa_tool.specs.declared.check.Refusal.TheVariants.{Lex, Types, Places, NotBuilt}
 use Rattle.tsa_base.specs.declared.token.Span.{Span}
-use Rattle.tsa_place.specs.Calls.{Layout}
+use Rattle.tsa_layout.specs.Calls.{Layout}
 use Rattle.tsa_place.specs.Units.{placed_in}
 use Rattle.tsa_tool.specs.Items.{Item}
 use Rattle.tsa_tool.specs.Names.{fits, all_fit}
