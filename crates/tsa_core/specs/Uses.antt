@@ -1,28 +1,22 @@
 -- Which cells a point reads and writes, with the paths of their guards, and where the arguments of its call lead.
-use Rattle.std.specs.Prelude.{ℕ, pos, Bool, true, false, nat_lt, List, [], ◌∷◌, ◌++◌, map, Option, Some, None, option_map, option_and_then, slice_get, if◌then◌else◌}
+use Rattle.std.specs.Prelude.{ℕ, Bool, true, false, List, [], ◌∷◌, ◌++◌, map, Option, Some, None, option_and_then, slice_get, if◌then◌else◌}
 use Rattle.tsa_tree.specs.declarations.Syntax.{Initialiser, value}
 use Rattle.tsa_tree.specs.declared.expr.BinaryOp.{BinaryOp}
 use Rattle.tsa_tree.specs.declared.expr.BinaryOp.TheVariants as op
 use Rattle.tsa_tree.specs.declared.expr.UnaryOp.TheVariants as prefix
-use Rattle.tsa_tree.specs.declared.kind.Kind.{Kind}
 use Rattle.tsa_tree.specs.declared.kind.ThingType.{ThingType}
 use Rattle.tsa_tree.specs.declared.meaning.Entry.{Entry}
 use Rattle.tsa_tree.specs.declared.meaning.Meaning.{Meaning}
 use Rattle.tsa_tree.specs.declared.meaning.Meaning.TheVariants as known
-use Rattle.tsa_tree.specs.declared.number.Number.{Number}
-use Rattle.tsa_tree.specs.declared.number.Number.TheVariants as numeral
 use Rattle.tsa_tree.specs.expressions.Syntax.{Expression, Arguments, number, null, named, call, unary, binary, field, index, none, more}
 use Rattle.tsa_tree.specs.points.Syntax.{Deed, declares, evaluates, assigns, tests, switches, jumps, idles, returns, ends}
-use Rattle.tsa_tree.specs.types.DeclaredTypes.{value_in}
 use Rattle.tsa_tree.specs.types.Expressions.{owner}
-use Rattle.tsa_tree.specs.types.Operands.{pointer_kind}
-use Rattle.tsa_tree.specs.types.Scopes.{Scope, context_of, known_in}
+use Rattle.tsa_tree.specs.types.Scopes.{Scope, known_in}
 use Rattle.tsa_scope.specs.Lookups.{members_at, numbered, params_in}
-use Rattle.tsa_way.specs.LockPaths.{leads}
-use Rattle.tsa_way.specs.declared.path.PathStep.TheVariants as way
+use Rattle.tsa_way.specs.Arguments.{argument_way, way_of}
 use Rattle.tsa_way.specs.declared.path.Root.{Root}
 use Rattle.tsa_way.specs.declared.path.Root.TheVariants as root
-use Rattle.tsa_way.specs.Ways.{Way, from, onward}
+use Rattle.tsa_way.specs.Ways.{Way}
 use Rattle.tsa_layout.specs.Calls.{Layout, part_guards}
 use Rattle.tsa_layout.specs.Layouts.{structure_at}
 use Rattle.tsa_core.specs.Bodies.{Known}
@@ -70,10 +64,6 @@ member_guards l o struct (Some m) = guards_owned o (part_guards (slice_get (stru
 abbrev pub field_guards : Layout → Scope → Option Way → List ℕ → Option ℕ → List (Option Way)
 field_guards l here o name None = []
 field_guards l here o name (Some struct) = member_guards l o struct (numbered (members_at here struct) name 0)
-
--- where an expression leads as a place, or as a pointer
-abbrev pub way_of : (ℕ → Bool) → Scope → (as_pointer : Bool) → Expression → Option Way
-way_of stable here as_pointer e = option_map (λ l. l.way) (leads stable here as_pointer e)
 
 -- The guards of an access, from its last followed pointer on, or from its global where it follows none; the owner in a member's guard is the
 -- path of the object that has the member.
@@ -140,30 +130,7 @@ read_before l stable here (Some o) e = own_access l stable here false e
 abbrev pub written : Layout → (ℕ → Bool) → Scope → Option BinaryOp → Expression → List Access
 written l stable here o e = reads_to l stable here e ++ (read_before l stable here o e ++ own_access l stable here true e)
 
--- Where an argument leads: to what it points to; or, where it is an index, a constant as a step of no object, a local that never changes as a root.
-abbrev pub constant_argument : Option Number → Option Way
-constant_argument (Some (numeral.Int (pos k))) = if nat_lt k 65536 then Some (onward (way.Constant k) (from root.Owner)) else None
-constant_argument (Some (numeral.Unsigned k)) = if nat_lt k 65536 then Some (onward (way.Constant k) (from root.Owner)) else None
-constant_argument _ = None
-
-abbrev pub local_argument : (ℕ → Bool) → Option Entry → Option Way
-local_argument stable None = None
-local_argument stable (Some e) = by e.meaning
-  where
-    by : Meaning → Option Way
-    by (known.Local n) = if stable n then Some (from (root.Local n)) else None
-    by _ = None
-
-abbrev pub named_argument : (ℕ → Bool) → Scope → Expression → Option Way
-named_argument stable here (named name span) = local_argument stable (known_in here name.text)
-named_argument stable here e = None
-
-abbrev pub index_argument : (ℕ → Bool) → Scope → Expression → Option Way
-index_argument stable here e = or_call (constant_argument (value_in (context_of here) e)) (named_argument stable here e)
-
-abbrev pub argument_way : (ℕ → Bool) → Scope → Kind → Expression → Option Way
-argument_way stable here kind e = if pointer_kind kind then way_of stable here true e else index_argument stable here e
-
+-- where the arguments of a call lead, for the parameters of its function
 abbrev pub argument_ways : (ℕ → Bool) → Scope → List ThingType → Arguments → List (Option Way)
 argument_ways stable here (p ∷ params) (more first rest) = argument_way stable here p.kind first ∷ argument_ways stable here params rest
 argument_ways stable here params args = []

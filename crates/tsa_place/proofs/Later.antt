@@ -1,5 +1,5 @@
 -- What is earlier keeps its places and its size where a later struct is defined, and the members of a struct are of earlier ones.
-use Rattle.std.proofs.Common.{◌≡◌, ◌∙◌, ℕ, zero, suc, ◌+◌, ◌<◌, arith, nat_eq, Bool, true, false, if◌then◌else◌, List, [], ◌∷◌, length, Option, Some, None, slice_get, refl, sym, ap, subst, eqb-true, eq-eqb}
+use Rattle.std.proofs.Common.{◌≡◌, ◌∙◌, ℕ, zero, suc, ◌+◌, ◌<◌, arith, nat_eq, Bool, true, false, if◌then◌else◌, List, [], ◌∷◌, length, Some, None, slice_get, refl, sym, ap, subst, eqb-true, eq-eqb}
 use Rattle.tsa_base.specs.declared.value.Value.TheVariants.{Pointer}
 use Rattle.tsa_tree.specs.declared.kind.ThingType.{ThingType}
 use Rattle.tsa_layout.specs.Layouts.{Part, Structure, Structures, structure_at, thing_size, members_size, size_of}

@@ -4,16 +4,15 @@ use Rattle.std.proofs.lemmas.Bool.Decides.{nat_tests}
 use Rattle.std.proofs.lemmas.Option.{slice_get_within}
 use Rattle.tsa_tree.specs.declared.kind.Kind.{Kind}
 use Rattle.tsa_tree.specs.declared.kind.Kind.TheVariants as type
-use Rattle.tsa_tree.specs.units.Syntax.{UnitItem}
 use Rattle.tsa_layout.specs.declared.place.Holder.{Holder}
 use Rattle.tsa_layout.specs.declared.place.Holder.TheVariants.{Global, Member}
 use Rattle.tsa_layout.specs.declared.place.Placed.{Placed}
-use Rattle.tsa_layout.specs.Calls.{Layout, there, member_place, element_place, members_of, part_of}
+use Rattle.tsa_layout.specs.Calls.{Layout, member_place, element_place, members_of, part_of}
 use Rattle.tsa_layout.specs.Layouts.{Part, kind_size, size_of, structure_at, offset}
-use Rattle.tsa_place.specs.Leading.{first_place, alone, piece, leads_to, Route, from_global, to_member, reached, Fits, IsInside, StandsIn, HasOneWay, PlacesAreLedTo, WhatIsLedToBears, MembersHavePlaces, ElementsHavePlaces, OneWay}
-use Rattle.tsa_layout.specs.Places.{a_place, element_of}
+use Rattle.tsa_place.specs.Leading.{first_place, piece, leads_to, Route, from_global, to_member, reached, Fits, IsInside, StandsIn, PlacesAreLedTo, WhatIsLedToBears, MembersHavePlaces, ElementsHavePlaces, OneWay}
+use Rattle.tsa_layout.specs.Places.{a_place}
 use Rattle.tsa_layout.specs.Standing.{IsBelow, HasSome}
-use Rattle.tsa_place.proofs.Asking.{same_some, none_is_none, is_there, there_same, member_none, member_other, element_alone, element_past, element_some, alone_some, alone_other}
+use Rattle.tsa_place.proofs.Asking.{same_some, none_is_none, is_there, member_none, member_other, element_alone, element_past, element_some, alone_some, alone_other}
 use Rattle.tsa_place.proofs.Laid.{Block, Belongs, IsLaid, unit_laid}
 use Rattle.tsa_place.proofs.Rows.{Thing, Object, PieceAt, Row, object_place, object_alone, object_element, thing_rows, member_begins, member_thing}
 

@@ -1,18 +1,17 @@
 -- Each place of a thing is one of its pieces, or lies in a member of one: what declares it leads to it.
-use Rattle.std.proofs.Common.{◌≡◌, ◌∙◌, ℕ, zero, suc, ◌+◌, ◌-◌, ◌*◌, ◌<◌, ◌≤◌, arith, nat_lt, nat_eq, Bool, true, false, List, [], ◌∷◌, ◌++◌, length, drop, Option, Some, None, slice_get, refl, sym, ap, subst, eqb-true}
+use Rattle.std.proofs.Common.{◌≡◌, ◌∙◌, ℕ, zero, suc, ◌+◌, ◌-◌, ◌*◌, ◌<◌, ◌≤◌, arith, nat_lt, nat_eq, Bool, true, false, List, [], ◌∷◌, length, Option, Some, None, slice_get, refl, sym, ap, subst, eqb-true}
 use Rattle.std.proofs.lemmas.Bool.Decides.{nat_tests}
-use Rattle.std.proofs.lemmas.Option.{slice_get_within}
 use Rattle.tsa_tree.specs.declared.kind.Kind.{Kind}
 use Rattle.tsa_tree.specs.declared.kind.Kind.TheVariants as type
 use Rattle.tsa_layout.specs.declared.place.Holder.{Holder}
-use Rattle.tsa_layout.specs.declared.place.Holder.TheVariants.{Global, Member}
+use Rattle.tsa_layout.specs.declared.place.Holder.TheVariants.{Member}
 use Rattle.tsa_layout.specs.declared.place.Placed.{Placed}
-use Rattle.tsa_layout.specs.Calls.{Layout, there, member_place, members_of, part_of}
-use Rattle.tsa_layout.specs.Layouts.{Part, Structures, structure_at, kind_size, times, thing_size, members_size, size_of, offset}
+use Rattle.tsa_layout.specs.Calls.{Layout, member_place, part_of}
+use Rattle.tsa_layout.specs.Layouts.{Part, structure_at, kind_size, times, thing_size, members_size, size_of, offset}
 use Rattle.tsa_place.specs.Leading.{first_place, IsInside}
-use Rattle.tsa_layout.specs.Places.{Given, Values, a_place, element_of, member_of, kind_places, elements_places, pieces, thing_places, places_inside}
-use Rattle.tsa_layout.specs.Standing.{StandsAt, IsBelow, HasSome, IsWithin, AllBelow, IsOrdered}
-use Rattle.tsa_place.proofs.Asking.{kind_head, same_some, is_there, member_some}
+use Rattle.tsa_layout.specs.Places.{Given, Values, a_place, element_of, member_of, kind_places, pieces, thing_places, places_inside}
+use Rattle.tsa_layout.specs.Standing.{StandsAt, IsBelow, HasSome, IsWithin, IsOrdered}
+use Rattle.tsa_place.proofs.Asking.{kind_head, is_there, member_some}
 use Rattle.tsa_place.proofs.Later.{own_members_below, size_is, all_at}
 use Rattle.tsa_layout.proofs.Standing.{below_more, member_stands, members_below, element_stands}
 

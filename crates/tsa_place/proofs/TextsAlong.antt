@@ -1,5 +1,5 @@
 -- The text of a place, from the text of the place that it lies in.
-use Rattle.std.proofs.Common.{◌≡◌, ℕ, zero, suc, ◌+◌, ◌<◌, arith, List, [], ◌∷◌, ◌++◌, Option, Some, None, slice_get, refl, sym, ap, ◌∙◌}
+use Rattle.std.proofs.Common.{◌≡◌, ℕ, zero, suc, ◌<◌, arith, List, [], ◌∷◌, ◌++◌, Option, Some, None, slice_get, refl, sym, ap, ◌∙◌}
 use Rattle.tsa_layout.specs.declared.place.Holder.{Holder}
 use Rattle.tsa_layout.specs.declared.place.Holder.TheVariants.{Global, Member}
 use Rattle.tsa_layout.specs.declared.place.Placed.{Placed}

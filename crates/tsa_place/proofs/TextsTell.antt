@@ -1,5 +1,5 @@
 -- The text of a place of a typed unit tells which place it is.
-use Rattle.std.proofs.Common.{◌≡◌, ℕ, zero, suc, ◌+◌, ◌<◌, arith, nat_eq, Bool, true, false, if◌then◌else◌, List, [], ◌∷◌, ◌++◌, length, Option, Some, None, slice_get, Result, Ok, refl, sym, subst, ◌∙◌}
+use Rattle.std.proofs.Common.{◌≡◌, ℕ, zero, suc, ◌<◌, arith, nat_eq, Bool, true, false, if◌then◌else◌, List, [], ◌∷◌, ◌++◌, length, Option, Some, None, slice_get, Result, Ok, refl, sym, subst, ◌∙◌}
 use Rattle.tsa_base.specs.declared.token.Span.{Span}
 use Rattle.tsa_tree.specs.attributes.Syntax.{Attribute}
 use Rattle.tsa_tree.specs.declarations.Syntax.{Declaration}
@@ -14,7 +14,7 @@ use Rattle.tsa_tree.specs.units.Shapes.{item_shapes}
 use Rattle.tsa_tree.specs.units.Sound.{SoundItem, SoundItems}
 use Rattle.tsa_tree.specs.units.Syntax.{UnitItem, structure_item, alias_item, enumeration_item, global_item, function_item, body_item, names_of_item}
 use Rattle.tsa_tree.proofs.units.Read.{well_read_sound}
-use Rattle.tsa_layout.specs.Layouts.{Part, Structure, Structures, structure_at}
+use Rattle.tsa_layout.specs.Layouts.{Part, Structures, structure_at}
 use Rattle.tsa_layout.specs.Calls.{Layout, members_of}
 use Rattle.tsa_place.specs.Units.{global_part, behind_data, data_placed, too_many_at, or_behind, placed_behind, no_places}
 use Rattle.tsa_place.specs.Leading.{PlacesAreLedTo, TextsTell}

@@ -1,7 +1,7 @@
 //! The places of a unit, with all that is asked of them (C11 6.2.4).
-ghost use Rattle.std.specs.Prelude.{◌≡◌, ◌<◌, length, Some, slice_get, option_map, IfOk};
+ghost use Rattle.std.specs.Prelude.{◌≡◌, ◌<◌, length, Some, None, slice_get, option_map, IfOk};
 ghost use Rattle.tsa_place.specs.Answers.{Gives};
-ghost use Rattle.tsa_layout.specs.Calls.{declarator_of, element_place, global_place, guards_of, is_addressable as spec_is_addressable, is_lock_kind, member_place, place_kind, text_of};
+ghost use Rattle.tsa_layout.specs.Calls.{declarator_of, element_place, evaluated, global_place, guards_of, is_addressable as spec_is_addressable, is_lock_kind, member_place, place_kind, text_of};
 ghost use Rattle.tsa_place.specs.Units.{placed_in};
 ghost use Rattle.tsa_tree.specs.units.Shapes.{item_shapes};
 
@@ -14,6 +14,7 @@ use tsa_base::{NoMemory, Span, Value};
 use tsa_layout::{Guard, PlaceKind, Placed};
 use tsa_tree::item::UnitTree;
 use tsa_tree::kind::Kind;
+use tsa_way::Path;
 
 /// The cells and struct objects of a unit's globals, by numbers from 0 on. Contracts see a layout.
 #[derive(Drop)]
@@ -156,5 +157,13 @@ impl Places {
         ensures { IfOk result (λ guards. guards.items ≡ guards_of self.now place) }
     {
         self.globals.layout().guards(alloc, place)
+    }
+
+    /// The place that a path leads to with the values of locals, along pointers of the store at the start that never change; none along null or past an
+    /// array's end.
+    pub fn evaluate(&self, locals: &[Value], path: &Path) -> Option<u32>
+        ensures { result ≡ evaluated self.now (slice_get locals.now) None path.now }
+    {
+        self.globals.layout().evaluate(locals, None, path)
     }
 }

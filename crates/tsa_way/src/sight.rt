@@ -1,4 +1,4 @@
-//! The paths of lock expressions: `&` and `*` cancel, and a pointer is followed once more.
+//! The paths of lock expressions, where `&` and `*` cancel and a pointer is followed once more, and those of a call's arguments.
 ghost use Rattle.std.specs.Prelude.{◌≡◌, option_map, IfOk};
 ghost use Rattle.tsa_way.specs.LockPaths.{is_address as spec_is_address, is_pointer as spec_is_pointer};
 ghost use Rattle.tsa_tree.specs.expressions.Shapes.{shape};
@@ -54,6 +54,7 @@ impl<'w, 'a> Sight<'w, 'a> {
     ghost use Rattle.tsa_tree.specs.types.DeclaredTypes.{value_in};
     ghost use Rattle.tsa_way.specs.LockPaths.{stable_in, to_member, name_way, member_step as spec_member_step, element_step as spec_element_step, index_step as spec_index_step, variable as spec_variable, or_variable, leads as spec_leads, lock_way};
     ghost use Rattle.tsa_way.specs.Ways.{from};
+    ghost use Rattle.tsa_way.specs.Arguments.{constant_argument as spec_constant_argument, local_argument as spec_local_argument, or_local, index_argument as spec_index_argument, argument_way};
 
     /// Whether a local never changes.
     fn is_stable(self, local: u32) -> bool
@@ -245,5 +246,60 @@ impl<'w, 'a> Sight<'w, 'a> {
         ensures { IfOk result (λ path. path ≡ option_map (λ led. led.way) (spec_leads (stable_in self.entry.stable.now) self.entry.scope.now true (shape expr.now))) }
     {
         Ok(path_of(self.leads(true, expr)?))
+    }
+
+    /// The path of an argument that is a constant, where an array may have it for an index.
+    fn constant_argument(self, value: Option<Number>) -> Result<Option<Path>, NoMemory>
+        ensures { IfOk result (λ path. path ≡ spec_constant_argument value) }
+    {
+        match in_range(65_536, value) {
+            Some(step) => Ok(Some(self.root(Root::Owner).onward(step)?)),
+            None => Ok(None),
+        }
+    }
+
+    /// The path of a local that never changes.
+    fn local_argument(self, entry: Option<Entry>) -> Option<Path>
+        ensures { result ≡ spec_local_argument (stable_in self.entry.stable.now) entry }
+    {
+        match entry?.meaning {
+            Meaning::Local(number) if self.is_stable(number) => Some(self.root(Root::Local(
+                number,
+            ))),
+            _ => None,
+        }
+    }
+
+    /// The path of an argument that is such a local.
+    fn named_argument(self, expr: &Expr<'_>) -> Option<Path>
+        ensures { result ≡ or_local (stable_in self.entry.stable.now) self.entry.scope.now (shape expr.now) None }
+    {
+        match &expr.kind {
+            ExprKind::Named(name) => self.local_argument(self.scope.known(name.text)),
+            _ => None,
+        }
+    }
+
+    /// The path of an argument that is a number: a constant, or a local that never changes.
+    fn index_argument(self, expr: &Expr<'_>) -> Result<Option<Path>, NoMemory>
+        ensures { IfOk result (λ path. path ≡ spec_index_argument (stable_in self.entry.stable.now) self.entry.scope.now (shape expr.now)) }
+    {
+        let value = self.value_at(expr)?;
+        match self.constant_argument(value)? {
+            Some(path) => Ok(Some(path)),
+            None => Ok(self.named_argument(expr)),
+        }
+    }
+
+    /// The path of a call's argument for a parameter of a kind: of a pointer that of the place where it points, of a number a constant or a local that
+    /// never changes; none of any other.
+    pub fn argument_path(self, kind: Kind, expr: &Expr<'_>) -> Result<Option<Path>, NoMemory>
+        ensures { IfOk result (λ path. path ≡ argument_way (stable_in self.entry.stable.now) self.entry.scope.now kind (shape expr.now)) }
+    {
+        if is_pointer(kind) {
+            self.address_path(expr)
+        } else {
+            self.index_argument(expr)
+        }
     }
 }
