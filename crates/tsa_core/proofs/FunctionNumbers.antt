@@ -1,10 +1,10 @@
 -- A name that means a function is the name of the function that has the number.
 use Rattle.std.proofs.Common.{◌≡◌, ◌∙◌, ℕ, ℤ, zero, suc, ◌+◌, ◌+ℤ◌, pos, arith, Bool, true, false, List, [], ◌∷◌, ◌++◌, All, length, slice_get, slice_index_or, Option, Some, None, is_some, append_assoc, append-nil, if◌then◌else◌, refl, sym, subst}
-use Rattle.std.proofs.lemmas.List.{length-append, length-set}
+use Rattle.std.proofs.lemmas.List.{length-append, length-map, length-set}
 use Rattle.std.proofs.lemmas.List.Elements.{All-append, All-cons, All-head, All-nil, All-tail}
 use Rattle.std.proofs.lemmas.Slice.Eq.{bytes_eq-Decides}
 use Rattle.std.specs.Str.{bytes_eq}
-use Rattle.tsa_tree.specs.declarations.Syntax.{EnumConstant, Parameter, Head}
+use Rattle.tsa_tree.specs.declarations.Syntax.{Declaration, EnumConstant, Parameter, Head}
 use Rattle.tsa_tree.specs.declared.kind.Kind.TheVariants as type
 use Rattle.tsa_tree.specs.declared.kind.ThingType.{ThingType}
 use Rattle.tsa_tree.specs.declared.meaning.Entry.{Entry}
@@ -15,13 +15,18 @@ use Rattle.tsa_tree.specs.types.DeclaredTypes.{thing_type}
 use Rattle.tsa_tree.specs.types.Enums.{enumerator_entry, enumerator_value, behind_enumerators}
 use Rattle.tsa_tree.specs.types.Globals.{global_entry}
 use Rattle.tsa_tree.specs.types.Heads.{declares_function, function_entry, or_body, bodied, again, behind_known, behind_head, local_entry, with_param, inside_params, inside}
-use Rattle.tsa_tree.specs.types.Scopes.{Scope, FunctionEntry, found, with_name, with_named, with_struct, a_type_name}
+use Rattle.tsa_tree.specs.types.Scopes.{Scope, FunctionEntry, found, further, is_taken, with_name, with_named, with_struct, a_type_name}
+use Rattle.tsa_tree.specs.types.Locals as locals
+use Rattle.tsa_tree.specs.types.Locals.{unless_taken}
 use Rattle.tsa_tree.specs.types.Structs.{members_behind}
 use Rattle.tsa_tree.specs.types.Types.{single}
 use Rattle.tsa_tree.specs.types.Units.{outset, behind_item}
 use Rattle.tsa_tree.specs.units.Syntax.{UnitItem, structure_item, alias_item, enumeration_item, global_item, function_item, body_item}
-use Rattle.tsa_core.specs.Laws.{HasName, FunctionsAreNumbered}
-use Rattle.tsa_core.specs.Programs.{Declared, unless_known, first_head, declared_by, declared_functions, Bodied, bodied_by, bodied_function}
+use Rattle.tsa_core.specs.Bodies.{Known, known_in_body, is_stable, point_of}
+use Rattle.tsa_core.specs.Laws.{HasName, KnowsNumbers, FunctionsAreNumbered, UsesStandBesidePoints}
+use Rattle.tsa_core.specs.Uses.{uses_of}
+use Rattle.tsa_core.proofs.EachScope.{each_point}
+use Rattle.tsa_core.specs.Programs.{Declared, unless_known, first_head, declared_by, declared_functions, Bodied, body_in, bodied_by, bodied_function}
 use Rattle.tsa_core.specs.Programs as program
 use Rattle.tsa_core.proofs.TypedTerms.{some_same}
 
@@ -181,15 +186,27 @@ found_named callee P [] e h is = cc
 found_named callee P ((key, x) ∷ rest) e h is =
     found_step callee P (bytes_eq callee key) key x e (found rest callee) refl (All-head P (key, x) rest h) (found_named callee P rest e (All-tail P (key, x) rest h)) is
 
+-- Locals are no functions: what is known where a body begins is known at each of its points.
+module _ (ds : List Declared) where
+  local_named : (here : Scope) (d : Declaration) (taken : Bool) → AreNamed ds here → AreNamed ds (further 1 (unless_taken taken d.name.text (locals.local_entry here d) here))
+  local_named here d true h = h
+  local_named here d false h = further_name ds here d.name.text (locals.local_entry here d) (λ n is. cc) h
+
+  known_number : (k : Known) → AreNamed ds k.here → KnowsNumbers ds k
+  known_number k h callee e n known means = by (found k.here.owned callee) refl
+    where
+      by : (o : Option ThingType) → found k.here.owned callee ≡ o → HasName ds n callee
+      by None own = let there : found k.here.names callee ≡ Some e = rw own at known in found_named callee (Named ds) k.here.names e h there n means
+      by (Some t) own = let there : Some (record { meaning = meant.Owned; thing = t }) ≡ Some e = rw own at known in cc
+
 pub functions_are_numbered : FunctionsAreNumbered
-functions_are_numbered items name b callee e n is known means = by (found b.here.owned callee) refl
-  where
-    ds : List Declared
-    ds = declared_functions (outset items) items
+functions_are_numbered items name b is k d less =
+    let ds = declared_functions (outset items) items in
+    known_number ds (slice_index_or (known_in_body b.here b.body) k d)
+    (each_point (AreNamed ds) (λ here n h. h) (λ here x. local_named ds here x (is_taken x.name.text here)) b.here b.body
+    (body_named name b [] (outset items) items (refl, All-nil (Named [])) is) k d less)
 
-    named : AreNamed ds b.here
-    named = body_named name b [] (outset items) items (refl, All-nil (Named [])) is
-
-    by : (o : Option ThingType) → found b.here.owned callee ≡ o → HasName ds n callee
-    by None own = let there : found b.here.names callee ≡ Some e = rw own at known in found_named callee (Named ds) b.here.names e named there n means
-    by (Some t) own = let there : Some (record { meaning = meant.Owned; thing = t }) ≡ Some e = rw own at known in cc
+pub uses_stand_beside : UsesStandBesidePoints
+uses_stand_beside l b =
+    length-map (known_in_body b.here b.body) (uses_of l (is_stable (body_in b)))
+    ∙ sym (length-map (known_in_body b.here b.body) (point_of (thing_type b.here b.head.result).kind))

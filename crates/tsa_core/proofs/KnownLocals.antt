@@ -25,10 +25,11 @@ use Rattle.tsa_tree.specs.types.Scopes.{Scope, found, further, is_taken, known_i
 use Rattle.tsa_tree.specs.types.Statements.{behind, behind_init}
 use Rattle.tsa_tree.specs.types.Targets.{declared_in}
 use Rattle.tsa_scope.specs.Lookups.{params_in}
-use Rattle.tsa_core.specs.Bodies.{Known, knows, known_init, known_step, known, known_all, declared, right_side, set_to}
+use Rattle.tsa_core.specs.Bodies.{Known, known_in_body, knows, known_init, known_step, known, known_all, declared, right_side, set_to}
 use Rattle.tsa_core.specs.Laws.{SpeaksBelow, CallsBelow, ActsBelow, IsBelow, KnowsBelow, PointBelow, PointsSpeakOfKnown}
 use Rattle.tsa_core.specs.Meanings.{Call, is_place, is_cell, loaded, name_term, of_name, of_call, prefix_term, beside, operands, base_of, to_member, meaning, is_int, as_kind, arguments, call_by, call_of, call_in, or_call}
 use Rattle.tsa_core.specs.Terms.{Term, constant, variable, answer, global, member, element, target, load, address, converted, prefixed, joined, Sense}
+use Rattle.tsa_core.proofs.EachScope.{each_point}
 
 -- Terms made of terms.
 module _ (n : ℕ) where
@@ -252,86 +253,7 @@ local_below here d false h =
     All-append (λ x. IsBelow (here.locals + 1) x.1.meaning) here.names ((d.name.text, local_entry here d) ∷ [])
     (names_more here.locals (here.locals + 1) here.names (omega arith) h) (one_name (here.locals + 1) d.name.text (local_entry here d) (omega arith))
 
-behind_below : (here : Scope) (s : Statement) → KnowsBelow here → KnowsBelow (behind here s)
-unfolding behind
-behind_below here (local d) h = local_below here d (is_taken d.name.text here) h
-behind_below here (block items span) h = further_below (declared_in (block items span)) here h
-behind_below here (empty span) h = further_below (declared_in (empty span)) here h
-behind_below here (simple s) h = further_below (declared_in (simple s)) here h
-behind_below here (if_alone test arm span) h = further_below (declared_in (if_alone test arm span)) here h
-behind_below here (if_else test arm other span) h = further_below (declared_in (if_else test arm other span)) here h
-behind_below here (while_loop test body span) h = further_below (declared_in (while_loop test body span)) here h
-behind_below here (do_loop body test span) h = further_below (declared_in (do_loop body test span)) here h
-behind_below here (for_loop init test step body span) h = further_below (declared_in (for_loop init test step body span)) here h
-behind_below here (switch key body span) h = further_below (declared_in (switch key body span)) here h
-behind_below here (case key body span) h = further_below (declared_in (case key body span)) here h
-behind_below here (otherwise body span) h = further_below (declared_in (otherwise body span)) here h
-behind_below here (label name body span) h = further_below (declared_in (label name body span)) here h
-behind_below here (break span) h = further_below (declared_in (break span)) here h
-behind_below here (continue span) h = further_below (declared_in (continue span)) here h
-behind_below here (goto name span) h = further_below (declared_in (goto name span)) here h
-behind_below here (return e span) h = further_below (declared_in (return e span)) here h
-
-behind_init_below : (here : Scope) (init : ForInit) → KnowsBelow here → KnowsBelow (behind_init here init)
-behind_init_below here no_init h = h
-behind_init_below here (simple_init s) h = h
-behind_init_below here (local_init d) h = local_below here d (is_taken d.name.text here) h
-
-module _ (result : Kind) where
-  abbrev Below : List Known → Type 0
-  Below ks = All (PointBelow result) ks
-
-  one_point : (here : Scope) (d : Deed) (ks : List Known) → KnowsBelow here → Below ks → Below (knows here d ∷ ks)
-  one_point here d ks h rest = All-cons (PointBelow result) (knows here d) ks (deed_below here h result d) rest
-
-  alone : (here : Scope) (d : Deed) → KnowsBelow here → Below (knows here d ∷ [])
-  alone here d h = one_point here d [] h (All-nil (PointBelow result))
-
-  init_points : (here : Scope) (init : ForInit) → KnowsBelow here → Below (known_init here init)
-  init_points here no_init h = All-nil (PointBelow result)
-  init_points here (simple_init s) h = alone here (simple_deed s) h
-  init_points here (local_init d) h = alone here (declares d) h
-
-  step_points : (here : Scope) (step : Option Simple) → KnowsBelow here → Below (known_step here step)
-  step_points here None h = All-nil (PointBelow result)
-  step_points here (Some s) h = alone here (simple_deed s) h
-
-  mutual
-    unfolding known known_all
-
-    points_below : (here : Scope) (s : Statement) → KnowsBelow here → Below (known here s)
-    points_below here (block items span) h = all_points_below here items h
-    points_below here (empty span) h = alone here idles h
-    points_below here (local d) h = alone here (declares d) h
-    points_below here (simple s) h = alone here (simple_deed s) h
-    points_below here (if_alone test arm span) h = one_point here (tests (Some test)) (known here arm) h (points_below here arm h)
-    points_below here (if_else test arm other span) h =
-        let there = further (declared_in arm) here in
-        one_point here (tests (Some test)) (known here arm ++ known there other) h
-        (All-append (PointBelow result) (known here arm) (known there other) (points_below here arm h) (points_below there other (further_below (declared_in arm) here h)))
-    points_below here (while_loop test body span) h = one_point here (tests (Some test)) (known here body) h (points_below here body h)
-    points_below here (do_loop body test span) h =
-        All-append (PointBelow result) (known here body) (knows here (tests (Some test)) ∷ []) (points_below here body h) (alone here (tests (Some test)) h)
-    points_below here (for_loop init test step body span) h =
-        let there = behind_init here init in
-        let h' = behind_init_below here init h in
-        All-append (PointBelow result) (known_init here init) (knows there (tests test) ∷ (known_step there step ++ known there body)) (init_points here init h)
-        (one_point there (tests test) (known_step there step ++ known there body) h'
-        (All-append (PointBelow result) (known_step there step) (known there body) (step_points there step h') (points_below there body h')))
-    points_below here (switch key body span) h = one_point here (switches key) (known here body) h (points_below here body h)
-    points_below here (case key body span) h = points_below here body h
-    points_below here (otherwise body span) h = points_below here body h
-    points_below here (label name body span) h = points_below here body h
-    points_below here (break span) h = alone here jumps h
-    points_below here (continue span) h = alone here jumps h
-    points_below here (goto name span) h = alone here jumps h
-    points_below here (return e span) h = alone here (returns e) h
-
-    all_points_below : (here : Scope) (ss : Statements) → KnowsBelow here → Below (known_all here ss)
-    all_points_below here none h = All-nil (PointBelow result)
-    all_points_below here (more s ss) h =
-        All-append (PointBelow result) (known here s) (known_all (behind here s) ss) (points_below here s h) (all_points_below (behind here s) ss (behind_below here s h))
-
 pub points_speak_of_known : PointsSpeakOfKnown
-points_speak_of_known here result body h =
-    All-append (PointBelow result) (known_all here body) (knows here ends ∷ []) (all_points_below result here body h) (alone result here ends h)
+points_speak_of_known here result body h k d less =
+    let p = slice_index_or (known_in_body here body) k d in
+    deed_below p.here (each_point KnowsBelow (λ there n. further_below n there) (λ there x. local_below there x (is_taken x.name.text there)) here body h k d less) result p.deed

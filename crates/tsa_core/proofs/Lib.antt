@@ -5,6 +5,7 @@ pub mod EdgesInside
 pub mod EdgeOutcomes
 pub mod Worked
 pub mod GoingOn
+pub mod EachScope
 pub mod KnownLocals
 pub mod LocalLists
 pub mod Beginnings

@@ -19,10 +19,11 @@ use Rattle.tsa_tree.specs.types.Scopes.{Scope, context_of, known_in}
 use Rattle.tsa_tree.specs.types.Targets.{declared_in_all}
 use Rattle.tsa_tree.specs.types.Units.{outset}
 use Rattle.tsa_tree.specs.units.Syntax.{UnitItem}
+use Rattle.tsa_layout.specs.Calls.{Layout}
 use Rattle.tsa_core.specs.Bodies.{Action, evaluate, set_local, set_cell, declare, test, branch, go_on, give, Known, known_in_body, kinds_by, point_of, body_of, can_have}
 use Rattle.tsa_core.specs.Control.{Outcome, Next, Yes, No, Rest, Chosen, Edge, count_all, body_edges, next_point}
 use Rattle.tsa_core.specs.Meanings.{Call, meaning}
-use Rattle.tsa_core.specs.Programs.{Bodied, Declared, bodied_function, declared_functions}
+use Rattle.tsa_core.specs.Programs.{Bodied, Declared, bodied_function, body_in, declared_functions, uses_in}
 use Rattle.tsa_core.specs.Terms.{Term, constant, variable, answer, global, member, element, target, load, address, converted, prefixed, joined}
 
 -- a body does at its points, in order, what the text does there, and has as many
@@ -161,11 +162,17 @@ abbrev pub BodiesBeginBelow : Type 0
 BodiesBeginBelow = (items : List UnitItem) (name : List ℕ) (b : Bodied) → bodied_function name (outset items) items ≡ Some b
     → KnowsBelow b.here × (b.here.locals ≡ length b.head.params)
 
--- a name that means a function where a body begins is the name of the function that has the number
+-- At each point of a unit's body a name that means a function is the name of the function that has the number.
 abbrev pub HasName : List Declared → ℕ → List ℕ → Type 0
 HasName ds n name = option_map (λ d. d.head.name.text) (slice_get ds n) ≡ Some name
 
+abbrev pub KnowsNumbers : List Declared → Known → Type 0
+KnowsNumbers ds k = (callee : List ℕ) (e : Entry) (n : ℕ) → known_in k.here callee ≡ Some e → e.meaning ≡ meant.Function n → HasName ds n callee
+
 abbrev pub FunctionsAreNumbered : Type 0
-FunctionsAreNumbered = (items : List UnitItem) (name : List ℕ) (b : Bodied) (callee : List ℕ) (e : Entry) (n : ℕ)
-    → bodied_function name (outset items) items ≡ Some b → known_in b.here callee ≡ Some e → e.meaning ≡ meant.Function n
-    → HasName (declared_functions (outset items) items) n callee
+FunctionsAreNumbered = (items : List UnitItem) (name : List ℕ) (b : Bodied) → bodied_function name (outset items) items ≡ Some b
+    → All (KnowsNumbers (declared_functions (outset items) items)) (known_in_body b.here b.body)
+
+-- what a function uses stands beside its points
+abbrev pub UsesStandBesidePoints : Type 0
+UsesStandBesidePoints = (l : Layout) (b : Bodied) → length (uses_in l b) ≡ length (body_in b).points

@@ -1,6 +1,6 @@
 //! Laws of the core program.
 ghost use Rattle.tsa_core.specs.Examples.{ControlIsAsWritten, PointsAreAsWritten, UsesAreAsWritten, ProgramsAreAsWritten};
-ghost use Rattle.tsa_core.specs.Laws.{PointsAreThoseOfTheText, TermsHaveTheirTypes, EdgesStayInside, FunctionsAreNumbered, OutcomesAreOfTheActions, OutcomesAreOfThePoints, LocalsAreListed, PointsGoOn, PointsSpeakOfKnown, BodiesBeginBelow};
+ghost use Rattle.tsa_core.specs.Laws.{PointsAreThoseOfTheText, TermsHaveTheirTypes, EdgesStayInside, FunctionsAreNumbered, OutcomesAreOfTheActions, OutcomesAreOfThePoints, LocalsAreListed, PointsGoOn, PointsSpeakOfKnown, BodiesBeginBelow, UsesStandBesidePoints};
 
 /// A body has the points of its text, and does at each of them what the text does.
 pub fn points_are_those_of_the_text()
@@ -67,7 +67,12 @@ pub fn bodies_begin_below()
     ensures { BodiesBeginBelow }
 {}
 
-/// A name that means a function where a body of a unit begins is the name of the function that has the number in the program.
+/// At each point of a unit's body a name that means a function is the name of the function that has the number in the program.
 pub fn functions_are_numbered()
     ensures { FunctionsAreNumbered }
+{}
+
+/// What a function uses stands beside its points, one by one.
+pub fn uses_stand_beside_points()
+    ensures { UsesStandBesidePoints }
 {}
