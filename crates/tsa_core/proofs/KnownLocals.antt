@@ -1,5 +1,5 @@
 -- No point speaks of a local that isn't known there.
-use Rattle.std.proofs.Common.{◌≡◌, ℕ, ◌+◌, ◌≤◌, arith, Bool, true, false, ◌&&◌, List, [], ◌∷◌, ◌++◌, All, IfSome, slice_index_or, Option, Some, None, if◌then◌else◌, refl}
+use Rattle.std.proofs.Common.{◌≡◌, ℕ, ◌+◌, ◌≤◌, arith, Bool, true, false, ◌&&◌, List, [], ◌∷◌, All, IfSome, slice_index_or, Option, Some, None, if◌then◌else◌, refl}
 use Rattle.std.proofs.lemmas.List.Elements.{All-append, All-cons, All-nil}
 use Rattle.std.proofs.lemmas.Map.Entries.{All-lookup}
 use Rattle.std.specs.Str.{bytes_eq}
@@ -16,16 +16,13 @@ use Rattle.tsa_tree.specs.declared.meaning.Meaning.{Meaning}
 use Rattle.tsa_tree.specs.declared.meaning.Meaning.TheVariants as meant
 use Rattle.tsa_tree.specs.expressions.Syntax.{Expression, number, null, named, call, unary, binary, field, index, Arguments}
 use Rattle.tsa_tree.specs.expressions.Syntax as given
-use Rattle.tsa_tree.specs.points.Syntax.{Deed, declares, evaluates, assigns, tests, switches, jumps, idles, returns, ends, simple_deed}
-use Rattle.tsa_tree.specs.statements.Syntax.{Simple, ForInit, no_init, simple_init, local_init, Statement, block, empty, local, simple, if_alone, if_else, while_loop, do_loop, for_loop, switch, case, otherwise, label, break, continue, goto, return, Statements, none, more}
+use Rattle.tsa_tree.specs.points.Syntax.{Deed, declares, evaluates, assigns, tests, switches, jumps, idles, returns, ends}
 use Rattle.tsa_tree.specs.types.DeclaredTypes.{thing_type}
 use Rattle.tsa_tree.specs.types.Locals.{local_entry, unless_taken}
 use Rattle.tsa_tree.specs.types.Operands.{integer_kind, pointer_kind, unsigned_kind}
 use Rattle.tsa_tree.specs.types.Scopes.{Scope, found, further, is_taken, known_in}
-use Rattle.tsa_tree.specs.types.Statements.{behind, behind_init}
-use Rattle.tsa_tree.specs.types.Targets.{declared_in}
 use Rattle.tsa_scope.specs.Lookups.{params_in}
-use Rattle.tsa_core.specs.Bodies.{Known, known_in_body, knows, known_init, known_step, known, known_all, declared, right_side, set_to}
+use Rattle.tsa_core.specs.Bodies.{known_in_body, knows, declared, right_side, set_to}
 use Rattle.tsa_core.specs.Laws.{SpeaksBelow, CallsBelow, ActsBelow, IsBelow, KnowsBelow, PointBelow, PointsSpeakOfKnown}
 use Rattle.tsa_core.specs.Meanings.{Call, is_place, is_cell, loaded, name_term, of_name, of_call, prefix_term, beside, operands, base_of, to_member, meaning, is_int, as_kind, arguments, call_by, call_of, call_in, or_call}
 use Rattle.tsa_core.specs.Terms.{Term, constant, variable, answer, global, member, element, target, load, address, converted, prefixed, joined, Sense}

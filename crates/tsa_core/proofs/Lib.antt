@@ -10,3 +10,4 @@ pub mod KnownLocals
 pub mod LocalLists
 pub mod Beginnings
 pub mod FunctionNumbers
+pub mod Followed

@@ -98,6 +98,11 @@ abbrev pub PointsGoOn : Type 0
 PointsGoOn = (here : Scope) (body : Statements) (n : ℕ) (k : Known) (o : Outcome) → slice_get (known_in_body here body) n ≡ Some k
     → goes k o ≡ true → is_chosen o ≡ false → is_some (next_point (body_edges here body) n o) ≡ true
 
+-- the point that an edge leads to is the next one for its outcome, but for a switch, where the first case of a value counts
+abbrev pub EdgesAreFollowed : Type 0
+EdgesAreFollowed = (here : Scope) (body : Statements)
+    → All (λ e. is_choice e.outcome ≡ false → next_point (body_edges here body) e.from e.outcome ≡ Some e.to) (body_edges here body)
+
 -- Locals that are spoken of have lower numbers than a bound.
 abbrev pub SpeaksBelow : ℕ → Term → Type 0
 SpeaksBelow n (constant v) = Unit {0}

@@ -1,6 +1,6 @@
 //! Laws of the core program.
 ghost use Rattle.tsa_core.specs.Examples.{ControlIsAsWritten, PointsAreAsWritten, UsesAreAsWritten, ProgramsAreAsWritten};
-ghost use Rattle.tsa_core.specs.Laws.{PointsAreThoseOfTheText, TermsHaveTheirTypes, EdgesStayInside, FunctionsAreNumbered, OutcomesAreOfTheActions, OutcomesAreOfThePoints, LocalsAreListed, PointsGoOn, PointsSpeakOfKnown, BodiesBeginBelow, UsesStandBesidePoints};
+ghost use Rattle.tsa_core.specs.Laws.{PointsAreThoseOfTheText, TermsHaveTheirTypes, EdgesStayInside, EdgesAreFollowed, FunctionsAreNumbered, OutcomesAreOfTheActions, OutcomesAreOfThePoints, LocalsAreListed, PointsGoOn, PointsSpeakOfKnown, BodiesBeginBelow, UsesStandBesidePoints};
 
 /// A body has the points of its text, and does at each of them what the text does.
 pub fn points_are_those_of_the_text()
@@ -75,4 +75,9 @@ pub fn functions_are_numbered()
 /// What a function uses stands beside its points, one by one.
 pub fn uses_stand_beside_points()
     ensures { UsesStandBesidePoints }
+{}
+
+/// The control of a body is the graph of its next points: where an edge's outcome is no choice of a switch, the next point is the one to which it leads.
+pub fn edges_are_followed()
+    ensures { EdgesAreFollowed }
 {}

@@ -1,0 +1,5 @@
+use Rattle.tsa_core.proofs.Followed.{edges_are_followed}
+use Rattle.tsa_core.proofs.laws.edges_are_followed.Goals as goal
+
+pub returns : goal.returns
+returns c = edges_are_followed
