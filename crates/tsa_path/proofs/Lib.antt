@@ -5,3 +5,4 @@ pub mod Elements
 pub mod Keeping
 pub mod Numbers
 pub mod Examples
+pub mod Written

@@ -5,3 +5,4 @@ pub mod Laws
 pub mod PathTexts
 pub mod Labels
 pub mod Examples
+pub mod Written

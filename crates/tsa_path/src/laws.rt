@@ -2,6 +2,7 @@
 ghost use Rattle.tsa_path.specs.Examples.{SubstitutionsAreAsWritten, TextsAreAsWritten};
 ghost use Rattle.tsa_path.specs.Laws.{SameBitsSameElements, SubstitutionKeepsTheMeaning};
 ghost use Rattle.tsa_path.specs.PathTables.{NumbersStay, TableHoldsDifferentPaths, TableStaysWithinItsLimit};
+ghost use Rattle.tsa_path.specs.Written.{LocksAreAsWritten};
 ghost use Rattle.tsa_path.specs.Sameness.{SameWaysAreEqual};
 
 /// Where a callee's locals are the values of a call's arguments, a path of the callee there and its substituted path in the caller lead to the same
@@ -31,4 +32,9 @@ pub fn paths_keep_their_numbers()
 pub fn paths_are_as_written()
     ensures substitutions { SubstitutionsAreAsWritten }
     ensures texts { TextsAreAsWritten }
+{}
+
+/// Lock expressions of attributes have the paths whose texts stand beside them, or none.
+pub fn locks_are_as_written()
+    ensures { LocksAreAsWritten }
 {}

@@ -12,7 +12,7 @@ mod trail;
 
 pub use key::is_same;
 pub use laws::{
-    paths_are_as_written, paths_are_told_apart, paths_keep_their_numbers,
+    locks_are_as_written, paths_are_as_written, paths_are_told_apart, paths_keep_their_numbers,
     substitution_keeps_the_meaning,
 };
 pub use names::{Named, PathNames};
