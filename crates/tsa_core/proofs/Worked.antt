@@ -76,6 +76,7 @@ uses_are_as_written = record {
   without_an_owner = refl;
   by_an_index = refl;
   by_an_index_that_changes = refl;
+  on_the_way_to_a_write = refl;
   along_pointers = refl;
   without_a_path = refl;
   of_an_address = refl;

@@ -27,9 +27,11 @@ pub record Access : Type 0 where
   pub is_write : Bool
   pub guards : List (Option Way)
 
--- What a point uses: its accesses in order of the text, and where the arguments of its call lead.
+-- What a point uses: the accesses of an assignment's left side, and those of all else that is worked out, each in order of the text, where an access
+-- stands before those on the way to it; and where the arguments of its call lead. Those of the left side are made after the call.
 pub record Uses : Type 0 where
-  pub accesses : List Access
+  pub left : List Access
+  pub right : List Access
   pub arguments : List (Option Way)
 
 -- a path from the struct object that has the guard goes on from that object's path
@@ -107,9 +109,9 @@ unfoldable mutual
   reads l stable here (unary prefix.Address inner span) = reads_to l stable here inner
   reads l stable here (unary o inner span) = reads l stable here inner
   reads l stable here (binary o left right span) = reads l stable here left ++ reads l stable here right
-  reads l stable here (field base name true span) = reads l stable here base ++ own_access l stable here false (field base name true span)
-  reads l stable here (field base name false span) = reads_to l stable here base ++ own_access l stable here false (field base name false span)
-  reads l stable here (index base at span) = reads_to l stable here base ++ (reads l stable here at ++ own_access l stable here false (index base at span))
+  reads l stable here (field base name true span) = own_access l stable here false (field base name true span) ++ reads l stable here base
+  reads l stable here (field base name false span) = own_access l stable here false (field base name false span) ++ reads_to l stable here base
+  reads l stable here (index base at span) = own_access l stable here false (index base at span) ++ (reads_to l stable here base ++ reads l stable here at)
 
   pub reads_to : Layout → (ℕ → Bool) → Scope → Expression → List Access
   reads_to l stable here (field base name true span) = reads l stable here base
@@ -128,7 +130,7 @@ read_before l stable here None e = []
 read_before l stable here (Some o) e = own_access l stable here false e
 
 abbrev pub written : Layout → (ℕ → Bool) → Scope → Option BinaryOp → Expression → List Access
-written l stable here o e = reads_to l stable here e ++ (read_before l stable here o e ++ own_access l stable here true e)
+written l stable here o e = read_before l stable here o e ++ (own_access l stable here true e ++ reads_to l stable here e)
 
 -- where the arguments of a call lead, for the parameters of its function
 abbrev pub argument_ways : (ℕ → Bool) → Scope → List ThingType → Arguments → List (Option Way)
@@ -155,10 +157,10 @@ abbrev or_none : Option (List (Option Way)) → List (Option Way)
 or_none None = []
 or_none (Some ways) = ways
 
-abbrev pub uses : List Access → List (Option Way) → Uses
-uses accesses arguments = record { accesses = accesses; arguments = arguments }
+abbrev pub uses : (right : List Access) → List (Option Way) → Uses
+uses right arguments = record { left = []; right = right; arguments = arguments }
 
--- what is used for the value of an expression, and what an assignment uses: its left side stands first in the text
+-- what is used for the value of an expression, and what an assignment uses
 abbrev pub value_uses : Layout → (ℕ → Bool) → Scope → Expression → Uses
 value_uses l stable here e = uses (reads l stable here e) (or_none (call_ways stable here e))
 
@@ -173,7 +175,11 @@ init_uses l stable here init = uses [] []
 abbrev pub uses_by : Layout → (ℕ → Bool) → Scope → Deed → Uses
 uses_by l stable here (declares d) = init_uses l stable here d.init
 uses_by l stable here (evaluates e) = value_uses l stable here e
-uses_by l stable here (assigns left o right) = uses (written l stable here o left ++ reads l stable here right) (or_none (call_ways stable here right))
+uses_by l stable here (assigns left o right) = record {
+  left = written l stable here o left;
+  right = reads l stable here right;
+  arguments = or_none (call_ways stable here right);
+}
 uses_by l stable here (tests e) = given_uses l stable here e
 uses_by l stable here (switches e) = uses (reads l stable here e) []
 uses_by l stable here jumps = uses [] []
