@@ -11,3 +11,11 @@ pub mod LocalLists
 pub mod Beginnings
 pub mod FunctionNumbers
 pub mod Followed
+pub mod KindTests
+pub mod KindsOfOperators
+pub mod KindsOfTerms
+pub mod NoFailure
+pub mod ScopesAlike
+pub mod UnitScopes
+pub mod BodyScopes
+pub mod ScopesBelong

@@ -52,7 +52,7 @@ found_numbered : (name : List ℕ) (ms : Members) (k : ℕ) → found ms name �
 found_numbered name [] k = refl
 found_numbered name (m ∷ rest) k = found_step _ k m.1 _ _ (found_numbered name rest (suc k))
 
-member_numbered : (here : Scope) (struct : ℕ) (name : List ℕ) → (context_of here).member struct name ≡ option_map (λ m. m.1) (numbered (members_at here struct) name 0)
+pub member_numbered : (here : Scope) (struct : ℕ) (name : List ℕ) → (context_of here).member struct name ≡ option_map (λ m. m.1) (numbered (members_at here struct) name 0)
 member_numbered here struct name = by (slice_get here.structs struct) refl
   where
     by : (o : Option Members) → slice_get here.structs struct ≡ o → (context_of here).member struct name ≡ option_map (λ m. m.1) (numbered (members_at here struct) name 0)

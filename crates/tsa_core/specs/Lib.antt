@@ -5,4 +5,6 @@ pub mod Bodies
 pub mod Uses
 pub mod Programs
 pub mod Laws
+pub mod Kinds
+pub mod KindLaws
 pub mod Examples

@@ -1,5 +1,7 @@
 //! Laws of the core program.
 ghost use Rattle.tsa_core.specs.Examples.{ControlIsAsWritten, PointsAreAsWritten, UsesAreAsWritten, ProgramsAreAsWritten};
+ghost use Rattle.tsa_core.specs.KindLaws.{ScopesBelong};
+ghost use Rattle.tsa_core.specs.Kinds.{TermsHaveTheirKinds};
 ghost use Rattle.tsa_core.specs.Laws.{PointsAreThoseOfTheText, TermsHaveTheirTypes, EdgesStayInside, EdgesAreFollowed, FunctionsAreNumbered, OutcomesAreOfTheActions, OutcomesAreOfThePoints, LocalsAreListed, PointsGoOn, PointsSpeakOfKnown, BodiesBeginBelow, UsesStandBesidePoints};
 
 /// A body has the points of its text, and does at each of them what the text does.
@@ -80,4 +82,14 @@ pub fn uses_stand_beside_points()
 /// The control of a body is the graph of its next points: where an edge's outcome is no choice of a switch, the next point is the one to which it leads.
 pub fn edges_are_followed()
     ensures { EdgesAreFollowed }
+{}
+
+/// What a typed expression means has the kind that the type says, where names belong to the layout and to the locals.
+pub fn terms_have_their_kinds()
+    ensures { TermsHaveTheirKinds }
+{}
+
+/// At each point of a body what is known belongs to the layout of the unit and to the locals of the body.
+pub fn scopes_belong()
+    ensures { ScopesBelong }
 {}

@@ -1,0 +1,27 @@
+-- Laws of kinds in bodies: what is known at their points belongs to the layout of the unit and to their locals.
+use Rattle.std.specs.Prelude.{◌≡◌, ℕ, List, ◌++◌, All, map, Option, Some, slice_get}
+use Rattle.tsa_tree.specs.declared.kind.Kind.{Kind}
+use Rattle.tsa_tree.specs.types.DeclaredTypes.{thing_type}
+use Rattle.tsa_tree.specs.types.Runnable.{Runnable}
+use Rattle.tsa_tree.specs.types.Units.{outset}
+use Rattle.tsa_tree.specs.units.Syntax.{UnitItem}
+use Rattle.tsa_layout.specs.Calls.{Layout}
+use Rattle.tsa_place.specs.Leading.{HasPlaces}
+use Rattle.tsa_core.specs.Bodies.{known_in_body}
+use Rattle.tsa_core.specs.Kinds.{Setting, Belongs}
+use Rattle.tsa_core.specs.Programs.{Bodied, bodied_function, body_in}
+
+-- the kinds of the locals of a body: its parameters, and then those that it declares
+abbrev pub param_kinds : Bodied → List Kind
+param_kinds b = map (λ p. (thing_type b.here p.ctype).kind) b.head.params
+
+abbrev pub kinds_of : Bodied → List Kind
+kinds_of b = param_kinds b ++ (body_in b).locals
+
+abbrev pub setting : Layout → Bodied → Option Kind → Setting
+setting l b given = record { layout = l; locals = slice_get (kinds_of b); answer = given }
+
+-- at each point of a body of a unit what is known belongs to the layout of the unit and to the locals of the body
+abbrev pub ScopesBelong : Type 0
+ScopesBelong = (items : List UnitItem) (name : List ℕ) (b : Bodied) (l : Layout) (given : Option Kind) → Runnable items → HasPlaces items l
+    → bodied_function name (outset items) items ≡ Some b → All (λ k. Belongs k.here (setting l b given)) (known_in_body b.here b.body)
