@@ -25,6 +25,7 @@ module _ (k : Setting) where
     pub small : is_place x ≡ false → is_small t.thing ≡ true
     pub value : is_place x ≡ false → is_value_kind t.thing.kind ≡ true → value_kind k x ≡ Some t.thing.kind
     pub zero : t.is_zero ≡ true → integer_kind t.thing.kind ≡ true
+    pub there : is_place x ≡ false → is_some (value_kind k x) ≡ true
 
   pub a_value : (x : Term) (kind : Kind) → is_place x ≡ false → scalar_kind kind ≡ true → value_kind k x ≡ Some kind → Holds x (value kind)
   a_value x kind alone scalar is = record {
@@ -32,10 +33,11 @@ module _ (k : Setting) where
     small = λ e. and_true (is_scalar_kind kind) true (scalar_small kind (scalar_plain kind scalar).0) refl;
     value = λ e f. is;
     zero = λ e. never (sym e);
+    there = λ e. ap is_some is;
   }
 
   pub a_place : (x : Term) (t : ExpressionType) → is_place x ≡ true → t.is_zero ≡ false → place_type k x ≡ Some t.thing → Holds x t
-  a_place x t there plain is = record { place = λ e. is; small = λ e. never (sym there ∙ e); value = λ e f. never (sym there ∙ e); zero = λ e. never (sym e ∙ plain) }
+  a_place x t there plain is = record { place = λ e. is; small = λ e. never (sym there ∙ e); value = λ e f. never (sym there ∙ e); zero = λ e. never (sym e ∙ plain); there = λ e. never (sym there ∙ e) }
 
   -- the value of a cell, or a value itself
   chosen : (x : Term) (stable : Bool) (t : ThingType) (p c : Bool) → is_cell t ≡ true → c ≡ true → (p ≡ true → place_type k x ≡ Some t) → (p ≡ false → value_kind k x ≡ Some t.kind)

@@ -29,13 +29,13 @@ use Rattle.tsa_core.proofs.KindsOfOperators.{Holds, a_value, a_place, integer_lo
 use Rattle.tsa_core.proofs.TypedTerms.{some_same, terms_have_types, member_numbered}
 
 -- What has a type has parts with types, and breaks no rule.
-of_one : (f : ExpressionType → ExpressionType) (b : Bool) (o : Option ExpressionType) (t : ExpressionType) → unless b (option_map f o) ≡ Some t
+pub of_one : (f : ExpressionType → ExpressionType) (b : Bool) (o : Option ExpressionType) (t : ExpressionType) → unless b (option_map f o) ≡ Some t
     → (b ≡ false) × ((x : ExpressionType) × (o ≡ Some x))
 of_one f true o t e = cc
 of_one f false None t e = cc
 of_one f false (Some x) t e = (refl, (x, refl))
 
-of_two : (f : ExpressionType → ExpressionType → ExpressionType) (b : Bool) (o p : Option ExpressionType) (t : ExpressionType) → unless b (both f o p) ≡ Some t
+pub of_two : (f : ExpressionType → ExpressionType → ExpressionType) (b : Bool) (o p : Option ExpressionType) (t : ExpressionType) → unless b (both f o p) ≡ Some t
     → (b ≡ false) × (((x : ExpressionType) × (o ≡ Some x)) × ((y : ExpressionType) × (p ≡ Some y)))
 of_two f true o p t e = cc
 of_two f false None p t e = cc
@@ -71,7 +71,7 @@ map_at f [] (suc i) = refl
 map_at f (x ∷ xs) zero = refl
 map_at f (x ∷ xs) (suc i) = map_at f xs i
 
-typed : (here : Scope) (e : Expression) (x : ExpressionType) → type_of (context_of here) e ≡ Some x → type_of (context_of here) e ≡ Some (meaning here e).type
+pub typed : (here : Scope) (e : Expression) (x : ExpressionType) → type_of (context_of here) e ≡ Some x → type_of (context_of here) e ≡ Some (meaning here e).type
 typed here e x h = h ∙ ap (λ t. Some t) (sym (terms_have_types here e x h))
 
 not_above : (n m : ℕ) → nat_lt n m ≡ true → nat_le m n ≡ false
@@ -168,14 +168,14 @@ module _ (here : Scope) (k : Setting) (b : Belongs here k) where
 
   -- names, calls and numbers
   no_value : (kind : Kind) → is_small (single kind false) ≡ true → is_value_kind kind ≡ false → Holds k null_pointer (value kind)
-  no_value kind small none = record { place = λ e. never (sym e); small = λ e. small; value = λ e f. never (sym f ∙ none); zero = λ e. never (sym e) }
+  no_value kind small none = record { place = λ e. never (sym e); small = λ e. small; value = λ e f. never (sym f ∙ none); zero = λ e. never (sym e); there = λ e. refl }
 
   entry_holds : (name : List ℕ) (m : Meaning) (t : ThingType) → known_in here name ≡ Some (record { meaning = m; thing = t })
       → Holds k (name_term m) (entry_type (record { meaning = m; thing = t }))
   entry_holds name (meant.Global n) t e = a_place k (global n) (place t) refl refl (b.global_is name (record { meaning = meant.Global n; thing = t }) n e refl)
   entry_holds name (meant.Local n) t e =
       let is = b.local_is name (record { meaning = meant.Local n; thing = t }) n e refl in
-      record { place = λ e. never (sym e); small = λ e. is.1; value = λ e f. is.0; zero = λ e. never (sym e) }
+      record { place = λ e. never (sym e); small = λ e. is.1; value = λ e f. is.0; zero = λ e. never (sym e); there = λ e. ap is_some is.0 }
   entry_holds name (meant.Function n) t e = no_value type.Function refl refl
   entry_holds name meant.Owned t e = absurd (b.none_owned name (record { meaning = meant.Owned; thing = t }) e refl)
   entry_holds name (meant.Constant z) t e = a_value k (name_term (meant.Constant z)) type.Int refl refl refl
@@ -190,15 +190,15 @@ module _ (here : Scope) (k : Setting) (b : Belongs here k) where
 
   call_holds : (o : Option Entry) → GivesAnswer k o → Holds k (of_call o).term (of_call o).type
   call_holds None g = null_holds
-  call_holds (Some x) g = record { place = λ e. never (sym e); small = λ e. g.1; value = λ e f. g.0; zero = λ e. never (sym e) }
+  call_holds (Some x) g = record { place = λ e. never (sym e); small = λ e. g.1; value = λ e f. g.0; zero = λ e. never (sym e); there = λ e. ap is_some g.0 }
 
   number_holds : (n : ℕ) (u : Bool) → is_value n u ≡ true → Holds k (constant (of_number (number_value n u))) (number_type n u)
-  number_holds n true e = record { place = λ e. never (sym e); small = λ e. refl; value = λ e f. refl; zero = λ e. refl }
+  number_holds n true e = record { place = λ e. never (sym e); small = λ e. refl; value = λ e f. refl; zero = λ e. refl; there = λ e. refl }
   number_holds n false e = by _ (not_above n _ e)
     where
       by : (above : Bool) → above ≡ false → Holds k (constant (of_number (if above then numeral.Unsigned n else numeral.Int (pos n)))) (number_type n false)
       by true e = never e
-      by false e = record { place = λ e. never (sym e); small = λ e. refl; value = λ e f. refl; zero = λ e. refl }
+      by false e = record { place = λ e. never (sym e); small = λ e. refl; value = λ e f. refl; zero = λ e. refl; there = λ e. refl }
 
   module _ (aliases : Aliases) where
     pub holds : (e : Expression) → SoundExpression aliases e → GiveAnswer here k e → (t : ExpressionType) → type_of (context_of here) e ≡ Some t

@@ -19,3 +19,9 @@ pub mod ScopesAlike
 pub mod UnitScopes
 pub mod BodyScopes
 pub mod ScopesBelong
+pub mod ValuesServe
+pub mod CallsHold
+pub mod DeedsHold
+pub mod FactsKnown
+pub mod SignaturesFit
+pub mod PointsHold

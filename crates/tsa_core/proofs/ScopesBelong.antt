@@ -12,7 +12,7 @@ use Rattle.tsa_tree.specs.statements.Syntax.{Simple, ForInit, no_init, simple_in
 use Rattle.tsa_tree.specs.types.DeclaredTypes.{thing_type}
 use Rattle.tsa_tree.specs.types.Locals.{local_entry, unless_taken, behind_local}
 use Rattle.tsa_tree.specs.types.Runnable.{is_small, is_whole_init, is_condition, is_condition_given, is_free, local_runs, init_runs, step_runs, statement_runs, statements_run}
-use Rattle.tsa_tree.specs.types.Scopes.{Scope, found, context_of, further, is_taken, known_in}
+use Rattle.tsa_tree.specs.types.Scopes.{Scope, found, context_of, further, is_taken, known_in, with_name}
 use Rattle.tsa_tree.specs.types.Statements.{behind, behind_init}
 use Rattle.tsa_tree.specs.types.Targets.{declared_in}
 use Rattle.tsa_layout.specs.Calls.{Layout}
@@ -71,14 +71,17 @@ listed before n (k ∷ ks) same h =
     )
 
 -- What is known at a place, and behind what stands there.
-module _ (l : Layout) (kinds : List Kind) where
+module _ (l : Layout) (kinds : List Kind) (P : Scope → Type 0) (further_kept : (n : ℕ) (here : Scope) → P here → P (further n here))
+    (local_kept : (here : Scope) (d : Declaration) → P here → P (with_name d.name.text (local_entry here d) here)) where
   pub record Stands (here : Scope) : Type 0 where
     pub members : MembersFit l here
     pub owned : here.owned ≡ []
     pub names : NamesFit l (slice_get kinds) here
+    -- what else is kept
+    pub more : P here
 
   further_stands : (n : ℕ) (here : Scope) → Stands here → Stands (further n here)
-  further_stands n here h = record { members = h.members; owned = h.owned; names = h.names }
+  further_stands n here h = record { members = h.members; owned = h.owned; names = h.names; more = further_kept n here h.more }
 
   local_stands : (here : Scope) (d : Declaration) (taken : Bool) → slice_get kinds here.locals ≡ Some (thing_type here d.ctype).kind → is_small (thing_type here d.ctype) ≡ true → Stands here
       → Stands (further 1 (unless_taken taken d.name.text (local_entry here d) here))
@@ -87,6 +90,7 @@ module _ (l : Layout) (kinds : List Kind) where
     members = h.members;
     owned = h.owned;
     names = name_fits l (slice_get kinds) here d.name.text (local_entry here d) (is, small) h.names;
+    more = further_kept 1 (with_name d.name.text (local_entry here d) here) (local_kept here d h.more);
   }
 
   declared_stands : (here : Scope) (d : Declaration) → IsListed kinds here (declares d) → local_runs here d ≡ true → Stands here → Stands (behind_local here d)
@@ -138,11 +142,11 @@ module _ (l : Layout) (kinds : List Kind) where
       none_owned = λ name e is means. subst (λ m. FitsBy l (slice_get kinds) m e.thing) means (found_fits here name e h is);
     }
 
-    abbrev Belong : Known → Type 0
-    Belong k = Belongs k.here own
+    abbrev pub Belong : Known → Type 0
+    Belong k = Belongs k.here own × P k.here
 
     one : (here : Scope) (d : Deed) (ks : List Known) → Stands here → All Belong ks → All Belong (knows here d ∷ ks)
-    one here d ks h rest = All-cons Belong (knows here d) ks (belongs here h) rest
+    one here d ks h rest = All-cons Belong (knows here d) ks (belongs here h, h.more) rest
 
     alone : (here : Scope) (d : Deed) → Stands here → All Belong (knows here d ∷ [])
     alone here d h = one here d [] h (All-nil Belong)
@@ -218,15 +222,28 @@ map_length : {A B : Type 0} (f : A → B) (xs : List A) → length (map f xs) �
 map_length f [] = refl
 map_length f (x ∷ xs) = ap suc (map_length f xs)
 
-pub body_belongs : (b : Bodied) (l : Layout) (given : Option Kind) → Begun b l → All (λ k. Belongs k.here (setting l b given)) (known_in_body b.here b.body)
-body_belongs b l given begun =
-    let ks = known_all b.here b.body in
-    let kinds = kinds_of b in
-    let long : b.here.locals ≡ length (param_kinds b) = begun.numbered ∙ sym (map_length (λ p. (thing_type b.here p.ctype).kind) b.head.params) in
-    let numbered = (locals_are_listed b.here (thing_type b.here b.head.result).kind b.body).1.0 in
-    let is = each_part (Listed kinds) ks (knows b.here ends ∷ []) (listed (param_kinds b) b.here.locals (known_in_body b.here b.body) long numbered) in
-    let h : Stands l kinds b.here = record { members = begun.members; owned = begun.owned; names = begun.names } in
-    All-append (Belong l kinds given) ks (knows b.here ends ∷ []) (all_belong l kinds given b.here b.body is.0 begun.runs h) (alone l kinds given b.here ends h)
+module _ (b : Bodied) (l : Layout) (begun : Begun b l) where
+  abbrev all_known : List Known
+  all_known = known_all b.here b.body
+
+  pub body_listed : Each (Listed (kinds_of b)) (known_in_body b.here b.body)
+  body_listed =
+      let long : b.here.locals ≡ length (param_kinds b) = begun.numbered ∙ sym (map_length (λ p. (thing_type b.here p.ctype).kind) b.head.params) in
+      listed (param_kinds b) b.here.locals (known_in_body b.here b.body) long (locals_are_listed b.here (thing_type b.here b.head.result).kind b.body).1.0
+
+  module _ (P : Scope → Type 0) (further_kept : (n : ℕ) (here : Scope) → P here → P (further n here))
+      (local_kept : (here : Scope) (d : Declaration) → P here → P (with_name d.name.text (local_entry here d) here)) where
+    pub body_belongs : (given : Option Kind) → P b.here → All (λ k. Belongs k.here (setting l b given) × P k.here) (known_in_body b.here b.body)
+    body_belongs given kept =
+        let kinds = kinds_of b in
+        let is = each_part (Listed kinds) all_known (knows b.here ends ∷ []) body_listed in
+        let h : Stands l kinds P further_kept local_kept b.here = record { members = begun.members; owned = begun.owned; names = begun.names; more = kept } in
+        All-append (Belong l kinds P further_kept local_kept given) all_known (knows b.here ends ∷ [])
+        (all_belong l kinds P further_kept local_kept given b.here b.body is.0 begun.runs h) (alone l kinds P further_kept local_kept given b.here ends h)
+
+abbrev Nothing : Scope → Type 0
+Nothing here = Unit {0}
 
 pub scopes_belong : ScopesBelong
-scopes_belong items name b l given runs placed is = body_belongs b l given (unit_begins items name b l runs placed is)
+scopes_belong items name b l given runs placed is k d less =
+    (body_belongs b l (unit_begins items name b l runs placed is) Nothing (λ n here h. tt) (λ here d h. tt) given tt k d less).0

@@ -1,15 +1,18 @@
--- Laws of kinds in bodies: what is known at their points belongs to the layout of the unit and to their locals.
-use Rattle.std.specs.Prelude.{◌≡◌, ℕ, List, ◌++◌, All, map, Option, Some, slice_get}
+-- Laws of kinds in bodies: what is known at their points belongs to the layout of the unit and to their locals, and what is done there has the kinds that
+-- are wanted.
+use Rattle.std.specs.Prelude.{◌≡◌, ℕ, List, [], ◌++◌, All, map, Option, Some, option_map, slice_get}
 use Rattle.tsa_tree.specs.declared.kind.Kind.{Kind}
 use Rattle.tsa_tree.specs.types.DeclaredTypes.{thing_type}
 use Rattle.tsa_tree.specs.types.Runnable.{Runnable}
 use Rattle.tsa_tree.specs.types.Units.{outset}
+use Rattle.tsa_tree.specs.units.Sound.{SoundItems}
 use Rattle.tsa_tree.specs.units.Syntax.{UnitItem}
 use Rattle.tsa_layout.specs.Calls.{Layout}
 use Rattle.tsa_place.specs.Leading.{HasPlaces}
 use Rattle.tsa_core.specs.Bodies.{known_in_body}
 use Rattle.tsa_core.specs.Kinds.{Setting, Belongs}
-use Rattle.tsa_core.specs.Programs.{Bodied, bodied_function, body_in}
+use Rattle.tsa_core.specs.PointKinds.{Signatures, PointHolds}
+use Rattle.tsa_core.specs.Programs.{Program, program_of, Bodied, bodied_function, body_in}
 
 -- the kinds of the locals of a body: its parameters, and then those that it declares
 abbrev pub param_kinds : Bodied → List Kind
@@ -25,3 +28,17 @@ setting l b given = record { layout = l; locals = slice_get (kinds_of b); answer
 abbrev pub ScopesBelong : Type 0
 ScopesBelong = (items : List UnitItem) (name : List ℕ) (b : Bodied) (l : Layout) (given : Option Kind) → Runnable items → HasPlaces items l
     → bodied_function name (outset items) items ≡ Some b → All (λ k. Belongs k.here (setting l b given)) (known_in_body b.here b.body)
+
+-- what the functions of a program give and take
+abbrev pub signatures : Program → Signatures
+signatures p = record {
+  result = λ n. option_map (λ f. f.result) (slice_get p.functions n);
+  params = λ n. option_map (λ f. map (λ t. t.kind) f.params) (slice_get p.functions n);
+}
+
+-- at each point of a body of a unit the terms of the action and of the call have the kinds that are wanted: by the layout of the unit, the locals and the
+-- result of the body, and the functions of the program
+abbrev pub PointsHaveTheirKinds : Type 0
+PointsHaveTheirKinds = (items : List UnitItem) (name : List ℕ) (b : Bodied) (l : Layout) → SoundItems [] items → Runnable items → HasPlaces items l
+    → bodied_function name (outset items) items ≡ Some b
+    → All (PointHolds (signatures (program_of items)) l (slice_get (kinds_of b)) (thing_type b.here b.head.result).kind) (body_in b).points

@@ -6,5 +6,6 @@ pub mod Uses
 pub mod Programs
 pub mod Laws
 pub mod Kinds
+pub mod PointKinds
 pub mod KindLaws
 pub mod Examples

@@ -1,6 +1,6 @@
 //! Laws of the core program.
 ghost use Rattle.tsa_core.specs.Examples.{ControlIsAsWritten, PointsAreAsWritten, UsesAreAsWritten, ProgramsAreAsWritten};
-ghost use Rattle.tsa_core.specs.KindLaws.{ScopesBelong};
+ghost use Rattle.tsa_core.specs.KindLaws.{ScopesBelong, PointsHaveTheirKinds};
 ghost use Rattle.tsa_core.specs.Kinds.{TermsHaveTheirKinds};
 ghost use Rattle.tsa_core.specs.Laws.{PointsAreThoseOfTheText, TermsHaveTheirTypes, EdgesStayInside, EdgesAreFollowed, FunctionsAreNumbered, OutcomesAreOfTheActions, OutcomesAreOfThePoints, LocalsAreListed, PointsGoOn, PointsSpeakOfKnown, BodiesBeginBelow, UsesStandBesidePoints};
 
@@ -92,4 +92,9 @@ pub fn terms_have_their_kinds()
 /// At each point of a body what is known belongs to the layout of the unit and to the locals of the body.
 pub fn scopes_belong()
     ensures { ScopesBelong }
+{}
+
+/// At each point of a body the terms of the action and of the call have the kinds that are wanted there.
+pub fn points_have_their_kinds()
+    ensures { PointsHaveTheirKinds }
 {}
