@@ -1,5 +1,5 @@
 -- Where a body of a typed unit begins, what is known belongs to the layout of the unit and to the kinds of the body's locals.
-use Rattle.std.proofs.Common.{◌≡◌, ◌∙◌, ℕ, zero, suc, ◌+◌, arith, Bool, true, false, not, ◌&&◌, List, [], ◌∷◌, ◌++◌, length, map, Option, Some, None, is_some, slice_get, Result, Ok, if◌then◌else◌, refl, sym, ap, ap₂, subst}
+use Rattle.std.proofs.Common.{◌≡◌, ◌∙◌, ℕ, zero, suc, ◌+◌, arith, Bool, true, false, not, ◌&&◌, List, [], ◌∷◌, length, Option, Some, None, is_some, slice_get, Result, Ok, if◌then◌else◌, refl, sym, ap, ap₂, subst}
 use Rattle.std.proofs.lemmas.List.Elements.{All-nil}
 use Rattle.std.specs.Str.{bytes_eq}
 use Rattle.tsa_base.specs.declared.token.Span.{Span}
@@ -25,6 +25,7 @@ use Rattle.tsa_tree.specs.units.Syntax.{UnitItem, structure_item, alias_item, en
 use Rattle.tsa_layout.specs.Calls.{Layout}
 use Rattle.tsa_place.specs.Leading.{HasPlaces}
 use Rattle.tsa_place.specs.Units.{behind_data, data_placed, too_many_at, or_behind, placed_behind, no_places}
+use Rattle.tsa_core.proofs.MappedLists.{map_front}
 use Rattle.tsa_core.specs.KindLaws.{kinds_of}
 use Rattle.tsa_core.specs.Programs.{Bodied, bodied_by, bodied_function, body_in}
 use Rattle.tsa_core.specs.Programs as program
@@ -32,7 +33,8 @@ use Rattle.tsa_core.proofs.KindTests.{both_true}
 use Rattle.tsa_core.proofs.NoFailure.{none_of_both}
 use Rattle.tsa_core.proofs.ScopesAlike.{Alike}
 use Rattle.tsa_core.proofs.TypedTerms.{some_same}
-use Rattle.tsa_core.proofs.UnitScopes.{or_other, found_append, item_alike, head_alike, NamesFit, MembersFit, Fits, Laid, Grows, grows_same, grows_more, item_grows, names_more, members_more, named_fits, laid_head, item_laid}
+use Rattle.tsa_core.proofs.LaidScopes.{NamesFit, MembersFit, Fits, IsLaidOut, Grows, grows_same, grows_more, item_grows, names_more, members_more, named_fits, laid_head, item_laid}
+use Rattle.tsa_core.proofs.UnitScopes.{or_other, found_append, item_alike, head_alike}
 
 -- Scopes in which the same types are written: they differ by names that are none of types.
 pub record SameTypes (s t : Scope) : Type 0 where
@@ -45,7 +47,7 @@ same_types s = record { tags = refl; aliases = λ span name. refl }
 other_way : (s t : Scope) → SameTypes s t → SameTypes t s
 other_way s t h = record { tags = sym h.tags; aliases = λ span name. sym (h.aliases span name) }
 
-through : (s t u : Scope) → SameTypes s t → SameTypes t u → SameTypes s u
+pub through : (s t u : Scope) → SameTypes s t → SameTypes t u → SameTypes s u
 through s t u h g = record { tags = g.tags ∙ h.tags; aliases = λ span name. g.aliases span name ∙ h.aliases span name }
 
 last_no_type : (span : Span) (o : Option Entry) (e : Entry) (b : Bool) → of_alias span (Some e) ≡ written.Unknown span → of_alias span (or_other o (if b then Some e else None)) ≡ of_alias span o
@@ -53,13 +55,13 @@ last_no_type span (Some x) e b h = refl
 last_no_type span None e true h = h
 last_no_type span None e false h = refl
 
-with_no_type : (s : Scope) (name : List ℕ) (e : Entry) → ((span : Span) → of_alias span (Some e) ≡ written.Unknown span) → SameTypes s (with_name name e s)
+pub with_no_type : (s : Scope) (name : List ℕ) (e : Entry) → ((span : Span) → of_alias span (Some e) ≡ written.Unknown span) → SameTypes s (with_name name e s)
 with_no_type s name e h = record {
   tags = refl;
   aliases = λ span other. ap (of_alias span) (found_append s.names ((name, e) ∷ []) other) ∙ last_no_type span (found s.names other) e (bytes_eq other name) (h span);
 }
 
-with_param_types : (s : Scope) (n : ℕ) (p : Parameter) → SameTypes s (with_param n p s)
+pub with_param_types : (s : Scope) (n : ℕ) (p : Parameter) → SameTypes s (with_param n p s)
 with_param_types s n p = by p.name
   where
     by : (name : Option Identifier) → SameTypes s (with_named name (local_entry s n p.ctype) s)
@@ -180,7 +182,7 @@ params_structs s n (p ∷ rest) =
     by (Some name) = (refl, refl)
 
 -- a body where its statements begin
-pub record Begun (b : Bodied) (l : Layout) : Type 0 where
+pub record BeginsIn (b : Bodied) (l : Layout) : Type 0 where
   pub members : MembersFit l b.here
   pub owned : b.here.owned ≡ []
   pub names : NamesFit l (slice_get (kinds_of b)) b.here
@@ -190,17 +192,11 @@ pub record Begun (b : Bodied) (l : Layout) : Type 0 where
   pub typed : first (statements_premises around b.here b.body) ≡ None
   pub runs : statements_run b.here b.body ≡ true
 
-map_front : {A B : Type 0} (f : A → B) (xs : List A) (ys : List B) (j : ℕ) (x : A) → slice_get xs j ≡ Some x → slice_get (map f xs ++ ys) j ≡ Some (f x)
-map_front f [] ys zero x e = absurd cc
-map_front f [] ys (suc j) x e = absurd cc
-map_front f (y ∷ xs) ys zero x e = ap (λ z. Some (f z)) (some_same e)
-map_front f (y ∷ xs) ys (suc j) x e = map_front f xs ys j x e
-
-module _ (all : List UnitItem) (here there : Scope) (head : Head) (body : Statements) (alike : Alike here there) (l m : Layout) (laid : Laid here l) (grows : Grows l m) where
+module _ (all : List UnitItem) (here there : Scope) (head : Head) (body : Statements) (alike : Alike here there) (l m : Layout) (laid : IsLaidOut here l) (grows : Grows l m) where
   abbrev own : Bodied
   own = record { here = inside here head true; head = head; body = body }
 
-  begun : first (body_premises here head body) ≡ None → (head_runs all here head && statements_run (inside here head true) body) ≡ true → Begun own m
+  begun : first (body_premises here head body) ≡ None → (head_runs all here head && statements_run (inside here head true) body) ≡ true → BeginsIn own m
   unfolding body_premises
   begun h runs =
       let before = behind_head here head true in
@@ -246,13 +242,13 @@ placed_grows (item ∷ rest) there l m e =
     (placed_grows rest (behind_data there item) (data_placed there l item) m
     (no_more (too_many_at there l item) (placed_behind (behind_data there item) (data_placed there l item) rest) m e))
 
-first_body : (hit : Bool) (x b : Bodied) (m : Layout) (other : Option Bodied) → Begun x m → (other ≡ Some b → Begun b m) → program.or_body hit x other ≡ Some b → Begun b m
-first_body true x b m other begins later is = subst (λ y. Begun y m) (some_same is) begins
+first_body : (hit : Bool) (x b : Bodied) (m : Layout) (other : Option Bodied) → BeginsIn x m → (other ≡ Some b → BeginsIn b m) → program.or_body hit x other ≡ Some b → BeginsIn b m
+first_body true x b m other begins later is = subst (λ y. BeginsIn y m) (some_same is) begins
 first_body false x b m other begins later is = later is
 
 module _ (all : List UnitItem) (name : List ℕ) (b : Bodied) (m : Layout) where
-  by_item : (here there : Scope) (l : Layout) (item : UnitItem) (other : Option Bodied) → Alike here there → Laid here l → Grows l m → first (item_premises here item) ≡ None
-      → item_runs all here item ≡ true → (other ≡ Some b → Begun b m) → bodied_by name here item other ≡ Some b → Begun b m
+  by_item : (here there : Scope) (l : Layout) (item : UnitItem) (other : Option Bodied) → Alike here there → IsLaidOut here l → Grows l m → first (item_premises here item) ≡ None
+      → item_runs all here item ≡ true → (other ≡ Some b → BeginsIn b m) → bodied_by name here item other ≡ Some b → BeginsIn b m
   by_item here there l (body_item head body close) other alike laid grows h runs later is =
       first_body (bytes_eq name head.name.text) (own all here there head body alike l m laid grows) b m other (begun all here there head body alike l m laid grows h runs) later is
   by_item here there l (structure_item tag alias attrs members span) other alike laid grows h runs later is = later is
@@ -261,8 +257,8 @@ module _ (all : List UnitItem) (name : List ℕ) (b : Bodied) (m : Layout) where
   by_item here there l (global_item d) other alike laid grows h runs later is = later is
   by_item here there l (function_item head) other alike laid grows h runs later is = later is
 
-  items_begin : (items : List UnitItem) (here there : Scope) (l : Layout) → Alike here there → Laid here l → first (items_premises here items) ≡ None
-      → items_run all here items ≡ true → placed_behind there l items ≡ Ok m → bodied_function name here items ≡ Some b → Begun b m
+  items_begin : (items : List UnitItem) (here there : Scope) (l : Layout) → Alike here there → IsLaidOut here l → first (items_premises here items) ≡ None
+      → items_run all here items ≡ true → placed_behind there l items ≡ Ok m → bodied_function name here items ≡ Some b → BeginsIn b m
   unfolding items_premises items_run placed_behind bodied_function
   items_begin [] here there l alike laid h runs e is = absurd cc
   items_begin (item ∷ rest) here there l alike laid h runs e is =
@@ -275,7 +271,7 @@ module _ (all : List UnitItem) (name : List ℕ) (b : Bodied) (m : Layout) where
       (item_laid l here there item alike told.0 laid) told.1 run.1 placed later)
       is
 
-pub unit_begins : (items : List UnitItem) (name : List ℕ) (b : Bodied) (m : Layout) → Runnable items → HasPlaces items m → bodied_function name (outset items) items ≡ Some b → Begun b m
+pub unit_begins : (items : List UnitItem) (name : List ℕ) (b : Bodied) (m : Layout) → Runnable items → HasPlaces items m → bodied_function name (outset items) items ≡ Some b → BeginsIn b m
 unit_begins items name b m runs placed is =
     items_begin items name b m items (outset items) (outset items) no_places
     (record { tags = refl; structs = refl; owned = refl; no_owned = refl; globals = refl; names = λ other. refl })

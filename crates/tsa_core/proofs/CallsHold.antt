@@ -44,7 +44,7 @@ CallsFit sig here = (name : List ℕ) (e : Entry) (n : ℕ) → known_in here na
     → (sig.result n ≡ Some e.thing.kind) × (sig.params n ≡ Some (map (λ p. p.kind) (params_in here n)))
 
 -- a typed call, and what it calls
-pub record Called (here : Scope) (name : List ℕ) (args : Arguments) (t : ExpressionType) : Type 0 where
+pub record IsTypedCall (here : Scope) (name : List ℕ) (args : Arguments) (t : ExpressionType) : Type 0 where
   pub n : ℕ
   pub thing : ThingType
   pub known : known_in here name ≡ Some (record { meaning = meant.Function n; thing = thing })
@@ -59,7 +59,7 @@ module _ (here : Scope) (args : Arguments) (name : List ℕ) (t : ExpressionType
 
   called_by : (m : Meaning) (thing : ThingType) → known_in here name ≡ Some (record { meaning = m; thing = thing })
       → (breaks_call (context_of here) ts (record { meaning = m; thing = thing }) || (miscounts (context_of here) ts (record { meaning = m; thing = thing }) || not (all_typed ts))) ≡ false
-      → result_type (record { meaning = m; thing = thing }) ≡ t → Called here name args t
+      → result_type (record { meaning = m; thing = thing }) ≡ t → IsTypedCall here name args t
   called_by (meant.Function n) thing is e type =
       let a = neither (arguments_break (params_in here n) ts) _ e in
       let b = neither (not (nat_eq (length (params_in here n)) (length ts))) (not (all_typed ts)) a.1 in
@@ -79,18 +79,18 @@ module _ (here : Scope) (args : Arguments) (name : List ℕ) (t : ExpressionType
   called_by meant.TypeName thing is e type = never e
 
   known_called : (o : Option Entry) → known_in here name ≡ o
-      → unless (known_and (breaks_call (context_of here) ts) o || (known_and (miscounts (context_of here) ts) o || not (all_typed ts))) (option_map result_type o) ≡ Some t → Called here name args t
+      → unless (known_and (breaks_call (context_of here) ts) o || (known_and (miscounts (context_of here) ts) o || not (all_typed ts))) (option_map result_type o) ≡ Some t → IsTypedCall here name args t
   known_called o is e = by (known_and (breaks_call (context_of here) ts) o || (known_and (miscounts (context_of here) ts) o || not (all_typed ts))) refl o refl e
     where
       by : (b : Bool) → (known_and (breaks_call (context_of here) ts) o || (known_and (miscounts (context_of here) ts) o || not (all_typed ts))) ≡ b
-          → (p : Option Entry) → o ≡ p → unless b (option_map result_type p) ≡ Some t → Called here name args t
+          → (p : Option Entry) → o ≡ p → unless b (option_map result_type p) ≡ Some t → IsTypedCall here name args t
       by true f p same e = cc
       by false f None same e = cc
       by false f (Some x) same e =
           called_by x.meaning x.thing (is ∙ same)
           (subst (λ p. (known_and (breaks_call (context_of here) ts) p || (known_and (miscounts (context_of here) ts) p || not (all_typed ts))) ≡ false) same f) (some_same e)
 
-pub call_called : (here : Scope) (callee : Identifier) (args : Arguments) (span : Span) (t : ExpressionType) → type_of (context_of here) (call callee args span) ≡ Some t → Called here callee.text args t
+pub call_called : (here : Scope) (callee : Identifier) (args : Arguments) (span : Span) (t : ExpressionType) → type_of (context_of here) (call callee args span) ≡ Some t → IsTypedCall here callee.text args t
 unfolding type_of
 call_called here callee args span t e = known_called here args callee.text t (known_in here callee.text) refl e
 
@@ -145,7 +145,7 @@ module _ (here : Scope) (l : Layout) (locals : ℕ → Option Kind) (sig : Signa
   abbrev pub Holding : Expression → Type 0
   Holding e = CallHolds sig quiet (call_in here e)
 
-  called_is : (callee : Identifier) (args : Arguments) (t : ExpressionType) (c : Called here callee.text args t)
+  called_is : (callee : Identifier) (args : Arguments) (t : ExpressionType) (c : IsTypedCall here callee.text args t)
       → call_of here args (known_in here callee.text) ≡ Some (record { function = c.n; args = arguments here (params_in here c.n) args })
   called_is callee args t c = ap (call_of here args) c.known
 

@@ -1,5 +1,5 @@
 -- What an expression means has the kind that its type says.
-use Rattle.std.proofs.Common.{◌≡◌, ◌∙◌, ℕ, zero, suc, ◌+◌, arith, nat_le, nat_lt, pos, Bool, true, false, ◌||◌, List, [], ◌∷◌, map, Option, Some, None, is_some, option_map, option_and_then, slice_get, if◌then◌else◌, refl, sym, ap, ap₂, subst}
+use Rattle.std.proofs.Common.{◌≡◌, ◌∙◌, ℕ, zero, suc, ◌+◌, arith, nat_le, nat_lt, pos, Bool, true, false, ◌||◌, List, [], ◌∷◌, Option, Some, None, is_some, option_map, option_and_then, slice_get, if◌then◌else◌, refl, sym, ap, ap₂, subst}
 use Rattle.std.proofs.lemmas.Bool.Decides.{nat_tests}
 use Rattle.std.specs.Str.{bytes_eq}
 use Rattle.tsa_tree.specs.declared.kind.ExpressionType.{ExpressionType}
@@ -21,6 +21,7 @@ use Rattle.tsa_tree.specs.types.Scopes.{Scope, Members, context_of, known_in}
 use Rattle.tsa_tree.specs.types.Types.{single, value, place}
 use Rattle.tsa_scope.specs.Lookups.{members_at, numbered}
 use Rattle.tsa_layout.specs.Layouts.{Part, structure_at}
+use Rattle.tsa_core.proofs.MappedLists.{map_at}
 use Rattle.tsa_core.specs.Kinds.{Setting, struct_in, within, member_thing, by_index, place_type, is_value_kind, AgreesBy, Agrees, Belongs, GivesAnswer, GiveAnswer, TermsHaveTheirKinds}
 use Rattle.tsa_core.specs.Meanings.{is_place, loaded, of_number, name_term, of_name, of_call, null_pointer, base_of, to_member, of_field, meaning}
 use Rattle.tsa_core.specs.Terms.{Term, constant, global, member, element, target, Sense}
@@ -64,12 +65,6 @@ member_at name (m ∷ ms) n j t e = by (bytes_eq name m.0) e (member_at name ms 
         let found : (i : ℕ) × ((j ≡ suc n + i) × (option_map (λ m. m.1) (slice_get ms i) ≡ Some t)) = later e in
         let number : j ≡ suc n + found.0 = found.1.0 in
         (suc found.0, (omega (arith, number), found.1.1))
-
-map_at : {A B : Type 0} (f : A → B) (xs : List A) (i : ℕ) → slice_get (map f xs) i ≡ option_map f (slice_get xs i)
-map_at f [] zero = refl
-map_at f [] (suc i) = refl
-map_at f (x ∷ xs) zero = refl
-map_at f (x ∷ xs) (suc i) = map_at f xs i
 
 pub typed : (here : Scope) (e : Expression) (x : ExpressionType) → type_of (context_of here) e ≡ Some x → type_of (context_of here) e ≡ Some (meaning here e).type
 typed here e x h = h ∙ ap (λ t. Some t) (sym (terms_have_types here e x h))

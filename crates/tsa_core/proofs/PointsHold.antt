@@ -1,9 +1,9 @@
 -- At each point of a body of a unit that runs the terms have the kinds that are wanted.
-use Rattle.std.proofs.Common.{◌≡◌, ◌∙◌, ℕ, List, [], ◌∷◌, All, IfSome, slice_index_or, map, Option, Some, None, option_map, slice_get, refl, sym, ap, subst}
+use Rattle.std.proofs.Common.{true, ◌≡◌, ◌∙◌, ℕ, List, [], ◌∷◌, All, IfSome, slice_index_or, map, Option, Some, None, option_map, slice_get, refl, sym, ap, subst}
 use Rattle.std.proofs.lemmas.List.Elements.{All-append, All-cons, All-nil, All-map}
 use Rattle.std.proofs.lemmas.Map.Entries.{All-lookup}
 use Rattle.std.specs.Str.{bytes_eq}
-use Rattle.tsa_tree.specs.declarations.Syntax.{Declaration}
+use Rattle.tsa_tree.specs.declarations.Syntax.{Declaration, DeclaredType}
 use Rattle.tsa_tree.specs.declared.kind.Kind.{Kind}
 use Rattle.tsa_tree.specs.declared.kind.ThingType.{ThingType}
 use Rattle.tsa_tree.specs.declared.meaning.Entry.{Entry}
@@ -16,18 +16,20 @@ use Rattle.tsa_tree.specs.types.Units.{outset}
 use Rattle.tsa_tree.specs.units.Syntax.{UnitItem}
 use Rattle.tsa_layout.specs.Calls.{Layout}
 use Rattle.tsa_place.specs.Units.{placed_in}
+use Rattle.tsa_core.proofs.MappedLists.{map_at}
 use Rattle.tsa_core.specs.Bodies.{Known, knows, known_all, known_in_body, point_of}
 use Rattle.tsa_core.specs.KindLaws.{PointsHaveTheirKinds, signatures, kinds_of, setting}
 use Rattle.tsa_core.specs.Kinds.{Belongs}
 use Rattle.tsa_core.specs.PointKinds.{Signatures, PointHolds}
 use Rattle.tsa_core.specs.Programs.{program_of, layout_or_none, function_in, declared_functions, Bodied, body_in}
-use Rattle.tsa_core.proofs.BodyScopes.{Begun, unit_begins}
+use Rattle.tsa_core.proofs.LaidScopes.{is_written_kind, kind_written}
+use Rattle.tsa_core.proofs.BodyScopes.{with_no_type, kind_kept, BeginsIn, unit_begins}
 use Rattle.tsa_core.proofs.CallsHold.{CallsFit}
 use Rattle.tsa_core.proofs.DeedsHold.{IsListedAt, deed_holds}
 use Rattle.tsa_core.proofs.FactsKnown.{FactsAt, each_both, all_facts}
 use Rattle.tsa_core.proofs.ScopesAlike.{known_found}
-use Rattle.tsa_core.proofs.ScopesBelong.{Each, IsListed, Listed, body_listed, body_belongs}
-use Rattle.tsa_core.proofs.SignaturesFit.{AreOf, CallBy, NamesCall, SoundBody, unit_calls, body_sound, map_at}
+use Rattle.tsa_core.proofs.ScopesBelong.{Each, IsListed, HasListedKind, body_listed, body_belongs}
+use Rattle.tsa_core.proofs.SignaturesFit.{AreOf, CallBy, NamesCall, SoundBody, unit_calls, body_sound}
 use Rattle.tsa_core.proofs.TypedTerms.{some_same}
 
 -- the signatures of a program are those of the functions that its unit declares
@@ -45,7 +47,7 @@ each_all P (k ∷ ks) h = All-cons P k ks h.0 (each_all P ks h.1)
 module _ (sig : Signatures) where
   -- what is kept of calls in a body
   abbrev Calls : Scope → Type 0
-  Calls here = (here.owned ≡ []) × NamesCall sig here
+  Calls here = (here.owned ≡ []) × (NamesCall sig here × ((t : DeclaredType) → is_written_kind (thing_type here t).kind ≡ true))
 
   calls_further : (n : ℕ) (here : Scope) → Calls here → Calls (further n here)
   calls_further n here h = h
@@ -54,19 +56,22 @@ module _ (sig : Signatures) where
   calls_local here d h =
       let there = with_name d.name.text (local_entry here d) here in (
         h.0,
-        All-append (λ x. CallBy sig there x.1.meaning x.1.thing) here.names ((d.name.text, local_entry here d) ∷ []) h.1
-            (All-cons (λ x. CallBy sig there x.1.meaning x.1.thing) (d.name.text, local_entry here d) [] tt (All-nil (λ x. CallBy sig there x.1.meaning x.1.thing))),
+        (
+          All-append (λ x. CallBy sig there x.1.meaning x.1.thing) here.names ((d.name.text, local_entry here d) ∷ []) h.1.0
+              (All-cons (λ x. CallBy sig there x.1.meaning x.1.thing) (d.name.text, local_entry here d) [] tt (All-nil (λ x. CallBy sig there x.1.meaning x.1.thing))),
+          λ t. ap is_written_kind (kind_kept here there (with_no_type here d.name.text (local_entry here d) (λ span. refl)) t) ∙ h.1.1 t,
+        ),
       )
 
   calls_fit : (here : Scope) → Calls here → CallsFit sig here
   calls_fit here h name e n is means =
-      by (found here.names name) (sym (known_found here name h.0) ∙ is) (All-lookup (λ x. CallBy sig here x.meaning x.thing) (bytes_eq name) here.names h.1)
+      by (found here.names name) (sym (known_found here name h.0) ∙ is) (All-lookup (λ x. CallBy sig here x.meaning x.thing) (bytes_eq name) here.names h.1.0)
     where
       by : (o : Option Entry) → o ≡ Some e → IfSome o (λ x. CallBy sig here x.meaning x.thing) → CallBy sig here (meant.Function n) e.thing
       by None is fits = absurd cc
       by (Some x) is fits = subst (λ m. CallBy sig here m e.thing) means (subst (λ y. CallBy sig here y.meaning y.thing) (some_same is) fits)
 
-  module _ (b : Bodied) (l : Layout) (begun : Begun b l) (sound : SoundBody b) (calls : NamesCall sig b.here) where
+  module _ (b : Bodied) (l : Layout) (begun : BeginsIn b l) (sound : SoundBody b) (calls : NamesCall sig b.here) where
     abbrev result : ThingType
     result = begun.around.result
 
@@ -79,19 +84,19 @@ module _ (sig : Signatures) where
         (each_both (FactsAt sound.aliases result) (known_all b.here b.body) (knows b.here ends ∷ [])
         (all_facts sound.aliases result begun.around b.here b.body refl begun.typed begun.runs sound.sound) (tt, tt))
 
-    are_listed : All (Listed (kinds_of b)) (known_in_body b.here b.body)
-    are_listed = each_all (Listed (kinds_of b)) (known_in_body b.here b.body) (body_listed b l begun)
+    are_listed : All (HasListedKind (kinds_of b)) (known_in_body b.here b.body)
+    are_listed = each_all (HasListedKind (kinds_of b)) (known_in_body b.here b.body) (body_listed b l begun)
 
     belong : (given : Option Kind) → All (λ k. Belongs k.here (setting l b given) × Calls k.here) (known_in_body b.here b.body)
-    belong given = body_belongs b l begun Calls calls_further calls_local given (begun.owned, calls)
+    belong given = body_belongs b l begun Calls calls_further calls_local given (begun.owned, (calls, kind_written l locals b.here begun.names))
 
-    point_holds : (k : Known) → ((given : Option Kind) → Belongs k.here (setting l b given)) → Calls k.here → Listed (kinds_of b) k → FactsAt sound.aliases result k
+    point_holds : (k : Known) → ((given : Option Kind) → Belongs k.here (setting l b given)) → Calls k.here → HasListedKind (kinds_of b) k → FactsAt sound.aliases result k
         → PointHolds sig l locals result.kind (point_of result.kind k)
     point_holds k belongs calls is facts =
         deed_holds k.here l locals sig sound.aliases belongs (calls_fit k.here calls) result k.deed (listed_at k.deed is) facts
       where
         listed_at : (d : Deed) → IsListed (kinds_of b) k.here d → IsListedAt k.here l locals sig sound.aliases belongs (calls_fit k.here calls) result d
-        listed_at (declares d) is = is
+        listed_at (declares d) is = (is, calls.1.1 d.ctype)
         listed_at (evaluates e) is = tt
         listed_at (assigns left o right) is = tt
         listed_at (tests e) is = tt

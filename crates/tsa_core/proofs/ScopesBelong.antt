@@ -1,5 +1,5 @@
 -- At each point of a body of a typed unit what is known belongs to the layout of the unit and to the kinds of the body's locals.
-use Rattle.std.proofs.Common.{◌≡◌, ◌∙◌, ℕ, suc, ◌+◌, Bool, true, false, ◌&&◌, List, [], ◌∷◌, ◌++◌, All, IfSome, length, Option, Some, None, slice_get, map, refl, sym, ap, subst, append_assoc}
+use Rattle.std.proofs.Common.{◌≡◌, ◌∙◌, ℕ, ◌+◌, Bool, true, false, ◌&&◌, List, [], ◌∷◌, ◌++◌, All, IfSome, length, Option, Some, None, slice_get, refl, sym, ap, subst, append_assoc}
 use Rattle.std.proofs.lemmas.List.{length-append}
 use Rattle.std.proofs.lemmas.List.Elements.{All-append, All-cons, All-nil}
 use Rattle.std.proofs.lemmas.Map.Entries.{All-lookup}
@@ -16,17 +16,18 @@ use Rattle.tsa_tree.specs.types.Scopes.{Scope, found, context_of, further, is_ta
 use Rattle.tsa_tree.specs.types.Statements.{behind, behind_init}
 use Rattle.tsa_tree.specs.types.Targets.{declared_in}
 use Rattle.tsa_layout.specs.Calls.{Layout}
+use Rattle.tsa_core.proofs.MappedLists.{map_length}
 use Rattle.tsa_core.specs.Bodies.{Known, knows, known_init, known_step, known, known_all, known_in_body, kinds_by, kinds_declared}
 use Rattle.tsa_core.specs.KindLaws.{ScopesBelong, param_kinds, kinds_of, setting}
 use Rattle.tsa_core.specs.Kinds.{Setting, Belongs}
 use Rattle.tsa_core.specs.Laws.{IsNumbered, AreNumbered}
 use Rattle.tsa_core.specs.Programs.{Bodied}
-use Rattle.tsa_core.proofs.BodyScopes.{Begun, unit_begins}
+use Rattle.tsa_core.proofs.BodyScopes.{BeginsIn, unit_begins}
 use Rattle.tsa_core.proofs.KindTests.{both_true}
 use Rattle.tsa_core.proofs.LocalLists.{locals_are_listed}
 use Rattle.tsa_core.proofs.ScopesAlike.{known_found}
 use Rattle.tsa_core.proofs.TypedTerms.{some_same}
-use Rattle.tsa_core.proofs.UnitScopes.{FitsBy, NamesFit, MembersFit, name_fits}
+use Rattle.tsa_core.proofs.LaidScopes.{FitsBy, NamesFit, MembersFit, name_fits}
 
 -- Each point of some.
 abbrev pub Each : (Known → Type 0) → List Known → Type 0
@@ -42,8 +43,8 @@ abbrev pub IsListed : List Kind → Scope → Deed → Type 0
 IsListed kinds here (declares d) = slice_get kinds here.locals ≡ Some (thing_type here d.ctype).kind
 IsListed kinds here _ = Unit {0}
 
-abbrev pub Listed : List Kind → Known → Type 0
-Listed kinds k = IsListed kinds k.here k.deed
+abbrev pub HasListedKind : List Kind → Known → Type 0
+HasListedKind kinds k = IsListed kinds k.here k.deed
 
 at_length : {A : Type 0} (xs ys : List A) (x : A) → slice_get (xs ++ x ∷ ys) (length xs) ≡ Some x
 at_length [] ys x = refl
@@ -61,13 +62,13 @@ deed_listed before rest n here idles same is = tt
 deed_listed before rest n here (returns e) same is = tt
 deed_listed before rest n here ends same is = tt
 
-listed : (before : List Kind) (n : ℕ) (ks : List Known) → n ≡ length before → AreNumbered n ks → Each (Listed (before ++ kinds_declared ks)) ks
+listed : (before : List Kind) (n : ℕ) (ks : List Known) → n ≡ length before → AreNumbered n ks → Each (HasListedKind (before ++ kinds_declared ks)) ks
 listed before n [] same h = tt
 listed before n (k ∷ ks) same h =
     let own = kinds_by k.here k.deed in
     let more : n + length own ≡ length (before ++ own) = ap (λ m. m + length own) same ∙ sym (length-append before own) in (
       deed_listed before (kinds_declared ks) n k.here k.deed same h.0,
-      subst (λ kinds. Each (Listed kinds) ks) (append_assoc before own (kinds_declared ks)) (listed (before ++ own) (n + length own) ks more h.1),
+      subst (λ kinds. Each (HasListedKind kinds) ks) (append_assoc before own (kinds_declared ks)) (listed (before ++ own) (n + length own) ks more h.1),
     )
 
 -- What is known at a place, and behind what stands there.
@@ -96,7 +97,7 @@ module _ (l : Layout) (kinds : List Kind) (P : Scope → Type 0) (further_kept :
   declared_stands : (here : Scope) (d : Declaration) → IsListed kinds here (declares d) → local_runs here d ≡ true → Stands here → Stands (behind_local here d)
   declared_stands here d is runs h = local_stands here d (is_taken d.name.text here) is (both_true (is_small (thing_type here d.ctype)) (is_whole_init d.init) runs).0 h
 
-  behind_stands : (here : Scope) (s : Statement) → Each (Listed kinds) (known here s) → statement_runs here s ≡ true → Stands here → Stands (behind here s)
+  behind_stands : (here : Scope) (s : Statement) → Each (HasListedKind kinds) (known here s) → statement_runs here s ≡ true → Stands here → Stands (behind here s)
   unfolding behind known statement_runs
   behind_stands here (local d) is runs h = declared_stands here d is.0 runs h
   behind_stands here (block items span) is runs h = further_stands (declared_in (block items span)) here h
@@ -116,7 +117,7 @@ module _ (l : Layout) (kinds : List Kind) (P : Scope → Type 0) (further_kept :
   behind_stands here (goto name span) is runs h = further_stands (declared_in (goto name span)) here h
   behind_stands here (return e span) is runs h = further_stands (declared_in (return e span)) here h
 
-  init_stands : (here : Scope) (init : ForInit) → Each (Listed kinds) (known_init here init) → init_runs here init ≡ true → Stands here → Stands (behind_init here init)
+  init_stands : (here : Scope) (init : ForInit) → Each (HasListedKind kinds) (known_init here init) → init_runs here init ≡ true → Stands here → Stands (behind_init here init)
   init_stands here no_init is runs h = h
   init_stands here (simple_init s) is runs h = h
   init_stands here (local_init d) is runs h = declared_stands here d is.0 runs h
@@ -163,7 +164,7 @@ module _ (l : Layout) (kinds : List Kind) (P : Scope → Type 0) (further_kept :
     mutual
       unfolding known known_all statement_runs statements_run
 
-      points_belong : (here : Scope) (s : Statement) → Each (Listed kinds) (known here s) → statement_runs here s ≡ true → Stands here → All Belong (known here s)
+      points_belong : (here : Scope) (s : Statement) → Each (HasListedKind kinds) (known here s) → statement_runs here s ≡ true → Stands here → All Belong (known here s)
       points_belong here (block items span) is runs h = all_belong here items is runs h
       points_belong here (empty span) is runs h = alone here idles h
       points_belong here (local d) is runs h = alone here (declares d) h
@@ -175,7 +176,7 @@ module _ (l : Layout) (kinds : List Kind) (P : Scope → Type 0) (further_kept :
           let there = further (declared_in arm) here in
           let r = both_true (is_condition (context_of here) test) (statement_runs here arm && statement_runs there other) runs in
           let both = both_true (statement_runs here arm) (statement_runs there other) r.1 in
-          let parts = each_part (Listed kinds) (known here arm) (known there other) is.1 in
+          let parts = each_part (HasListedKind kinds) (known here arm) (known there other) is.1 in
           one here (tests (Some test)) (known here arm ++ known there other) h
           (All-append Belong (known here arm) (known there other) (points_belong here arm parts.0 both.0 h)
           (points_belong there other parts.1 both.1 (further_stands (declared_in arm) here h)))
@@ -184,7 +185,7 @@ module _ (l : Layout) (kinds : List Kind) (P : Scope → Type 0) (further_kept :
           one here (tests (Some test)) (known here body) h (points_belong here body is.1 r.1 h)
       points_belong here (do_loop body test span) is runs h =
           let r = both_true (statement_runs here body) (is_condition (context_of here) test) runs in
-          let parts = each_part (Listed kinds) (known here body) (knows here (tests (Some test)) ∷ []) is in
+          let parts = each_part (HasListedKind kinds) (known here body) (knows here (tests (Some test)) ∷ []) is in
           All-append Belong (known here body) (knows here (tests (Some test)) ∷ []) (points_belong here body parts.0 r.0 h) (alone here (tests (Some test)) h)
       points_belong here (for_loop init test step body span) is runs h =
           let there = behind_init here init in
@@ -192,8 +193,8 @@ module _ (l : Layout) (kinds : List Kind) (P : Scope → Type 0) (further_kept :
           let q = both_true (is_condition_given (context_of there) test) (step_runs step && statement_runs there body) r.1 in
           let run = both_true (step_runs step) (statement_runs there body) q.1 in
           let rest = knows there (tests test) ∷ (known_step there step ++ known there body) in
-          let parts = each_part (Listed kinds) (known_init here init) rest is in
-          let inner = each_part (Listed kinds) (known_step there step) (known there body) parts.1.1 in
+          let parts = each_part (HasListedKind kinds) (known_init here init) rest is in
+          let inner = each_part (HasListedKind kinds) (known_step there step) (known there body) parts.1.1 in
           let h' = init_stands here init parts.0 r.0 h in
           All-append Belong (known_init here init) rest (init_points here init h)
           (one there (tests test) (known_step there step ++ known there body) h'
@@ -209,24 +210,20 @@ module _ (l : Layout) (kinds : List Kind) (P : Scope → Type 0) (further_kept :
       points_belong here (goto name span) is runs h = alone here jumps h
       points_belong here (return e span) is runs h = alone here (returns e) h
 
-      all_belong : (here : Scope) (ss : Statements) → Each (Listed kinds) (known_all here ss) → statements_run here ss ≡ true → Stands here → All Belong (known_all here ss)
+      all_belong : (here : Scope) (ss : Statements) → Each (HasListedKind kinds) (known_all here ss) → statements_run here ss ≡ true → Stands here → All Belong (known_all here ss)
       all_belong here none is runs h = All-nil Belong
       all_belong here (more s ss) is runs h =
           let r = both_true (statement_runs here s) (statements_run (behind here s) ss) runs in
-          let parts = each_part (Listed kinds) (known here s) (known_all (behind here s) ss) is in
+          let parts = each_part (HasListedKind kinds) (known here s) (known_all (behind here s) ss) is in
           All-append Belong (known here s) (known_all (behind here s) ss) (points_belong here s parts.0 r.0 h)
           (all_belong (behind here s) ss parts.1 r.1 (behind_stands here s parts.0 r.0 h))
 
 -- the points of a body that begins so
-map_length : {A B : Type 0} (f : A → B) (xs : List A) → length (map f xs) ≡ length xs
-map_length f [] = refl
-map_length f (x ∷ xs) = ap suc (map_length f xs)
-
-module _ (b : Bodied) (l : Layout) (begun : Begun b l) where
+module _ (b : Bodied) (l : Layout) (begun : BeginsIn b l) where
   abbrev all_known : List Known
   all_known = known_all b.here b.body
 
-  pub body_listed : Each (Listed (kinds_of b)) (known_in_body b.here b.body)
+  pub body_listed : Each (HasListedKind (kinds_of b)) (known_in_body b.here b.body)
   body_listed =
       let long : b.here.locals ≡ length (param_kinds b) = begun.numbered ∙ sym (map_length (λ p. (thing_type b.here p.ctype).kind) b.head.params) in
       listed (param_kinds b) b.here.locals (known_in_body b.here b.body) long (locals_are_listed b.here (thing_type b.here b.head.result).kind b.body).1.0
@@ -236,7 +233,7 @@ module _ (b : Bodied) (l : Layout) (begun : Begun b l) where
     pub body_belongs : (given : Option Kind) → P b.here → All (λ k. Belongs k.here (setting l b given) × P k.here) (known_in_body b.here b.body)
     body_belongs given kept =
         let kinds = kinds_of b in
-        let is = each_part (Listed kinds) all_known (knows b.here ends ∷ []) body_listed in
+        let is = each_part (HasListedKind kinds) all_known (knows b.here ends ∷ []) body_listed in
         let h : Stands l kinds P further_kept local_kept b.here = record { members = begun.members; owned = begun.owned; names = begun.names; more = kept } in
         All-append (Belong l kinds P further_kept local_kept given) all_known (knows b.here ends ∷ [])
         (all_belong l kinds P further_kept local_kept given b.here b.body is.0 begun.runs h) (alone l kinds P further_kept local_kept given b.here ends h)

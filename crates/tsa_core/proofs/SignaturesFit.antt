@@ -1,5 +1,5 @@
 -- Where a body begins, functions that are known by name have the results and the parameters of the program's functions; and a body's text is sound.
-use Rattle.std.proofs.Common.{◌≡◌, ◌∙◌, ℕ, ℤ, zero, suc, ◌+ℤ◌, pos, Bool, true, false, List, [], ◌∷◌, ◌++◌, All, slice_index_or, length, map, Option, Some, None, is_some, option_map, slice_get, slice_set, refl, sym, ap, subst, append_assoc}
+use Rattle.std.proofs.Common.{◌≡◌, ◌∙◌, ℕ, ℤ, suc, ◌+ℤ◌, pos, Bool, true, false, List, [], ◌∷◌, ◌++◌, All, slice_index_or, length, map, Option, Some, None, is_some, option_map, slice_get, refl, sym, ap, subst, append_assoc}
 use Rattle.std.proofs.lemmas.List.{append-nil}
 use Rattle.std.proofs.lemmas.List.Elements.{All-append, All-cons, All-nil}
 use Rattle.std.specs.Str.{bytes_eq}
@@ -25,6 +25,7 @@ use Rattle.tsa_tree.specs.units.Sound.{SoundItem, SoundItems}
 use Rattle.tsa_tree.specs.units.Syntax.{UnitItem, structure_item, alias_item, enumeration_item, global_item, function_item, body_item, names_of_item}
 use Rattle.tsa_scope.specs.Lookups.{params_in}
 use Rattle.tsa_place.proofs.Laid.{front_at, last_at}
+use Rattle.tsa_core.proofs.MappedLists.{map_append, map_length, map_set, map_at}
 use Rattle.tsa_core.specs.PointKinds.{Signatures}
 use Rattle.tsa_core.specs.Programs.{Declared, unless_known, first_head, declared_by, declared_functions, Bodied, bodied_by, bodied_function}
 use Rattle.tsa_core.specs.Programs as program
@@ -37,55 +38,43 @@ abbrev pub own_params : Declared → List ThingType
 own_params d = params_of d.here d.head.params
 
 -- the function of a number gives a kind
-abbrev HasResult : List Declared → ℕ → Kind → Type 0
+abbrev pub HasResult : List Declared → ℕ → Kind → Type 0
 HasResult ds n kind = (d : Declared) × ((slice_get ds n ≡ Some d) × (result_kind d ≡ kind))
 
 longer : (ds more : List Declared) (n : ℕ) (kind : Kind) → HasResult ds n kind → HasResult (ds ++ more) n kind
 longer ds more n kind h = (h.0, (front_at ds more n h.0 h.1.0, h.1.1))
 
-abbrev Named : List Declared → List ℕ × Entry → Type 0
-Named ds x = (n : ℕ) → x.1.meaning ≡ meant.Function n → HasResult ds n x.1.thing.kind
+abbrev pub HasItsResult : List Declared → List ℕ × Entry → Type 0
+HasItsResult ds x = (n : ℕ) → x.1.meaning ≡ meant.Function n → HasResult ds n x.1.thing.kind
 
-abbrev AreNamed : List Declared → Scope → Type 0
-AreNamed ds here = All (Named ds) here.names
+abbrev pub HaveTheirResults : List Declared → Scope → Type 0
+HaveTheirResults ds here = All (HasItsResult ds) here.names
 
--- functions have the parameters of those that are declared, in order
-abbrev Agree : List Declared → Scope → Type 0
-Agree ds here = (map (λ f. f.params) here.functions ≡ map own_params ds) × AreNamed ds here
+-- functions have the parameters and the results of those that are declared, in order
+abbrev pub Signature : Type 0
+Signature = List ThingType × Kind
 
-named_longer : (ds more : List Declared) (here : Scope) → AreNamed ds here → AreNamed (ds ++ more) here
+abbrev pub entry_signed : FunctionEntry → Signature
+entry_signed f = (f.params, f.result.kind)
+
+abbrev pub own_signed : Declared → Signature
+own_signed d = (own_params d, result_kind d)
+
+abbrev pub Agree : List Declared → Scope → Type 0
+Agree ds here = (map entry_signed here.functions ≡ map own_signed ds) × HaveTheirResults ds here
+
+named_longer : (ds more : List Declared) (here : Scope) → HaveTheirResults ds here → HaveTheirResults (ds ++ more) here
 named_longer ds more here h k d less n is = longer ds more n (slice_index_or here.names k d).1.thing.kind (h k d less n is)
 
-further_name : (ds : List Declared) (here : Scope) (name : List ℕ) (e : Entry) → Named ds (name, e) → AreNamed ds here → AreNamed ds (with_name name e here)
-further_name ds here name e own h = All-append (Named ds) here.names ((name, e) ∷ []) h (All-cons (Named ds) (name, e) [] own (All-nil (Named ds)))
+further_name : (ds : List Declared) (here : Scope) (name : List ℕ) (e : Entry) → HasItsResult ds (name, e) → HaveTheirResults ds here → HaveTheirResults ds (with_name name e here)
+further_name ds here name e own h = All-append (HasItsResult ds) here.names ((name, e) ∷ []) h (All-cons (HasItsResult ds) (name, e) [] own (All-nil (HasItsResult ds)))
 
-further_named : (ds : List Declared) (here : Scope) (name : Option Identifier) (e : Entry) → ((text : List ℕ) → Named ds (text, e)) → AreNamed ds here → AreNamed ds (with_named name e here)
+further_named : (ds : List Declared) (here : Scope) (name : Option Identifier) (e : Entry) → ((text : List ℕ) → HasItsResult ds (text, e)) → HaveTheirResults ds here → HaveTheirResults ds (with_named name e here)
 further_named ds here None e own h = h
 further_named ds here (Some name) e own h = further_name ds here name.text e (own name.text) h
 
--- lists of the same parts
-map_append : {A B : Type 0} (f : A → B) (xs ys : List A) → map f (xs ++ ys) ≡ map f xs ++ map f ys
-map_append f [] ys = refl
-map_append f (x ∷ xs) ys = ap (λ zs. f x ∷ zs) (map_append f xs ys)
-
-map_length : {A B : Type 0} (f : A → B) (xs : List A) → length (map f xs) ≡ length xs
-map_length f [] = refl
-map_length f (x ∷ xs) = ap suc (map_length f xs)
-
-map_set : {A B : Type 0} (f : A → B) (xs : List A) (n : ℕ) (x y : A) → slice_get xs n ≡ Some x → f y ≡ f x → map f (slice_set xs n y) ≡ map f xs
-map_set f [] zero x y e same = absurd cc
-map_set f [] (suc n) x y e same = absurd cc
-map_set f (z ∷ xs) zero x y e same = ap (λ w. w ∷ map f xs) (same ∙ sym (ap f (some_same e)))
-map_set f (z ∷ xs) (suc n) x y e same = ap (λ ws. f z ∷ ws) (map_set f xs n x y e same)
-
-pub map_at : {A B : Type 0} (f : A → B) (xs : List A) (i : ℕ) → slice_get (map f xs) i ≡ option_map f (slice_get xs i)
-map_at f [] zero = refl
-map_at f [] (suc i) = refl
-map_at f (x ∷ xs) zero = refl
-map_at f (x ∷ xs) (suc i) = map_at f xs i
-
 module _ (ds : List Declared) where
-  enumerators_named : (here : Scope) (next : ℤ) (values : List EnumConstant) → AreNamed ds here → AreNamed ds (behind_enumerators here next values)
+  enumerators_named : (here : Scope) (next : ℤ) (values : List EnumConstant) → HaveTheirResults ds here → HaveTheirResults ds (behind_enumerators here next values)
   unfolding behind_enumerators
   enumerators_named here next [] h = h
   enumerators_named here next (e ∷ rest) h =
@@ -103,7 +92,7 @@ module _ (ds : List Declared) where
 
   bodied_agree : (here : Scope) (with_body : Bool) (k : ℕ) (o : Option FunctionEntry) → slice_get here.functions k ≡ o → Agree ds here → Agree ds (bodied here with_body k o)
   bodied_agree here with_body k None is h = h
-  bodied_agree here with_body k (Some f) is h = (map_set (λ f. f.params) here.functions k f (or_body with_body f) is refl ∙ h.0, h.1)
+  bodied_agree here with_body k (Some f) is h = (map_set entry_signed here.functions k f (or_body with_body f) is refl ∙ h.0, h.1)
 
   again_agree : (here : Scope) (head : Head) (with_body : Bool) (m : Meaning) → Agree ds here → Agree ds (again here head with_body m)
   again_agree here head with_body (meant.Function k) h = bodied_agree here with_body k (slice_get here.functions k) refl h
@@ -113,41 +102,41 @@ module _ (ds : List Declared) where
   again_agree here head with_body (meant.Constant z) h = h
   again_agree here head with_body meant.TypeName h = h
 
-  last_named : (here : Scope) (head : Head) → map (λ f. f.params) here.functions ≡ map own_params ds
-      → Named (ds ++ record { here = here; head = head } ∷ []) (head.name.text, function_entry here head (length here.functions))
+  last_named : (here : Scope) (head : Head) → map entry_signed here.functions ≡ map own_signed ds
+      → HasItsResult (ds ++ record { here = here; head = head } ∷ []) (head.name.text, function_entry here head (length here.functions))
   last_named here head same n is =
       let d : Declared = record { here = here; head = head } in
       let number : length here.functions ≡ n = cc in
-      let count : length ds ≡ length here.functions = sym (map_length own_params ds) ∙ sym (ap length same) ∙ map_length (λ f. f.params) here.functions in
+      let count : length ds ≡ length here.functions = sym (map_length own_signed ds) ∙ sym (ap length same) ∙ map_length entry_signed here.functions in
       (d, (ap (slice_get (ds ++ d ∷ [])) (sym (count ∙ number)) ∙ last_at ds d, refl))
 
   known_agree : (here : Scope) (head : Head) (with_body : Bool) (o : Option Entry) → Agree ds here → Agree (ds ++ unless_known (is_some o) here head) (behind_known here head with_body o)
   known_agree here head with_body None h =
       let d : Declared = record { here = here; head = head } in (
-        map_append (λ f. f.params) here.functions (declares_function here head with_body ∷ []) ∙ ap (λ xs. xs ++ params_of here head.params ∷ []) h.0 ∙ sym (map_append own_params ds (d ∷ [])),
+        map_append entry_signed here.functions (declares_function here head with_body ∷ []) ∙ ap (λ xs. xs ++ own_signed d ∷ []) h.0 ∙ sym (map_append own_signed ds (d ∷ [])),
         further_name (ds ++ d ∷ []) here head.name.text (function_entry here head (length here.functions)) (last_named here head h.0) (named_longer ds (d ∷ []) here h.1),
       )
   known_agree here head with_body (Some e) h = subst (λ xs. Agree xs (again here head with_body e.meaning)) (sym (append-nil ds)) (again_agree here head with_body e.meaning h)
 
-  head_agree : (here : Scope) (head : Head) (with_body : Bool) → Agree ds here → Agree (ds ++ first_head here head) (behind_head here head with_body)
+  pub head_agree : (here : Scope) (head : Head) (with_body : Bool) → Agree ds here → Agree (ds ++ first_head here head) (behind_head here head with_body)
   head_agree here head with_body h = known_agree here head with_body (found here.names head.name.text) h
 
   data_agree : (here : Scope) → Agree ds here → Agree (ds ++ []) here
   data_agree here h = subst (λ xs. Agree xs here) (sym (append-nil ds)) h
 
-  item_agree : (here : Scope) (item : UnitItem) → Agree ds here → Agree (ds ++ declared_by here item) (behind_item here item)
+  pub item_agree : (here : Scope) (item : UnitItem) → Agree ds here → Agree (ds ++ declared_by here item) (behind_item here item)
   item_agree here (structure_item tag alias attrs members span) h =
       let t = single (type.Structure (length here.structs)) false in
       let there = with_struct (members_behind here [] members) here in
       data_agree (with_named alias (a_type_name t) there)
-      (ap (map (λ f. f.params)) (alias_same there alias t) ∙ h.0, further_named ds there alias (a_type_name t) (λ text n is. absurd cc) h.1)
+      (ap (map entry_signed) (alias_same there alias t) ∙ h.0, further_named ds there alias (a_type_name t) (λ text n is. absurd cc) h.1)
   item_agree here (alias_item name ctype span) h =
       data_agree (with_name name.text (a_type_name (thing_type here ctype)) here) (h.0, further_name ds here name.text (a_type_name (thing_type here ctype)) (λ n is. absurd cc) h.1)
   item_agree here (enumeration_item tag alias values span) h =
       let t = single type.Int false in
       let there = behind_enumerators here (pos 0) values in
       data_agree (with_named alias (a_type_name t) there) (
-        ap (map (λ f. f.params)) (alias_same there alias t ∙ enumerators_same here (pos 0) values) ∙ h.0,
+        ap (map entry_signed) (alias_same there alias t ∙ enumerators_same here (pos 0) values) ∙ h.0,
         further_named ds there alias (a_type_name t) (λ text n is. absurd cc) (enumerators_named here (pos 0) values h.1),
       )
   item_agree here (global_item d) h =
@@ -155,7 +144,7 @@ module _ (ds : List Declared) where
   item_agree here (function_item head) h = head_agree here head false h
   item_agree here (body_item head body close) h = head_agree here head true h
 
-  params_named : (here : Scope) (n : ℕ) (params : List Parameter) → AreNamed ds here → AreNamed ds (inside_params here n params)
+  params_named : (here : Scope) (n : ℕ) (params : List Parameter) → HaveTheirResults ds here → HaveTheirResults ds (inside_params here n params)
   unfolding inside_params
   params_named here n [] h = h
   params_named here n (p ∷ rest) h = params_named (with_param n p here) (suc n) rest (further_named ds here p.name (local_entry here n p.ctype) (λ text m is. absurd cc) h)
@@ -182,13 +171,15 @@ abbrev pub AreOf : Signatures → List Declared → Type 0
 AreOf sig ds = (n : ℕ) (d : Declared) → slice_get ds n ≡ Some d → (sig.result n ≡ Some (result_kind d)) × (sig.params n ≡ Some (map (λ p. p.kind) (own_params d)))
 
 module _ (sig : Signatures) (ds more : List Declared) (are : AreOf sig (ds ++ more)) (here : Scope) (h : Agree ds here) where
+  own_is : (n : ℕ) (d : Declared) → slice_get ds n ≡ Some d → option_map entry_signed (slice_get here.functions n) ≡ Some (own_signed d)
+  own_is n d is = sym (map_at entry_signed here.functions n) ∙ ap (λ xs. slice_get xs n) h.0 ∙ map_at own_signed ds n ∙ ap (option_map own_signed) is
+
   own_are : (n : ℕ) (d : Declared) → slice_get ds n ≡ Some d → params_in here n ≡ own_params d
-  own_are n d is =
-      by (slice_get here.functions n) refl (sym (map_at (λ f. f.params) here.functions n) ∙ ap (λ xs. slice_get xs n) h.0 ∙ map_at own_params ds n ∙ ap (option_map own_params) is)
+  own_are n d is = by (slice_get here.functions n) refl (own_is n d is)
     where
-      by : (o : Option FunctionEntry) → slice_get here.functions n ≡ o → option_map (λ f. f.params) (slice_get here.functions n) ≡ Some (own_params d) → params_in here n ≡ own_params d
-      by None e f = let g : ◌≡◌ {A = Option (List ThingType)} None (Some (own_params d)) = rw e at f in absurd cc
-      by (Some x) e f = let g : Some x.params ≡ Some (own_params d) = rw e at f in rw e (some_same g)
+      by : (o : Option FunctionEntry) → slice_get here.functions n ≡ o → option_map entry_signed (slice_get here.functions n) ≡ Some (own_signed d) → params_in here n ≡ own_params d
+      by None e f = let g : ◌≡◌ {A = Option Signature} None (Some (own_signed d)) = rw e at f in absurd cc
+      by (Some x) e f = let g : Some (entry_signed x) ≡ Some (own_signed d) = rw e at f in rw e (ap (λ y. y.0) (some_same g))
 
   call_by : (m : Meaning) (t : ThingType) → ((n : ℕ) → m ≡ meant.Function n → HasResult ds n t.kind) → CallBy sig here m t
   call_by (meant.Function n) t own =
@@ -217,7 +208,7 @@ module _ (name : List ℕ) (b : Bodied) (sig : Signatures) where
       let there = behind_head here head true in
       let same = head_agree ds here head true h in
       let within : Agree front (inside here head true) =
-      (ap (map (λ f. f.params)) (params_functions there 0 head.params) ∙ same.0, params_named front there 0 head.params same.1) in
+      (ap (map entry_signed) (params_functions there 0 head.params) ∙ same.0, params_named front there 0 head.params same.1) in
       or_begins b sig (bytes_eq name head.name.text) (record { here = inside here head true; head = head; body = body }) other
       (names_call sig front rest (subst (AreOf sig) (sym (append_assoc ds (first_head here head) rest)) are) (inside here head true) within)
       later is
@@ -240,7 +231,7 @@ module _ (name : List ℕ) (b : Bodied) (sig : Signatures) where
 
 pub unit_calls : (items : List UnitItem) (name : List ℕ) (b : Bodied) (sig : Signatures) → AreOf sig (declared_functions (outset items) items) → bodied_function name (outset items) items ≡ Some b
     → NamesCall sig b.here
-unit_calls items name b sig are is = body_calls name b sig [] (outset items) items (refl, All-nil (Named [])) are is
+unit_calls items name b sig are is = body_calls name b sig [] (outset items) items (refl, All-nil (HasItsResult [])) are is
 
 -- The text of a body is sound where that of its unit is.
 pub record SoundBody (b : Bodied) : Type 0 where

@@ -83,11 +83,11 @@ module _ (k : Setting) where
         || ((s.type.is_zero && is_some (target_of w))
         || (is_single s.type && (is_some (target_of w) && (same_target s.type.thing.kind w && keeps_const s.type.thing.kind w))))
 
-    pub Served : Kind → Type 0
-    Served w = (scalar_kind w ≡ true) × Serves k (as_kind w s) w
+    pub ServesAs : Kind → Type 0
+    ServesAs w = (scalar_kind w ≡ true) × Serves k (as_kind w s) w
 
-    to_pointer : (n : ℕ) (c : Bool) → Goes (type.Pointer n c) ≡ true → Served (type.Pointer n c)
-    unfolding Served
+    to_pointer : (n : ℕ) (c : Bool) → Goes (type.Pointer n c) ≡ true → ServesAs (type.Pointer n c)
+    unfolding ServesAs
     to_pointer n c e =
         one_of (is_integer s.type && false) _ e (λ i. never (sym (both_true (is_integer s.type) false i).1))
         (λ d.
@@ -104,8 +104,8 @@ module _ (k : Setting) where
           ),
         )))
 
-    goes_by : (w : Kind) → Goes w ≡ true → Served w
-    unfolding Served
+    goes_by : (w : Kind) → Goes w ≡ true → ServesAs w
+    unfolding ServesAs
     goes_by type.Int e =
         let i = integer_alone (is_integer s.type) s.type.is_zero (is_single s.type) e in
         (refl, int_served (loaded s) s.type.thing.kind (integer_loaded k s h i) (integer_is s.type i).1)
@@ -120,7 +120,7 @@ module _ (k : Setting) where
 
     -- what may go to a thing serves its kind
     pub goes_served : (t : ThingType) → goes_to s.type t ≡ true → (is_none t.length ≡ true) × ((scalar_kind t.kind ≡ true) × Serves k (as_kind t.kind s) t.kind)
-    unfolding Served
+    unfolding ServesAs
     goes_served t e = let both = both_true (is_none t.length) (Goes t.kind) e in (both.0, goes_by t.kind both.1)
 
 -- what goes to a thing is small

@@ -1,6 +1,6 @@
 //! Laws of the core program.
 ghost use Rattle.tsa_core.specs.Examples.{ControlIsAsWritten, PointsAreAsWritten, UsesAreAsWritten, ProgramsAreAsWritten};
-ghost use Rattle.tsa_core.specs.KindLaws.{ScopesBelong, PointsHaveTheirKinds};
+ghost use Rattle.tsa_core.specs.KindLaws.{ScopesBelong, PointsHaveTheirKinds, BodiesAgree, ProgramsAreWellKinded};
 ghost use Rattle.tsa_core.specs.Kinds.{TermsHaveTheirKinds};
 ghost use Rattle.tsa_core.specs.Laws.{PointsAreThoseOfTheText, TermsHaveTheirTypes, EdgesStayInside, EdgesAreFollowed, FunctionsAreNumbered, OutcomesAreOfTheActions, OutcomesAreOfThePoints, LocalsAreListed, PointsGoOn, PointsSpeakOfKnown, BodiesBeginBelow, UsesStandBesidePoints};
 
@@ -97,4 +97,14 @@ pub fn scopes_belong()
 /// At each point of a body the terms of the action and of the call have the kinds that are wanted there.
 pub fn points_have_their_kinds()
     ensures { PointsHaveTheirKinds }
+{}
+
+/// A body has the kinds of parameters and of result that the program's function of its name has.
+pub fn bodies_agree()
+    ensures { BodiesAgree }
+{}
+
+/// At each point of each body of a program the terms have the kinds that are wanted there, by the program's own layout and functions.
+pub fn programs_are_well_kinded()
+    ensures { ProgramsAreWellKinded }
 {}
