@@ -34,7 +34,7 @@ fn const_base(arrow: bool, t: ExpressionType) -> bool
 }
 
 /// The type of a member: what is constant hands that on.
-fn member_type(arrow: bool, t: ExpressionType, member: ThingType) -> ExpressionType
+pub fn member_type(arrow: bool, t: ExpressionType, member: ThingType) -> ExpressionType
     ensures { result ≡ spec_member_type arrow t member }
 {
     ExpressionType {

@@ -2,7 +2,7 @@
 ghost use Rattle.std.specs.Prelude.{◌≡◌};
 ghost use Rattle.tsa_resolve.specs.Found.{found_number, found_null, found_entry, found_result, found_constant as spec_found_constant};
 ghost use Rattle.tsa_tree.specs.types.Constants.{number_value as spec_number_value};
-ghost use Rattle.tsa_tree.specs.types.Expressions.{entry_type as spec_entry_type, number_type as spec_number_type};
+ghost use Rattle.tsa_tree.specs.types.Expressions.{entry_type as spec_entry_type, number_type as spec_number_type, result_type as spec_result_type};
 
 use tsa_operand::{place, single, value};
 use tsa_tree::kind::{ExpressionType, Kind};
@@ -55,7 +55,7 @@ fn number_value(value: u32, unsigned: bool) -> Number
 }
 
 /// The type of a number.
-fn number_type(value: u32, unsigned: bool) -> ExpressionType
+pub fn number_type(value: u32, unsigned: bool) -> ExpressionType
     ensures { result ≡ spec_number_type value unsigned }
 {
     let kind = if unsigned { Kind::Unsigned } else { Kind::Int };
@@ -87,7 +87,7 @@ pub fn null() -> Found
 }
 
 /// The type of what a name stands for: a variable is a place, an enumerator a value.
-fn entry_type(entry: Entry) -> ExpressionType
+pub fn entry_type(entry: Entry) -> ExpressionType
     ensures { result ≡ spec_entry_type entry }
 {
     match entry.meaning {
@@ -113,16 +113,23 @@ pub fn named(entry: Entry) -> Found
     }
 }
 
+/// The type of what a call of a function gives.
+pub fn result_type(entry: Entry) -> ExpressionType
+    ensures { result ≡ spec_result_type entry }
+{
+    ExpressionType {
+        thing: entry.thing,
+        is_place: false,
+        is_zero: false,
+    }
+}
+
 /// What a call of a function gives.
 pub fn called(entry: Entry) -> Found
     ensures { result ≡ found_result entry }
 {
     Found {
-        thing: ExpressionType {
-            thing: entry.thing,
-            is_place: false,
-            is_zero: false,
-        },
+        thing: result_type(entry),
         constant: Constant::Other,
     }
 }

@@ -10,10 +10,10 @@ mod refusal;
 mod values;
 mod verdicts;
 
-pub use accesses::first_of;
+pub use accesses::{first_of, function_of, member_type, owner};
 pub use declared::{Length, Written, tag_failure, typed_failure};
 pub use expressions::View;
-pub use found::{Constant, Found};
+pub use found::{Constant, Found, entry_type, number_type, result_type};
 pub use refusal::{TypeRefusal, judged, refused};
 pub use values::value_of;
 pub use verdicts::{at, thing_of};

@@ -72,6 +72,13 @@ impl Led {
         self.thing
     }
 
+    /// The path.
+    pub fn path(&self) -> &Path
+        ensures { result.now ≡ self.now.way }
+    {
+        &self.path
+    }
+
     /// The path alone.
     pub fn into_path(self) -> Path
         ensures { result ≡ self.way }

@@ -5,5 +5,6 @@ mod leads;
 mod path;
 mod sight;
 
+pub use leads::{Led, meant};
 pub use path::{Path, PathStep, Root};
-pub use sight::Sight;
+pub use sight::{Sight, is_pointer};

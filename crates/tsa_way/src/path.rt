@@ -1,5 +1,5 @@
 //! Paths to places (C11 6.5.2, 6.5.3.2): a root, and the steps from it. A path is told from another by these alone.
-ghost use Rattle.std.specs.Prelude.{◌≡◌, IfOk};
+ghost use Rattle.std.specs.Prelude.{◌≡◌, ◌++◌, IfOk};
 ghost use Rattle.tsa_way.specs.Ways.{from as spec_from, onward as spec_onward};
 
 use std::alloc::Global;
@@ -69,5 +69,20 @@ impl Path {
     {
         self.steps.push(step)?;
         Ok(self)
+    }
+
+    /// The same with further steps.
+    pub fn with_steps(mut self, steps: &[PathStep]) -> Result<Path, NoMemory>
+        ensures { IfOk result (λ path. path ≡ record { root = self.root; steps = self.steps ++ steps.now }) }
+    {
+        self.steps.extend_from_slice(steps)?;
+        Ok(self)
+    }
+
+    /// The same path once more.
+    pub fn copy(&self, alloc: Global) -> Result<Path, NoMemory>
+        ensures { IfOk result (λ path. path ≡ self.now) }
+    {
+        Path::new(alloc, self.root).with_steps(&self.steps)
     }
 }

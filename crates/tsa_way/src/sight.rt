@@ -15,7 +15,7 @@ use tsa_tree::meaning::{Entry, Meaning};
 use tsa_tree::number::Number;
 
 /// Whether a kind is that of a pointer to a struct.
-fn is_pointer(kind: Kind) -> bool
+pub fn is_pointer(kind: Kind) -> bool
     ensures { result ≡ spec_is_pointer kind }
 {
     matches!(kind, Kind::Pointer { .. })
@@ -157,7 +157,7 @@ impl<'w, 'a> Sight<'w, 'a> {
     }
 
     /// What a name leads to: a global, a local that never changes, or a member of the struct object that has the guard.
-    fn name(self, name: &[u8]) -> Result<Option<Led>, NoMemory>
+    pub fn name(self, name: &[u8]) -> Result<Option<Led>, NoMemory>
         ensures { IfOk result (λ led. led ≡ option_and_then (name_way (stable_in self.entry.stable.now) self.entry.scope.now name.now) (known_in self.entry.scope.now name.now)) }
     {
         let Some(entry) = self.scope.known(name) else {
@@ -176,7 +176,7 @@ impl<'w, 'a> Sight<'w, 'a> {
     }
 
     /// On to a member of what was led to.
-    fn member_of(self, led: Option<Led>, name: &[u8]) -> Result<Option<Led>, NoMemory>
+    pub fn member_of(self, led: Option<Led>, name: &[u8]) -> Result<Option<Led>, NoMemory>
         ensures { IfOk result (λ after. after ≡ option_and_then (spec_member_step self.entry.scope.now name.now) led) }
     {
         match led {
@@ -186,7 +186,7 @@ impl<'w, 'a> Sight<'w, 'a> {
     }
 
     /// On to an element of what was led to.
-    fn element_of(self, led: Option<Led>, index: &Expr<'_>) -> Result<Option<Led>, NoMemory>
+    pub fn element_of(self, led: Option<Led>, index: &Expr<'_>) -> Result<Option<Led>, NoMemory>
         ensures { IfOk result (λ after. after ≡ option_and_then (spec_element_step (stable_in self.entry.stable.now) self.entry.scope.now (shape index.now)) led) }
     {
         match led {
