@@ -1,5 +1,6 @@
 //! What is known of the places of a unit, or of its first items, with what is asked of them.
 ghost use Rattle.std.specs.Prelude.{◌≡◌, ◌≤◌, length, slice_get, option_map};
+ghost use Rattle.tsa_layout.specs.Layouts.{structure_at};
 ghost use Rattle.tsa_layout.specs.Parts.{place_limit};
 ghost use Rattle.tsa_layout.specs.Calls.{there, global_place, member_place, element_place, part_of, is_lock_kind, initial_at, declarator_of};
 
@@ -117,6 +118,13 @@ impl<'t> Layout<'t> {
                 _ => None,
             },
         }
+    }
+
+    /// A member of a struct, by their numbers.
+    pub fn member_part(&self, structure: u32, number: u32) -> Option<&'t Part>
+        ensures { option_map (λ part. part.now) result ≡ slice_get (structure_at self.now.structs structure).members number }
+    {
+        self.structs.member(structure, number)
     }
 
     /// Whether a kind is a struct that is a lock.
