@@ -6,14 +6,3 @@ pub mod Rounds
 pub mod EnumeratorLists
 pub mod Fitting
 pub mod UnitLists
-pub mod Asking
-pub mod Later
-pub mod Rows
-pub mod Laid
-pub mod Leading
-pub mod TextsApart
-pub mod TextsAlong
-pub mod TextsTold
-pub mod TextsNamed
-pub mod TextsTyped
-pub mod TextsTell

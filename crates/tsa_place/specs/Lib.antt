@@ -2,4 +2,3 @@ pub mod Units
 pub mod Examples
 pub mod Filling
 pub mod Answers
-pub mod Leading

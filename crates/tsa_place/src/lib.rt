@@ -11,8 +11,9 @@ mod refusal;
 mod unit;
 mod values;
 
-pub use laws::{places_are_as_written, places_have_one_way_and_text};
+pub use items::{know_alias, know_enum, know_global};
+pub use laws::places_are_as_written;
 pub use places::Places;
 pub use refusal::PlaceRefusal;
-pub use tsa_layout::{Guard, PlaceKind};
+pub use tsa_layout::{Guard, Layout, PlaceKind};
 pub use values::{or_zero, zero_of};

@@ -11,7 +11,7 @@ use crate::unit::placed;
 use std::alloc::Global;
 use std::marker::Model;
 use tsa_base::{NoMemory, Span, Value};
-use tsa_layout::{Guard, PlaceKind, Placed};
+use tsa_layout::{Guard, Layout, PlaceKind, Placed};
 use tsa_tree::item::UnitTree;
 use tsa_tree::kind::Kind;
 use tsa_way::Path;
@@ -59,6 +59,13 @@ impl Places {
             Ok(globals) => Ok(Places { globals }),
             Err(refusal) => Err(refusal),
         }
+    }
+
+    /// What is known of the places, to be asked.
+    pub fn layout(&self) -> Layout<'_>
+        ensures { result ≡ self.now }
+    {
+        self.globals.layout()
     }
 
     /// How many places there are.

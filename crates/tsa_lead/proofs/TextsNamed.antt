@@ -17,8 +17,8 @@ use Rattle.tsa_tree.specs.types.Known.{Context}
 use Rattle.tsa_tree.specs.types.Scopes.{Scope, Members, context_of}
 use Rattle.tsa_layout.specs.Layouts.{Part}
 use Rattle.tsa_layout.specs.Parts.{parts_behind, member_behind}
-use Rattle.tsa_place.proofs.TextsApart.{IsPlain}
-use Rattle.tsa_place.proofs.TextsTold.{IsShort, NamesTell, the_same, no_part}
+use Rattle.tsa_lead.proofs.TextsApart.{IsPlain}
+use Rattle.tsa_lead.proofs.TextsTold.{IsShort, NamesTell, the_same, no_part}
 
 -- none of some parts has a name
 abbrev pub NotNamed : List ℕ → List Part → Type 0

@@ -7,7 +7,7 @@ use Rattle.tsa_tree.specs.declared.kind.Kind.TheVariants as type
 use Rattle.tsa_layout.specs.declared.place.Placed.{Placed}
 use Rattle.tsa_layout.specs.Calls.{Layout, there, member_place, element_place, members_of, part_of}
 use Rattle.tsa_layout.specs.Layouts.{Part, kind_size, size_of, offset}
-use Rattle.tsa_place.specs.Leading.{alone}
+use Rattle.tsa_lead.specs.Leading.{alone}
 use Rattle.tsa_layout.specs.Places.{Given, Values, Inside, a_place, kind_places}
 use Rattle.tsa_layout.specs.Standing.{StandsAt}
 

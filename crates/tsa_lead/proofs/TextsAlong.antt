@@ -4,7 +4,7 @@ use Rattle.tsa_layout.specs.declared.place.Holder.{Holder}
 use Rattle.tsa_layout.specs.declared.place.Holder.TheVariants.{Global, Member}
 use Rattle.tsa_layout.specs.declared.place.Placed.{Placed}
 use Rattle.tsa_layout.specs.Calls.{Layout, around, owner_at, part_of, part_name, index_text, dot, own_text, text_along, text_of}
-use Rattle.tsa_place.specs.Leading.{IsInside, StandsIn}
+use Rattle.tsa_lead.specs.Leading.{IsInside, StandsIn}
 
 -- each place of a layout has what declares it
 abbrev pub AllStand : Layout → Type 0

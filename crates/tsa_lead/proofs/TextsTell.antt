@@ -17,10 +17,10 @@ use Rattle.tsa_tree.proofs.units.Read.{well_read_sound}
 use Rattle.tsa_layout.specs.Layouts.{Part, Structures, structure_at}
 use Rattle.tsa_layout.specs.Calls.{Layout, members_of}
 use Rattle.tsa_place.specs.Units.{global_part, behind_data, data_placed, too_many_at, or_behind, placed_behind, no_places}
-use Rattle.tsa_place.specs.Leading.{PlacesAreLedTo, TextsTell}
-use Rattle.tsa_place.proofs.TextsTold.{NamesTell, AllNamesTell, texts_told}
-use Rattle.tsa_place.proofs.TextsNamed.{NotNamed, AreApart, ArePlain, apart_behind, plain_behind, names_tell, plain_name, type_short, plain_members}
-use Rattle.tsa_place.proofs.TextsTyped.{never, Grows, grows_item, none_of_both, global_free, global_taken, members_hold, members_apart}
+use Rattle.tsa_lead.specs.Leading.{PlacesAreLedTo, TextsTell}
+use Rattle.tsa_lead.proofs.TextsTold.{NamesTell, AllNamesTell, texts_told}
+use Rattle.tsa_lead.proofs.TextsNamed.{NotNamed, AreApart, ArePlain, apart_behind, plain_behind, names_tell, plain_name, type_short, plain_members}
+use Rattle.tsa_lead.proofs.TextsTyped.{never, Grows, grows_item, none_of_both, global_free, global_taken, members_hold, members_apart}
 
 -- the names of globals are taken
 abbrev AreTaken : Scope → List Part → Type 0

@@ -6,9 +6,9 @@ use Rattle.tsa_layout.specs.declared.place.Holder.TheVariants.{Global, Member}
 use Rattle.tsa_layout.specs.declared.place.Placed.{Placed}
 use Rattle.tsa_layout.specs.Layouts.{Part}
 use Rattle.tsa_layout.specs.Calls.{Layout, kind_at, members_of, part_of, index_text, text_of}
-use Rattle.tsa_place.specs.Leading.{Fits, IsInside, leads_to}
-use Rattle.tsa_place.proofs.TextsApart.{IsPlain, IsSmall, without_dot, name_and_index, with_and_without, last_tells}
-use Rattle.tsa_place.proofs.TextsAlong.{AllStand, whole_text, text_is}
+use Rattle.tsa_lead.specs.Leading.{Fits, IsInside, leads_to}
+use Rattle.tsa_lead.proofs.TextsApart.{IsPlain, IsSmall, without_dot, name_and_index, with_and_without, last_tells}
+use Rattle.tsa_lead.proofs.TextsAlong.{AllStand, whole_text, text_is}
 
 -- the length of an array is no long number
 abbrev pub IsShort : Option ℕ → Type 0

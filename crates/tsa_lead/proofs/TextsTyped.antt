@@ -29,7 +29,7 @@ use Rattle.tsa_tree.specs.units.Syntax.{UnitItem, structure_item, alias_item, en
 use Rattle.tsa_tree.proofs.types.NodeLists.{first-append}
 use Rattle.tsa_layout.specs.Layouts.{Part}
 use Rattle.tsa_layout.specs.Parts.{parts_behind, member_behind}
-use Rattle.tsa_place.proofs.TextsNamed.{NotNamed, AreApart}
+use Rattle.tsa_lead.proofs.TextsNamed.{NotNamed, AreApart}
 
 pub never : {A : Type 0} → true ≡ false → A
 never e = absurd cc

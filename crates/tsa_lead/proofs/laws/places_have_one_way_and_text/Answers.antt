@@ -1,6 +1,6 @@
-use Rattle.tsa_place.proofs.Leading.{places_are_led_to, what_is_led_to_bears, members_have_places, elements_have_places, places_have_one_way}
-use Rattle.tsa_place.proofs.TextsTell.{texts_tell}
-use Rattle.tsa_place.proofs.laws.places_have_one_way_and_text.Goals as goal
+use Rattle.tsa_lead.proofs.Leading.{places_are_led_to, what_is_led_to_bears, members_have_places, elements_have_places, places_have_one_way}
+use Rattle.tsa_lead.proofs.TextsTell.{texts_tell}
+use Rattle.tsa_lead.proofs.laws.places_have_one_way_and_text.Goals as goal
 
 pub returns-clause-led : goal.returns-clause-led
 returns-clause-led c = places_are_led_to

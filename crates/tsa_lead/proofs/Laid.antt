@@ -12,13 +12,13 @@ use Rattle.tsa_layout.specs.declared.place.Placed.{Placed}
 use Rattle.tsa_layout.specs.Calls.{Layout}
 use Rattle.tsa_layout.specs.Layouts.{Part, Structure, thing_size, size_of}
 use Rattle.tsa_layout.specs.Parts.{structure_in}
-use Rattle.tsa_place.specs.Leading.{HasPlaces}
+use Rattle.tsa_lead.specs.Leading.{HasPlaces}
 use Rattle.tsa_layout.specs.Places.{Given, Values, places_of, thing_places, places_inside}
 use Rattle.tsa_layout.specs.Standing.{StandsAt, IsWithin, AllBelow, IsOrdered}
 use Rattle.tsa_place.specs.Units.{values_in, given_by, with_structure, with_part, known_global, global_part, behind_data, data_placed, too_many_at, or_behind, placed_behind, no_places}
-use Rattle.tsa_place.proofs.Asking.{none_is_none}
+use Rattle.tsa_lead.proofs.Asking.{none_is_none}
 use Rattle.tsa_layout.proofs.Below.{parts_below, part_within}
-use Rattle.tsa_place.proofs.Later.{later_thing, later_size}
+use Rattle.tsa_lead.proofs.Later.{later_thing, later_size}
 use Rattle.tsa_layout.proofs.Sizes.{thing_sized, inside_sized}
 use Rattle.tsa_layout.proofs.Standing.{below_more}
 use Rattle.tsa_place.proofs.UnitLists.{same_structs}
@@ -202,7 +202,7 @@ module _ (here : Scope) (part : Part) (init : Option Initialiser) (l : Layout) (
   }
 
 -- behind any item
-item_laid : (here : Scope) (l : Layout) (item : UnitItem) → length here.structs ≡ length l.structs → IsLaid l → IsLaid (data_placed here l item)
+pub item_laid : (here : Scope) (l : Layout) (item : UnitItem) → length here.structs ≡ length l.structs → IsLaid l → IsLaid (data_placed here l item)
 item_laid here l (structure_item tag alias attrs members span) long laid =
     struct_laid (structure_in here members) l laid (subst (λ n. AllBelow n (structure_in here members).members) long (parts_below here [] members))
 item_laid here l (alias_item name ctype span) long laid = laid
@@ -226,7 +226,7 @@ items_laid (item ∷ rest) here l m long laid e =
     by None e known = known e
     by (Some span) e known = absurd cc
 
-nothing_laid : IsLaid no_places
+pub nothing_laid : IsLaid no_places
 unfolding IsOrdered
 nothing_laid = record {
   ordered = tt;
