@@ -33,7 +33,7 @@ use Rattle.tsa_tree.specs.types.Structs.{members_behind}
 use Rattle.tsa_tree.specs.types.Types.{single}
 use Rattle.tsa_tree.specs.types.Units.{outset, around_body, body_premises, item_premises, behind_item, items_premises}
 use Rattle.tsa_tree.specs.units.Syntax.{UnitItem, structure_item, alias_item, enumeration_item, global_item, function_item, body_item}
-use Rattle.tsa_place.proofs.Laid.{front_at, last_at, by_last}
+use Rattle.tsa_lead.proofs.Laid.{front_at, last_at, by_last}
 use Rattle.tsa_core.proofs.MappedLists.{map_at, map_length}
 use Rattle.tsa_core.specs.KindLaws.{BodiesAgree, param_kinds}
 use Rattle.tsa_core.specs.Programs.{Declared, unless_known, first_head, declared_by, declared_functions, Bodied, bodied_by, bodied_function}
@@ -114,11 +114,11 @@ first_means here head with_body is = (
 )
 
 known_meant : (ds : List Declared) (here : Scope) (head : Head) (with_body : Bool) (o : Option Entry) → found here.names head.name.text ≡ o → Agree ds here → AreMeant ds here
-    → AreMeant (ds ++ unless_known (is_some o) here head) (behind_known here head with_body o)
+    → AreMeant (ds ++ unless_known (is_some o) (record { here = here; head = head; with_body = with_body })) (behind_known here head with_body o)
 known_meant ds here head with_body (Some e) is agreed meant n d at =
     means_kept here (again here head with_body e.meaning) d.head.name.text n (kept_again here head with_body e.meaning) (meant n d (sym (ap (λ xs. slice_get xs n) (append-nil ds)) ∙ at))
 known_meant ds here head with_body None is agreed meant n d at =
-    by_last ds (record { here = here; head = head }) n d at
+    by_last ds (record { here = here; head = head; with_body = with_body }) n d at
     (λ front. means_kept here (behind_known here head with_body None) d.head.name.text n (kept_known here head with_body None) (meant n d front))
     (λ number same. subst (λ x. Means (behind_known here head with_body None) x.head.name.text n) same
     (subst (Means (behind_known here head with_body None) head.name.text) (count ds here agreed ∙ sym number) (first_means here head with_body is)))
@@ -200,7 +200,7 @@ module _ (ds : List Declared) (here : Scope) (head : Head) (body : Statements) (
   own = record { here = inside here head true; head = head; body = body }
 
   abbrev Here : Option Entry → Type 0
-  Here o = IsOfFunction own head.name.text (ds ++ unless_known (is_some o) here head) (behind_known here head true o)
+  Here o = IsOfFunction own head.name.text (ds ++ unless_known (is_some o) (record { here = here; head = head; with_body = true })) (behind_known here head true o)
 
   types : SameTypes here (inside here head true)
   types = body_types here head
@@ -216,8 +216,8 @@ module _ (ds : List Declared) (here : Scope) (head : Head) (body : Statements) (
   first_told : found here.names head.name.text ≡ None → Here None
   first_told is = record {
     number = length here.functions;
-    first = record { here = here; head = head };
-    at = ap (slice_get (ds ++ record { here = here; head = head } ∷ [])) (count ds here agreed) ∙ last_at ds (record { here = here; head = head });
+    first = record { here = here; head = head; with_body = true };
+    at = ap (slice_get (ds ++ record { here = here; head = head; with_body = true } ∷ [])) (count ds here agreed) ∙ last_at ds (record { here = here; head = head; with_body = true });
     means = first_means here head true is;
     params = own_kinds here (inside here head true) head.params types ∙ first_kinds here head.params;
     result = kind_kept here (inside here head true) types head.result;
@@ -277,7 +277,7 @@ module _ (ds : List Declared) (here : Scope) (head : Head) (body : Statements) (
       (subst (λ o. is_another here head true o ≡ false) is
       (declared_told here declaring.Result (is_another here head true (found here.names head.name.text)) head.name.span head.result told_parts.0).0)
 
-  head_told : IsOfFunction own head.name.text (ds ++ first_head here head) (behind_head here head true)
+  head_told : IsOfFunction own head.name.text (ds ++ first_head here head true) (behind_head here head true)
   head_told = known_told (found here.names head.name.text) refl
 
 -- At the end of the unit.
@@ -319,9 +319,9 @@ module _ (name : List ℕ) (b : Bodied) where
   unfolding body_premises
   by_item ds rest here end (body_item head body close) other agreed h kept later is =
       let own : Bodied = record { here = inside here head true; head = head; body = body } in
-      or_told (ds ++ (first_head here head ++ rest)) end (bytes_eq name head.name.text) own other
-      (λ hit. subst (λ xs. IsOfFunction own name xs end) (append_assoc ds (first_head here head) rest)
-      (told_later own name head.name.text (ds ++ first_head here head) rest (behind_head here head true) end (sym ((bytes_eq-Decides name head.name.text).0 hit)) kept
+      or_told (ds ++ (first_head here head true ++ rest)) end (bytes_eq name head.name.text) own other
+      (λ hit. subst (λ xs. IsOfFunction own name xs end) (append_assoc ds (first_head here head true) rest)
+      (told_later own name head.name.text (ds ++ first_head here head true) rest (behind_head here head true) end (sym ((bytes_eq-Decides name head.name.text).0 hit)) kept
       (head_told ds here head body agreed (none_of_both (head_premises here head true) (statements_premises (around_body here head body) (inside here head true) body) h).0)))
       later is
   by_item ds rest here end (structure_item tag alias attrs members span) other agreed h kept later is = later is

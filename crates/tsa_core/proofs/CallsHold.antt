@@ -29,13 +29,13 @@ use Rattle.tsa_core.proofs.TypedTerms.{some_same, terms_have_types}
 use Rattle.tsa_core.proofs.ValuesServe.{goes_served, small_scalar, free_gives, no_call, constant_free}
 
 -- lists that are as long as each other
-none_is_more : {A : Type 0} (n : ℕ) → nat_eq 0 (suc n) ≡ true → A
+pub none_is_more : {A : Type 0} (n : ℕ) → nat_eq 0 (suc n) ≡ true → A
 none_is_more n e = let h = eqb-true 0 (suc n) e in absurd (omega (arith, h))
 
-more_is_none : {A : Type 0} (n : ℕ) → nat_eq (suc n) 0 ≡ true → A
+pub more_is_none : {A : Type 0} (n : ℕ) → nat_eq (suc n) 0 ≡ true → A
 more_is_none n e = let h = eqb-true (suc n) 0 e in absurd (omega (arith, h))
 
-one_less : (n m : ℕ) → nat_eq (suc n) (suc m) ≡ true → nat_eq n m ≡ true
+pub one_less : (n m : ℕ) → nat_eq (suc n) (suc m) ≡ true → nat_eq n m ≡ true
 one_less n m e = let h = eqb-true (suc n) (suc m) e in eq-eqb n m (omega (arith, h))
 
 -- what is known of functions by name is what their signatures say
@@ -94,7 +94,7 @@ pub call_called : (here : Scope) (callee : Identifier) (args : Arguments) (span 
 unfolding type_of
 call_called here callee args span t e = known_called here args callee.text t (known_in here callee.text) refl e
 
-call_whole : (e : Expression) → is_call e ≡ true → is_whole e ≡ true
+pub call_whole : (e : Expression) → is_call e ≡ true → is_whole e ≡ true
 call_whole (call callee args span) h = h
 call_whole (number n u span) h = never (sym h)
 call_whole (null span) h = never (sym h)

@@ -1,10 +1,9 @@
 -- What a typed deed does at a point has the kinds that are wanted there.
-use Rattle.std.proofs.Common.{◌≡◌, ◌∙◌, ℕ, Bool, true, false, not, ◌&&◌, ◌||◌, ◌∷◌, ◌++◌, Option, Some, None, is_some, is_none, refl, sym, ap, subst}
+use Rattle.std.proofs.Common.{◌≡◌, ◌∙◌, ℕ, true, false, not, ◌&&◌, ◌||◌, Option, Some, None, is_some, is_none, refl, sym, ap, subst}
 use Rattle.tsa_base.specs.declared.token.Span.{Span}
 use Rattle.tsa_tree.specs.declarations.Syntax.{Declaration, Initialiser, value, list}
 use Rattle.tsa_tree.specs.declarations.Sound.{SoundLocal, SoundLocalInit}
 use Rattle.tsa_tree.specs.declared.expr.BinaryOp.{BinaryOp}
-use Rattle.tsa_tree.specs.declared.expr.UnaryOp.TheVariants as prefix
 use Rattle.tsa_tree.specs.declared.kind.Declaring.TheVariants as declaring
 use Rattle.tsa_tree.specs.declared.kind.ExpressionType.{ExpressionType}
 use Rattle.tsa_tree.specs.declared.kind.Kind.{Kind}
@@ -14,36 +13,34 @@ use Rattle.tsa_tree.specs.declared.kind.Resolved.TheVariants as written
 use Rattle.tsa_tree.specs.declared.kind.ThingType.{ThingType}
 use Rattle.tsa_tree.specs.declared.meaning.Entry.{Entry}
 use Rattle.tsa_tree.specs.declared.meaning.Meaning.TheVariants as meant
-use Rattle.tsa_tree.specs.declared.premise.Bearer.TheVariants as on
-use Rattle.tsa_tree.specs.declared.premise.TypeCode.TheVariants.{TY2, TY3, TY5}
 use Rattle.tsa_tree.specs.expressions.Sound.{SoundExpression, SoundOptional}
 use Rattle.tsa_tree.specs.expressions.Syntax.{Identifier, Expression, Arguments, number, null, named, call, unary, binary, field, index}
-use Rattle.tsa_tree.specs.points.Syntax.{Deed, declares, evaluates, assigns, tests, switches, jumps, idles, returns, ends, expression_span}
+use Rattle.tsa_tree.specs.points.Syntax.{Deed, declares, evaluates, assigns, tests, switches, jumps, idles, returns, ends}
 use Rattle.tsa_tree.specs.statements.Sound.{is_assigning}
 use Rattle.tsa_tree.specs.tokens.Signs.{Aliases}
-use Rattle.tsa_tree.specs.types.Attributes.{attributes_premises}
-use Rattle.tsa_tree.specs.types.DeclaredTypes.{resolve, thing_type, is_refused, type_premise, unknown_tag, length_premises, parts_premises, is_nothing, may_be, length_of, with_length}
+use Rattle.tsa_tree.specs.types.DeclaredTypes.{resolve, thing_type, is_refused, is_nothing, may_be, length_of, with_length}
 use Rattle.tsa_tree.specs.types.Expressions.{type_of, premises_of}
-use Rattle.tsa_tree.specs.types.Locals.{has_type, init_breaks, names_in, names_in_init, local_premises}
+use Rattle.tsa_tree.specs.types.Locals.{init_breaks, names_in, names_in_init, local_premises}
 use Rattle.tsa_tree.specs.types.Operands.{integer_kind, pointer_kind, is_integer, is_scalar, lacks, goes_to, breaks_binary}
-use Rattle.tsa_tree.specs.types.Premises.{premise, first}
+use Rattle.tsa_tree.specs.types.Premises.{first}
 use Rattle.tsa_tree.specs.types.Runnable.{is_whole, is_free, is_condition, is_small, is_whole_init, is_whole_given, has_call, local_runs, is_scalar_kind}
-use Rattle.tsa_tree.specs.types.Scopes.{Scope, context_of, known_in, is_taken}
-use Rattle.tsa_tree.specs.types.Simple.{assignment_breaks, is_written_to, written_type, assignment_premises, is_void, return_breaks, parts_of}
+use Rattle.tsa_tree.specs.types.Scopes.{Scope, context_of, known_in}
+use Rattle.tsa_tree.specs.types.Simple.{assignment_breaks, is_written_to, assignment_premises, is_void, return_breaks, parts_of}
 use Rattle.tsa_layout.specs.Calls.{Layout}
 use Rattle.tsa_core.specs.Bodies.{assigned, declared, point_by}
 use Rattle.tsa_core.specs.Kinds.{Setting, scalar_kind, place_type, value_kind, Belongs}
-use Rattle.tsa_core.specs.Meanings.{loaded, of_name, of_call, as_kind, meaning, call_of, call_in}
+use Rattle.tsa_core.specs.Meanings.{loaded, of_call, as_kind, meaning, call_of, call_in}
 use Rattle.tsa_core.specs.PointKinds.{Signatures, Serves, ActionHolds, CallHolds, answer_of, at_point, PointHolds}
+use Rattle.tsa_core.proofs.DeedsTold.{left_holds, init_told, set_told}
 use Rattle.tsa_core.proofs.CallsHold.{CallsFit, call_called, Holding, whole_holding, whole_gives, condition_good}
 use Rattle.tsa_core.proofs.LaidScopes.{is_written_kind}
 use Rattle.tsa_core.proofs.KindTests.{never, both_true, neither, not_true, or_left, integer_is, scalar_is, not_false}
 use Rattle.tsa_core.proofs.KindsOfOperators.{Holds, value_loaded, integer_loaded}
 use Rattle.tsa_core.proofs.KindsOfTerms.{holds, typed}
-use Rattle.tsa_core.proofs.NoFailure.{none_of_both, none_of_first, keeps_typed}
+use Rattle.tsa_core.proofs.NoFailure.{keeps_typed}
 use Rattle.tsa_core.proofs.TypedTerms.{terms_have_types}
 use Rattle.tsa_core.proofs.ValuesServe.{goes_served, small_goes, small_scalar, free_gives}
-use Rattle.tsa_core.proofs.SetsHold.{passes_typed, is_left, left_name, left_member, value_binary, zero_serves, loaded_there, set_holds, assigned_joins, right_integer, written_is}
+use Rattle.tsa_core.proofs.SetsHold.{passes_typed, is_left, zero_serves, loaded_there, set_holds, assigned_joins, right_integer}
 
 -- What typing, reading and running say of a deed.
 abbrev pub Facts : Aliases → ThingType → Scope → Deed → Type 0
@@ -65,30 +62,6 @@ Facts aliases result here ends = Unit {0}
 
 module _ (here : Scope) (l : Layout) (locals : ℕ → Option Kind) (sig : Signatures) (aliases : Aliases) (bel : (given : Option Kind) → Belongs here (at_point l locals given))
     (fit : CallsFit sig here) (result : ThingType) where
-  left_holds : (e : Expression) → (meaning here e).type.is_place ≡ true → is_left (meaning here e).term ≡ true
-  unfolding meaning
-  left_holds (number n true span) h = never (sym h)
-  left_holds (number n false span) h = never (sym h)
-  left_holds (null span) h = never (sym h)
-  left_holds (named name span) h = by (known_in here name.text) refl h
-    where
-      by : (o : Option Entry) → known_in here name.text ≡ o → (of_name o).type.is_place ≡ true → is_left (of_name o).term ≡ true
-      by None is h = never (sym h)
-      by (Some x) is h = left_name x.meaning x.thing h (λ means. (bel None).none_owned name.text x is means)
-  left_holds (call callee args span) h = by (known_in here callee.text) h
-    where
-      by : (o : Option Entry) → (of_call o).type.is_place ≡ true → is_left (of_call o).term ≡ true
-      by None h = never (sym h)
-      by (Some x) h = never (sym h)
-  left_holds (unary prefix.Follow inner span) h = refl
-  left_holds (unary prefix.Minus inner span) h = never (sym h)
-  left_holds (unary prefix.Not inner span) h = never (sym h)
-  left_holds (unary prefix.Flip inner span) h = never (sym h)
-  left_holds (unary prefix.Address inner span) h = never (sym h)
-  left_holds (binary o left right span) h = never (sym h ∙ value_binary o (meaning here left).type (meaning here right).type)
-  left_holds (field base name arrow span) h = left_member arrow (meaning here base) _ h
-  left_holds (index base at span) h = refl
-
   abbrev by_call : Expression → Setting
   by_call e = at_point l locals (answer_of sig (call_in here e))
 
@@ -186,31 +159,6 @@ module _ (here : Scope) (l : Layout) (locals : ℕ → Option Kind) (sig : Signa
       (g.0, (refl, λ scalar. g.1.1.1))
 
   -- a local that begins
-  pub type_is : (r : Resolved) → is_refused here declaring.Thing r ≡ false → first (unknown_tag r) ≡ None → has_type r ≡ true
-  unfolding first
-  type_is (written.Type t) e f = refl
-  type_is (written.Unknown span) e f = absurd cc
-  type_is written.Refused e f = never e
-
-  and_false : (a b : Bool) → (a && b) ≡ false → a ≡ true → b ≡ false
-  and_false true b e f = e
-  and_false false b e f = never (sym f)
-
-  init_told : (d : Declaration) → first (local_premises here d) ≡ None → (init_breaks here (thing_type here d.ctype) d.init ≡ false) × ((first (names_in here d.init) ≡ None) × (is_refused here declaring.Thing (resolve here d.ctype) ≡ false))
-  unfolding local_premises
-  init_told d h =
-      let rest = attributes_premises here on.Local d.attrs ++ names_in here d.init in
-      let breaks = has_type (resolve here d.ctype) && init_breaks here (thing_type here d.ctype) d.init in
-      let parts = parts_premises here d.ctype ++ rest in
-      let a = none_of_first TY2 d.span (is_taken d.name.text here) (type_premise here declaring.Thing d.span d.ctype ∷ premise TY3 d.span breaks ∷ parts) h in
-      let b = none_of_first TY3 d.span (is_refused here declaring.Thing (resolve here d.ctype)) (premise TY3 d.span breaks ∷ parts) a.1 in
-      let c = none_of_first TY3 d.span breaks parts b.1 in
-      let e = none_of_both (parts_premises here d.ctype) rest c.1 in
-      let u = none_of_both (unknown_tag (resolve here d.ctype)) (length_premises (context_of here) d.ctype.length) e.0 in (
-        and_false (has_type (resolve here d.ctype)) (init_breaks here (thing_type here d.ctype) d.init) c.0 (type_is (resolve here d.ctype) b.0 u.0),
-        ((none_of_both (attributes_premises here on.Local d.attrs) (names_in here d.init) e.1).1, b.0),
-      )
-
   abbrev BeginsWith : Option Initialiser → Kind → Type 0
   BeginsWith init kind = PointHolds sig l locals result.kind (declared here kind init)
 
@@ -239,7 +187,7 @@ module _ (here : Scope) (l : Layout) (locals : ℕ → Option Kind) (sig : Signa
 
   declares_holds : (d : Declaration) → IsListedAt (declares d) → Facts aliases result here (declares d) → IsRight (declares d)
   declares_holds d is f =
-      let told = init_told d f.0 in
+      let told = init_told here d f.0 in
       let runs = both_true (is_small (thing_type here d.ctype)) (is_whole_init d.init) f.1.0 in
       let scalar =
       scalar_written (thing_type here d.ctype).kind (both_true (is_scalar_kind (thing_type here d.ctype).kind) _ runs.0).0
@@ -257,7 +205,7 @@ module _ (here : Scope) (l : Layout) (locals : ℕ → Option Kind) (sig : Signa
     left_kept = holds here k (bel (answer_of sig (call_in here right))) aliases left sound (free_gives here k left free) t h
 
     left_is : is_left (meaning here left).term ≡ true
-    left_is = left_holds left (both_true (meaning here left).type.is_place (not (meaning here left).type.thing.is_const) written_to).0
+    left_is = left_holds here (bel None).none_owned left (both_true (meaning here left).type.is_place (not (meaning here left).type.thing.is_const) written_to).0
 
     plain_set : first (premises_of (context_of here) right) ≡ None → is_whole right ≡ true → SoundExpression aliases right
         → lacks (λ x. goes_to x (meaning here left).type.thing) (type_of (context_of here) right) ≡ false
@@ -292,27 +240,12 @@ module _ (here : Scope) (l : Layout) (locals : ℕ → Option Kind) (sig : Signa
   set_by left (Some o) right t u h g written free sound assigning kept whole other breaks =
       let e = neither (breaks_binary o (Some (meaning here left).type) (Some (meaning here right).type)) _ breaks in
       joined_set left right t u h g written free sound o assigning whole other e.0
-      (right_integer o (meaning here left).type (meaning here right).type assigning e.0)
+      (right_integer (meaning here left).type (meaning here right).type o assigning e.0)
 
   assigned_holds : (left : Expression) (o : Option BinaryOp) (right : Expression) → Facts aliases result here (assigns left o right) → IsRight (assigns left o right)
-  unfolding assignment_premises
   assigned_holds left o right f =
-      let c = context_of here in
-      let span = f.0.0 in
-      let a = none_of_first TY3 span (assignment_breaks o (written_type (type_of c left)) (type_of c right))
-      (premises_of c left ++ premise TY5 (expression_span left) (lacks is_written_to (type_of c left)) ∷ premises_of c right) f.0.1 in
-      let b = none_of_both (premises_of c left) (premise TY5 (expression_span left) (lacks is_written_to (type_of c left)) ∷ premises_of c right) a.1 in
-      let d = none_of_first TY5 (expression_span left) (lacks is_written_to (type_of c left)) (premises_of c right) b.1 in
-      let t = keeps_typed c left b.0 in
-      let u = keeps_typed c right d.1 in
-      let left_typed = typed here left t.0 t.1 in
-      let written = passes_typed is_written_to (type_of c left) (meaning here left).type left_typed d.0 in
-      let breaks =
-      subst (λ p. assignment_breaks o (Some (meaning here left).type) p ≡ false) (typed here right u.0 u.1)
-      (subst (λ p. assignment_breaks o p (type_of c right) ≡ false) (ap written_type left_typed ∙ written_is (meaning here left).type written) a.0)
-      in
-      let runs = both_true (is_free left) (is_whole right) f.1.0 in
-      set_by left o right t.0 u.0 t.1 u.1 written (not_true (has_call left) runs.0) f.1.1.0 f.1.1.1 d.1 runs.1 f.1.1.2 breaks
+      let s = set_told here left o right f.0.0 f.0.1 f.1.0 in
+      set_by left o right s.t s.u s.left_typed s.right_typed s.written s.free f.1.1.0 f.1.1.1 s.kept s.whole f.1.1.2 s.breaks
 
   pub deed_holds : (d : Deed) → IsListedAt d → Facts aliases result here d → IsRight d
   deed_holds (declares d) is f = declares_holds d is f

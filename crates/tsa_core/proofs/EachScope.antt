@@ -11,7 +11,7 @@ use Rattle.tsa_tree.specs.types.Targets.{declared_in}
 use Rattle.tsa_core.specs.Bodies.{Known, knows, known_init, known_step, known, known_all, known_in_body}
 
 module _ (P : Scope → Type 0) (on : (here : Scope) (n : ℕ) → P here → P (further n here)) (past : (here : Scope) (d : Declaration) → P here → P (behind_local here d)) where
-  statement_past : (here : Scope) (s : Statement) → P here → P (behind here s)
+  pub statement_past : (here : Scope) (s : Statement) → P here → P (behind here s)
   unfolding behind
   statement_past here (local d) h = past here d h
   statement_past here (block items span) h = on here (declared_in (block items span)) h
@@ -31,7 +31,7 @@ module _ (P : Scope → Type 0) (on : (here : Scope) (n : ℕ) → P here → P 
   statement_past here (goto name span) h = on here (declared_in (goto name span)) h
   statement_past here (return e span) h = on here (declared_in (return e span)) h
 
-  init_past : (here : Scope) (init : ForInit) → P here → P (behind_init here init)
+  pub init_past : (here : Scope) (init : ForInit) → P here → P (behind_init here init)
   init_past here no_init h = h
   init_past here (simple_init s) h = h
   init_past here (local_init d) h = past here d h

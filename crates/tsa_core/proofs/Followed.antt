@@ -16,7 +16,7 @@ use Rattle.tsa_core.specs.Laws.{is_choice, EdgesAreFollowed}
 use Rattle.tsa_core.proofs.Counts.{count_if, count_do, count_for, count_more}
 
 -- edges from points with numbers from one on and below another
-abbrev Between : ℕ → ℕ → Edge → Type 0
+abbrev pub Between : ℕ → ℕ → Edge → Type 0
 Between low high e = (low ≤ e.from) × (e.from < high)
 
 abbrev IsFollowed : List Edge → Edge → Type 0
@@ -29,7 +29,7 @@ Follow low high es = All (Between low high) es × All (IsFollowed es) es
 nothing : (low high : ℕ) → Follow low high []
 nothing low high = (All-nil (Between low high), All-nil (IsFollowed []))
 
-differ : (a b : ℕ) → (a ≡ b → ⊥) → nat_eq a b ≡ false
+pub differ : (a b : ℕ) → (a ≡ b → ⊥) → nat_eq a b ≡ false
 differ a b other = grind (arith, nat_tests)
 
 itself : (n : ℕ) → nat_eq n n ≡ true
@@ -58,24 +58,28 @@ elsewhere : (low mid n : ℕ) (es : List Edge) → All (Between low mid) es → 
 elsewhere low mid n es h behind k d less same = let below : (slice_index_or es k d).from < mid = (h k d less).1 in omega (arith, below, behind, same)
 
 -- the edges of one part before those of another
+pub between_both : (low mid high : ℕ) (es fs : List Edge) → low ≤ mid → mid ≤ high → All (Between low mid) es → All (Between mid high) fs → All (Between low high) (es ++ fs)
+between_both low mid high es fs first second one two =
+    All-append (Between low high) es fs
+    (λ k d less. let x = one k d less in (x.0, let below : (slice_index_or es k d).from < mid = x.1 in omega (arith, below, second)))
+    (λ k d less. let x = two k d less in (let above : mid ≤ (slice_index_or fs k d).from = x.0 in omega (arith, above, first), x.1))
+
 join : (low mid high : ℕ) (es fs : List Edge) → low ≤ mid → mid ≤ high → Follow low mid es → Follow mid high fs → Follow low high (es ++ fs)
 join low mid high es fs first second one two = (
-  All-append (Between low high) es fs
-      (λ k d less. let x = one.0 k d less in (x.0, let below : (slice_index_or es k d).from < mid = x.1 in omega (arith, below, second)))
-      (λ k d less. let x = two.0 k d less in (let above : mid ≤ (slice_index_or fs k d).from = x.0 in omega (arith, above, first), x.1)),
+  between_both low mid high es fs first second one.0 two.0,
   All-append (IsFollowed (es ++ fs)) es fs
       (λ k d less plain. let e = slice_index_or es k d in found e.from e.outcome es fs e.to (one.1 k d less plain))
       (λ k d less plain. let e = slice_index_or fs k d in passed e.from e.outcome es fs (elsewhere low mid e.from es one.0 (two.0 k d less).0) ∙ two.1 k d less plain),
 )
 
 -- One edge.
-one : (at high : ℕ) (o : Outcome) (to : ℕ) → at < high → same_outcome o o ≡ true → Follow at high (edge at o to ∷ [])
+pub one : (at high : ℕ) (o : Outcome) (to : ℕ) → at < high → same_outcome o o ≡ true → Follow at high (edge at o to ∷ [])
 one at high o to less same = (
   All-cons (Between at high) (edge at o to) [] (omega arith, less) (All-nil (Between at high)),
   All-cons (IsFollowed (edge at o to ∷ [])) (edge at o to) [] (λ plain. rw (itself at, same) refl) (All-nil (IsFollowed (edge at o to ∷ []))),
 )
 
-next : (at high to : ℕ) → at < high → Follow at high (edge at Next to ∷ [])
+pub next : (at high to : ℕ) → at < high → Follow at high (edge at Next to ∷ [])
 next at high to less = one at high Next to less refl
 
 -- those of a test
@@ -83,7 +87,7 @@ constant_follows : (b : Bool) (at high yes_to no_to : ℕ) → at < high → Fol
 constant_follows true at high yes_to no_to less = one at high Yes yes_to less refl
 constant_follows false at high yes_to no_to less = one at high No no_to less refl
 
-test_follows : (v : Option Number) (at high yes_to no_to : ℕ) → at < high → Follow at high (test_edges v at yes_to no_to)
+pub test_follows : (v : Option Number) (at high yes_to no_to : ℕ) → at < high → Follow at high (test_edges v at yes_to no_to)
 test_follows None at high yes_to no_to less =
     let es = edge at Yes yes_to ∷ edge at No no_to ∷ [] in (
       All-cons (Between at high) (edge at Yes yes_to) (edge at No no_to ∷ []) (omega arith, less) (All-cons (Between at high) (edge at No no_to) [] (omega arith, less) (All-nil (Between at high))),
@@ -92,11 +96,11 @@ test_follows None at high yes_to no_to less =
     )
 test_follows (Some n) at high yes_to no_to less = constant_follows (is_nonzero n) at high yes_to no_to less
 
-for_follows : (here : Scope) (test : Option Expression) (at high yes_to no_to : ℕ) → at < high → Follow at high (for_edges here test at yes_to no_to)
+pub for_follows : (here : Scope) (test : Option Expression) (at high yes_to no_to : ℕ) → at < high → Follow at high (for_edges here test at yes_to no_to)
 for_follows here None at high yes_to no_to less = one at high Yes yes_to less refl
 for_follows here (Some e) at high yes_to no_to less = test_follows (value_in (context_of here) e) at high yes_to no_to less
 
-step_follows : (n at high to : ℕ) → at + n ≤ high → Follow at high (step_edges n at to)
+pub step_follows : (n at high to : ℕ) → at + n ≤ high → Follow at high (step_edges n at to)
 step_follows zero at high to le = nothing at high
 step_follows (suc n) at high to le = next at high to (omega (arith, le))
 
@@ -123,7 +127,7 @@ rest_followed : (b : Bool) (at follow : ℕ) (es : List Edge) → All (IsFollowe
 rest_followed true at follow es = All-nil (IsFollowed es)
 rest_followed false at follow es = All-cons (IsFollowed es) (edge at Rest follow) [] (λ plain. cc) (All-nil (IsFollowed es))
 
-switch_follows : (cs : Cases) (at high follow : ℕ) → at < high → Follow at high (switch_edges cs at follow)
+pub switch_follows : (cs : Cases) (at high follow : ℕ) → at < high → Follow at high (switch_edges cs at follow)
 switch_follows cs at high follow less = (
   All-append (Between at high) (case_edges at cs) (rest_edges (has_default cs) at follow) (cases_between at high cs less) (rest_between (has_default cs) at high follow less),
   All-append (IsFollowed (switch_edges cs at follow)) (case_edges at cs) (rest_edges (has_default cs) at follow)

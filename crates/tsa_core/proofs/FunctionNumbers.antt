@@ -22,7 +22,8 @@ use Rattle.tsa_tree.specs.types.Structs.{members_behind}
 use Rattle.tsa_tree.specs.types.Types.{single}
 use Rattle.tsa_tree.specs.types.Units.{outset, behind_item}
 use Rattle.tsa_tree.specs.units.Syntax.{UnitItem, structure_item, alias_item, enumeration_item, global_item, function_item, body_item}
-use Rattle.tsa_core.specs.Bodies.{Known, known_in_body, is_stable, point_of}
+use Rattle.tsa_way.specs.LockPaths.{stable_in}
+use Rattle.tsa_core.specs.Bodies.{Known, known_in_body, point_of}
 use Rattle.tsa_core.specs.Laws.{HasName, KnowsNumbers, FunctionsAreNumbered, UsesStandBesidePoints}
 use Rattle.tsa_core.specs.Uses.{uses_of}
 use Rattle.tsa_core.proofs.EachScope.{each_point}
@@ -90,25 +91,25 @@ module _ (ds : List Declared) where
   again_agree here head with_body (meant.Constant z) h = h
   again_agree here head with_body meant.TypeName h = h
 
-  first_named : (here : Scope) (head : Head) → length here.functions ≡ length ds
-      → Named (ds ++ record { here = here; head = head } ∷ []) (head.name.text, function_entry here head (length here.functions))
-  first_named here head same n is =
+  first_named : (here : Scope) (head : Head) (with_body : Bool) → length here.functions ≡ length ds
+      → Named (ds ++ record { here = here; head = head; with_body = with_body } ∷ []) (head.name.text, function_entry here head (length here.functions))
+  first_named here head with_body same n is =
       let number : length here.functions ≡ n = cc in
-      subst (λ m. HasName (ds ++ record { here = here; head = head } ∷ []) m head.name.text) (sym same ∙ number) (last_name ds (record { here = here; head = head }))
+      subst (λ m. HasName (ds ++ record { here = here; head = head; with_body = with_body } ∷ []) m head.name.text) (sym same ∙ number) (last_name ds (record { here = here; head = head; with_body = with_body }))
 
   known_agree : (here : Scope) (head : Head) (with_body : Bool) (o : Option Entry) → Agree ds here
-      → Agree (ds ++ unless_known (is_some o) here head) (behind_known here head with_body o)
+      → Agree (ds ++ unless_known (is_some o) (record { here = here; head = head; with_body = with_body })) (behind_known here head with_body o)
   known_agree here head with_body None h =
       let one : length (here.functions ++ declares_function here head with_body ∷ []) ≡ length here.functions + 1 = length-append here.functions (declares_function here head with_body ∷ []) in
-      let two : length (ds ++ record { here = here; head = head } ∷ []) ≡ length ds + 1 = length-append ds (record { here = here; head = head } ∷ []) in
+      let two : length (ds ++ record { here = here; head = head; with_body = with_body } ∷ []) ≡ length ds + 1 = length-append ds (record { here = here; head = head; with_body = with_body } ∷ []) in
       let same : length here.functions ≡ length ds = h.0 in (
         omega (arith, one, two, same),
-        further_name (ds ++ record { here = here; head = head } ∷ []) here head.name.text (function_entry here head (length here.functions)) (first_named here head same)
-            (named_longer ds (record { here = here; head = head } ∷ []) here h.1),
+        further_name (ds ++ record { here = here; head = head; with_body = with_body } ∷ []) here head.name.text (function_entry here head (length here.functions)) (first_named here head with_body same)
+            (named_longer ds (record { here = here; head = head; with_body = with_body } ∷ []) here h.1),
       )
   known_agree here head with_body (Some e) h = subst (λ xs. Agree xs (again here head with_body e.meaning)) (sym (append-nil ds)) (again_agree here head with_body e.meaning h)
 
-  head_agree : (here : Scope) (head : Head) (with_body : Bool) → Agree ds here → Agree (ds ++ first_head here head) (behind_head here head with_body)
+  head_agree : (here : Scope) (head : Head) (with_body : Bool) → Agree ds here → Agree (ds ++ first_head here head with_body) (behind_head here head with_body)
   head_agree here head with_body h = known_agree here head with_body (found here.names head.name.text) h
 
   data_agree : (here : Scope) → Agree ds here → Agree (ds ++ []) here
@@ -149,13 +150,13 @@ module _ (name : List ℕ) (b : Bodied) where
       → (other ≡ Some b → AreNamed (ds ++ (declared_by here item ++ rest)) b.here) → bodied_by name here item other ≡ Some b
       → AreNamed (ds ++ (declared_by here item ++ rest)) b.here
   by_item ds rest here (body_item head body close) other h later is =
-      let all = ds ++ (first_head here head ++ rest) in
-      let known : AreNamed ((ds ++ first_head here head) ++ rest) (behind_head here head true) =
-      named_longer (ds ++ first_head here head) rest (behind_head here head true) (head_agree ds here head true h).1
+      let all = ds ++ (first_head here head true ++ rest) in
+      let known : AreNamed ((ds ++ first_head here head true) ++ rest) (behind_head here head true) =
+      named_longer (ds ++ first_head here head true) rest (behind_head here head true) (head_agree ds here head true h).1
       in
       or_begins b all (bytes_eq name head.name.text) (record { here = inside here head true; head = head; body = body }) other
       (params_named all (behind_head here head true) 0 head.params
-      (subst (λ xs. AreNamed xs (behind_head here head true)) (append_assoc ds (first_head here head) rest) known))
+      (subst (λ xs. AreNamed xs (behind_head here head true)) (append_assoc ds (first_head here head true) rest) known))
       later is
   by_item ds rest here (structure_item tag alias attrs members span) other h later is = later is
   by_item ds rest here (alias_item text ctype span) other h later is = later is
@@ -208,5 +209,5 @@ functions_are_numbered items name b is k d less =
 
 pub uses_stand_beside : UsesStandBesidePoints
 uses_stand_beside l b =
-    length-map (known_in_body b.here b.body) (uses_of l (is_stable (body_in b)))
+    length-map (known_in_body b.here b.body) (uses_of l (stable_in (body_in b).stable))
     ∙ sym (length-map (known_in_body b.here b.body) (point_of (thing_type b.here b.head.result).kind))

@@ -43,7 +43,7 @@ of_two f false None p t e = cc
 of_two f false (Some x) None t e = cc
 of_two f false (Some x) (Some y) t e = (refl, ((x, refl), (y, refl)))
 
-of_owner : (f : ExpressionType → Option ExpressionType) (b : Bool) (o : Option ExpressionType) (t : ExpressionType) → unless b (option_and_then f o) ≡ Some t
+pub of_owner : (f : ExpressionType → Option ExpressionType) (b : Bool) (o : Option ExpressionType) (t : ExpressionType) → unless b (option_and_then f o) ≡ Some t
     → (x : ExpressionType) × ((o ≡ Some x) × (f x ≡ Some t))
 of_owner f true o t e = cc
 of_owner f false None t e = cc
@@ -77,7 +77,7 @@ not_above n m e = by (nat_le m n) refl
     by false f = refl
 
 module _ (here : Scope) (k : Setting) (b : Belongs here k) where
-  part_at : (struct : ℕ) (name : List ℕ) (j : ℕ) (t : ThingType) → numbered (members_at here struct) name 0 ≡ Some (j, t)
+  pub part_at : (struct : ℕ) (name : List ℕ) (j : ℕ) (t : ThingType) → numbered (members_at here struct) name 0 ≡ Some (j, t)
       → option_map (λ m. m.thing) (slice_get (structure_at k.layout.structs struct).members j) ≡ Some t
   part_at struct name j t e = by (slice_get here.structs struct) refl e
     where

@@ -40,7 +40,7 @@ program_signatures items n d is =
     let there = map_at make (declared_functions (outset items) items) n ∙ ap (option_map make) is in
     (ap (option_map (λ f. f.result)) there, ap (option_map (λ f. map (λ t. t.kind) f.params)) there)
 
-each_all : (P : Known → Type 0) (ks : List Known) → Each P ks → All P ks
+pub each_all : (P : Known → Type 0) (ks : List Known) → Each P ks → All P ks
 each_all P [] h = All-nil P
 each_all P (k ∷ ks) h = All-cons P k ks h.0 (each_all P ks h.1)
 

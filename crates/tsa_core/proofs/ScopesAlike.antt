@@ -1,22 +1,19 @@
 -- What is known of a unit without its functions: constants, and so types, are the same as with them.
-use Rattle.std.proofs.Common.{◌≡◌, ◌∙◌, ℕ, Bool, true, false, ◌&&◌, List, [], Option, Some, None, Ok, option_map, if◌then◌else◌, refl, sym, ap, ap₂}
+use Rattle.std.proofs.Common.{◌≡◌, ◌∙◌, ℕ, Bool, true, false, List, [], Option, Some, None, refl, sym, ap, ap₂}
 use Rattle.tsa_base.specs.declared.token.Span.{Span}
 use Rattle.tsa_tree.specs.declarations.Syntax as declared
 use Rattle.tsa_tree.specs.declarations.Syntax.{Base, DeclaredType}
-use Rattle.tsa_tree.specs.declared.kind.ExpressionType.{ExpressionType}
 use Rattle.tsa_tree.specs.declared.kind.ThingType.{ThingType}
 use Rattle.tsa_tree.specs.declared.meaning.Entry.{Entry}
 use Rattle.tsa_tree.specs.declared.meaning.Meaning.{Meaning}
 use Rattle.tsa_tree.specs.declared.meaning.Meaning.TheVariants as meant
-use Rattle.tsa_tree.specs.declared.number.Number.{Number}
-use Rattle.tsa_tree.specs.expressions.Syntax.{Expression, number, null, named, call, unary, binary, field, index}
-use Rattle.tsa_tree.specs.types.Constants.{enumerator, is_known_enumerator, takes_integers, is_made_of_constants, named_value, go_on, worked, worked_binary, without_trap, constant_of}
-use Rattle.tsa_tree.specs.types.Arithmetic.{operate_prefix}
-use Rattle.tsa_tree.specs.types.DeclaredTypes.{of_struct, of_enum, of_alias, base_of, qualified, declared_as, resolve, typed_value, value_in, length_of, with_length, thing_type}
-use Rattle.tsa_tree.specs.types.Expressions.{type_of, types_of, unless, both, entry_type, is_function}
-use Rattle.tsa_tree.specs.types.Operands.{breaks_prefix, breaks_binary, prefix_type, binary_type}
+use Rattle.tsa_tree.specs.expressions.Syntax.{Expression}
+use Rattle.tsa_tree.specs.types.Constants.{enumerator, is_known_enumerator, constant_of}
+use Rattle.tsa_tree.specs.types.DeclaredTypes.{of_struct, of_enum, of_alias, base_of, qualified, declared_as, resolve, value_in, length_of, with_length, thing_type}
+use Rattle.tsa_tree.specs.types.Expressions.{is_function}
 use Rattle.tsa_tree.specs.types.Scopes.{Scope, found, context_of, known_in}
-use Rattle.tsa_core.proofs.KindTests.{never, both_true}
+use Rattle.tsa_core.proofs.KindTests.{never}
+use Rattle.tsa_core.proofs.SameConstants.{SameConstants, same_constant, same_value}
 
 abbrev pub unless_so : Bool → Entry → Option Entry
 unless_so true e = None
@@ -76,10 +73,6 @@ alias_kept span (Some e) = by e.meaning e.thing
     by (meant.Constant z) t = refl
     by meant.TypeName t = refl
 
-typed_none : (o : Option ExpressionType) → typed_value o None ≡ None
-typed_none None = refl
-typed_none (Some t) = refl
-
 module _ (here there : Scope) (alike : Alike here there) where
   pub known_alike : (name : List ℕ) → known_in there name ≡ no_function (known_in here name)
   known_alike name = known_found there name alike.no_owned ∙ alike.names name ∙ ap no_function (sym (known_found here name alike.owned))
@@ -88,57 +81,14 @@ module _ (here there : Scope) (alike : Alike here there) where
   enumerator_same name = ap enumerator (known_alike name) ∙ enumerator_kept (known_in here name)
 
   -- constants are the same
-  made_same : (e : Expression) → is_made_of_constants (context_of there) e ≡ is_made_of_constants (context_of here) e
-  made_same (number n u span) = refl
-  made_same (named name span) = ap is_known_enumerator (enumerator_same name.text)
-  made_same (unary op inner span) = ap (λ b. takes_integers op && b) (made_same inner)
-  made_same (binary op left right span) = ap₂ (λ a b. a && b) (made_same left) (made_same right)
-  made_same (null span) = refl
-  made_same (call callee args span) = refl
-  made_same (field base name arrow span) = refl
-  made_same (index base at span) = refl
-
-  worked_same : (e : Expression) → worked (context_of there) e ≡ worked (context_of here) e
-  worked_same (number n u span) = refl
-  worked_same (named name span) = ap (λ z. Ok (named_value z)) (enumerator_same name.text)
-  worked_same (unary op inner span) = ap (λ r. go_on r (operate_prefix op)) (worked_same inner)
-  worked_same (binary op left right span) = ap₂ (worked_binary op) (worked_same left) (worked_same right)
-  worked_same (null span) = refl
-  worked_same (call callee args span) = refl
-  worked_same (field base name arrow span) = refl
-  worked_same (index base at span) = refl
-
-  type_same : (e : Expression) → is_made_of_constants (context_of here) e ≡ true → type_of (context_of there) e ≡ type_of (context_of here) e
-  unfolding type_of types_of
-  type_same (number n u span) made = refl
-  type_same (named name span) made = ap (option_map entry_type) (known_alike name.text ∙ constant_kept (known_in here name.text) made)
-  type_same (unary op inner span) made =
-      ap (λ o. unless (breaks_prefix op o) (option_map (prefix_type op) o)) (type_same inner (both_true (takes_integers op) (is_made_of_constants (context_of here) inner) made).1)
-  type_same (binary op left right span) made =
-      let parts = both_true (is_made_of_constants (context_of here) left) (is_made_of_constants (context_of here) right) made in
-      ap₂ (λ l r. unless (breaks_binary op l r) (both (binary_type op) l r)) (type_same left parts.0) (type_same right parts.1)
-  type_same (null span) made = refl
-  type_same (call callee args span) made = never (sym made)
-  type_same (field base name arrow span) made = never (sym made)
-  type_same (index base at span) made = never (sym made)
+  constants_alike : SameConstants (context_of here) (context_of there)
+  constants_alike = record { values = enumerator_same; entries = λ name made. known_alike name ∙ constant_kept (known_in here name) made }
 
   pub constant_same : (e : Expression) → constant_of (context_of there) e ≡ constant_of (context_of here) e
-  unfolding constant_of
-  constant_same e = ap₂ (λ b r. if b then without_trap r else None) (made_same e) (worked_same e)
+  constant_same e = same_constant (context_of here) (context_of there) constants_alike e
 
   pub value_same : (e : Expression) → value_in (context_of there) e ≡ value_in (context_of here) e
-  unfolding constant_of
-  value_same e = by (is_made_of_constants (context_of here) e) refl
-    where
-      none_there : (b : Bool) → b ≡ false → (o : Option ExpressionType) (v : Option Number) → typed_value o (if b then v else None) ≡ None
-      none_there true e o v = never e
-      none_there false e o v = typed_none o
-
-      by : (b : Bool) → is_made_of_constants (context_of here) e ≡ b → value_in (context_of there) e ≡ value_in (context_of here) e
-      by true made = ap₂ typed_value (type_same e made) (constant_same e)
-      by false made =
-          none_there (is_made_of_constants (context_of there) e) (made_same e ∙ made) (type_of (context_of there) e) (without_trap (worked (context_of there) e))
-          ∙ sym (none_there (is_made_of_constants (context_of here) e) made (type_of (context_of here) e) (without_trap (worked (context_of here) e)))
+  value_same e = same_value (context_of here) (context_of there) constants_alike e
 
   -- types are the same
   length_same : (l : Option Expression) → length_of (context_of there) l ≡ length_of (context_of here) l

@@ -170,26 +170,30 @@ module _ (k : Setting) where
     assigned_joins op.LessEqual a e = never (sym a)
     assigned_joins op.MoreEqual a e = never (sym a)
 
-pub right_integer : (o : BinaryOp) (a b : ExpressionType) → is_assigning (Some o) ≡ true → breaks_binary o (Some a) (Some b) ≡ false → is_integer b ≡ true
-right_integer o a b assigning e = not_false (is_integer b) (neither (not (is_integer a)) (not (is_integer b)) (integers_kept o assigning e)).1
-  where
-    integers_kept : (o : BinaryOp) → is_assigning (Some o) ≡ true → breaks_binary o (Some a) (Some b) ≡ false → breaks_integers (Some a) (Some b) ≡ false
-    integers_kept op.Plus h e = e
-    integers_kept op.Minus h e = e
-    integers_kept op.Times h e = e
-    integers_kept op.Divide h e = e
-    integers_kept op.Remainder h e = e
-    integers_kept op.BitAnd h e = (neither (breaks_integers (Some a) (Some b)) (not (either_unsigned a b)) e).0
-    integers_kept op.BitOr h e = (neither (breaks_integers (Some a) (Some b)) (not (either_unsigned a b)) e).0
-    integers_kept op.BitXor h e = (neither (breaks_integers (Some a) (Some b)) (not (either_unsigned a b)) e).0
-    integers_kept op.Or h e = never (sym h)
-    integers_kept op.And h e = never (sym h)
-    integers_kept op.Equal h e = never (sym h)
-    integers_kept op.Unequal h e = never (sym h)
-    integers_kept op.Less h e = never (sym h)
-    integers_kept op.More h e = never (sym h)
-    integers_kept op.LessEqual h e = never (sym h)
-    integers_kept op.MoreEqual h e = never (sym h)
+module _ (a b : ExpressionType) where
+  integers_kept : (o : BinaryOp) → is_assigning (Some o) ≡ true → breaks_binary o (Some a) (Some b) ≡ false → breaks_integers (Some a) (Some b) ≡ false
+  integers_kept op.Plus h e = e
+  integers_kept op.Minus h e = e
+  integers_kept op.Times h e = e
+  integers_kept op.Divide h e = e
+  integers_kept op.Remainder h e = e
+  integers_kept op.BitAnd h e = (neither (breaks_integers (Some a) (Some b)) (not (either_unsigned a b)) e).0
+  integers_kept op.BitOr h e = (neither (breaks_integers (Some a) (Some b)) (not (either_unsigned a b)) e).0
+  integers_kept op.BitXor h e = (neither (breaks_integers (Some a) (Some b)) (not (either_unsigned a b)) e).0
+  integers_kept op.Or h e = never (sym h)
+  integers_kept op.And h e = never (sym h)
+  integers_kept op.Equal h e = never (sym h)
+  integers_kept op.Unequal h e = never (sym h)
+  integers_kept op.Less h e = never (sym h)
+  integers_kept op.More h e = never (sym h)
+  integers_kept op.LessEqual h e = never (sym h)
+  integers_kept op.MoreEqual h e = never (sym h)
+
+  pub left_integer : (o : BinaryOp) → is_assigning (Some o) ≡ true → breaks_binary o (Some a) (Some b) ≡ false → is_integer a ≡ true
+  left_integer o assigning e = not_false (is_integer a) (neither (not (is_integer a)) (not (is_integer b)) (integers_kept o assigning e)).0
+
+  pub right_integer : (o : BinaryOp) → is_assigning (Some o) ≡ true → breaks_binary o (Some a) (Some b) ≡ false → is_integer b ≡ true
+  right_integer o assigning e = not_false (is_integer b) (neither (not (is_integer a)) (not (is_integer b)) (integers_kept o assigning e)).1
 
 pub written_is : (t : ExpressionType) → is_written_to t ≡ true → written_type (Some t) ≡ Some t
 written_is t e = ap (λ b. if b then Some t else None) e

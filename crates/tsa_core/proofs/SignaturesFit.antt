@@ -24,7 +24,7 @@ use Rattle.tsa_tree.specs.types.Units.{outset, behind_item}
 use Rattle.tsa_tree.specs.units.Sound.{SoundItem, SoundItems}
 use Rattle.tsa_tree.specs.units.Syntax.{UnitItem, structure_item, alias_item, enumeration_item, global_item, function_item, body_item, names_of_item}
 use Rattle.tsa_scope.specs.Lookups.{params_in}
-use Rattle.tsa_place.proofs.Laid.{front_at, last_at}
+use Rattle.tsa_lead.proofs.Laid.{front_at, last_at}
 use Rattle.tsa_core.proofs.MappedLists.{map_append, map_length, map_set, map_at}
 use Rattle.tsa_core.specs.PointKinds.{Signatures}
 use Rattle.tsa_core.specs.Programs.{Declared, unless_known, first_head, declared_by, declared_functions, Bodied, bodied_by, bodied_function}
@@ -102,23 +102,23 @@ module _ (ds : List Declared) where
   again_agree here head with_body (meant.Constant z) h = h
   again_agree here head with_body meant.TypeName h = h
 
-  last_named : (here : Scope) (head : Head) → map entry_signed here.functions ≡ map own_signed ds
-      → HasItsResult (ds ++ record { here = here; head = head } ∷ []) (head.name.text, function_entry here head (length here.functions))
-  last_named here head same n is =
-      let d : Declared = record { here = here; head = head } in
+  last_named : (here : Scope) (head : Head) (with_body : Bool) → map entry_signed here.functions ≡ map own_signed ds
+      → HasItsResult (ds ++ record { here = here; head = head; with_body = with_body } ∷ []) (head.name.text, function_entry here head (length here.functions))
+  last_named here head with_body same n is =
+      let d : Declared = record { here = here; head = head; with_body = with_body } in
       let number : length here.functions ≡ n = cc in
       let count : length ds ≡ length here.functions = sym (map_length own_signed ds) ∙ sym (ap length same) ∙ map_length entry_signed here.functions in
       (d, (ap (slice_get (ds ++ d ∷ [])) (sym (count ∙ number)) ∙ last_at ds d, refl))
 
-  known_agree : (here : Scope) (head : Head) (with_body : Bool) (o : Option Entry) → Agree ds here → Agree (ds ++ unless_known (is_some o) here head) (behind_known here head with_body o)
+  known_agree : (here : Scope) (head : Head) (with_body : Bool) (o : Option Entry) → Agree ds here → Agree (ds ++ unless_known (is_some o) (record { here = here; head = head; with_body = with_body })) (behind_known here head with_body o)
   known_agree here head with_body None h =
-      let d : Declared = record { here = here; head = head } in (
+      let d : Declared = record { here = here; head = head; with_body = with_body } in (
         map_append entry_signed here.functions (declares_function here head with_body ∷ []) ∙ ap (λ xs. xs ++ own_signed d ∷ []) h.0 ∙ sym (map_append own_signed ds (d ∷ [])),
-        further_name (ds ++ d ∷ []) here head.name.text (function_entry here head (length here.functions)) (last_named here head h.0) (named_longer ds (d ∷ []) here h.1),
+        further_name (ds ++ d ∷ []) here head.name.text (function_entry here head (length here.functions)) (last_named here head with_body h.0) (named_longer ds (d ∷ []) here h.1),
       )
   known_agree here head with_body (Some e) h = subst (λ xs. Agree xs (again here head with_body e.meaning)) (sym (append-nil ds)) (again_agree here head with_body e.meaning h)
 
-  pub head_agree : (here : Scope) (head : Head) (with_body : Bool) → Agree ds here → Agree (ds ++ first_head here head) (behind_head here head with_body)
+  pub head_agree : (here : Scope) (head : Head) (with_body : Bool) → Agree ds here → Agree (ds ++ first_head here head with_body) (behind_head here head with_body)
   head_agree here head with_body h = known_agree here head with_body (found here.names head.name.text) h
 
   data_agree : (here : Scope) → Agree ds here → Agree (ds ++ []) here
@@ -204,13 +204,13 @@ module _ (name : List ℕ) (b : Bodied) (sig : Signatures) where
   by_item : (ds rest : List Declared) (here : Scope) (item : UnitItem) (other : Option Bodied) → Agree ds here → AreOf sig (ds ++ (declared_by here item ++ rest))
       → (other ≡ Some b → NamesCall sig b.here) → bodied_by name here item other ≡ Some b → NamesCall sig b.here
   by_item ds rest here (body_item head body close) other h are later is =
-      let front = ds ++ first_head here head in
+      let front = ds ++ first_head here head true in
       let there = behind_head here head true in
       let same = head_agree ds here head true h in
       let within : Agree front (inside here head true) =
       (ap (map entry_signed) (params_functions there 0 head.params) ∙ same.0, params_named front there 0 head.params same.1) in
       or_begins b sig (bytes_eq name head.name.text) (record { here = inside here head true; head = head; body = body }) other
-      (names_call sig front rest (subst (AreOf sig) (sym (append_assoc ds (first_head here head) rest)) are) (inside here head true) within)
+      (names_call sig front rest (subst (AreOf sig) (sym (append_assoc ds (first_head here head true) rest)) are) (inside here head true) within)
       later is
   by_item ds rest here (structure_item tag alias attrs members span) other h are later is = later is
   by_item ds rest here (alias_item text ctype span) other h are later is = later is

@@ -20,7 +20,7 @@ use Rattle.tsa_core.proofs.KindTests.{never, both_true, neither, one_of, and_tru
 use Rattle.tsa_core.proofs.KindsOfOperators.{Holds, integer_loaded, pointer_loaded}
 
 -- A value where one of a kind is wanted.
-no_pointer : {A : Type 0} (i z s : Bool) → ((i && false) || ((z && false) || (s && false))) ≡ true → A
+pub no_pointer : {A : Type 0} (i z s : Bool) → ((i && false) || ((z && false) || (s && false))) ≡ true → A
 no_pointer true true true e = never (sym e)
 no_pointer true true false e = never (sym e)
 no_pointer true false true e = never (sym e)
@@ -30,7 +30,7 @@ no_pointer false true false e = never (sym e)
 no_pointer false false true e = never (sym e)
 no_pointer false false false e = never (sym e)
 
-integer_alone : (i z s : Bool) → ((i && true) || ((z && false) || (s && false))) ≡ true → i ≡ true
+pub integer_alone : (i z s : Bool) → ((i && true) || ((z && false) || (s && false))) ≡ true → i ≡ true
 integer_alone true z s e = refl
 integer_alone false true true e = never (sym e)
 integer_alone false true false e = never (sym e)

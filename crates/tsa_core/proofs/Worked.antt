@@ -11,13 +11,14 @@ use Rattle.tsa_place.specs.Units.{enumerators_behind, placed_behind}
 use Rattle.tsa_core.specs.Meanings.{meaning, arguments, call_in}
 use Rattle.tsa_core.specs.Control.{labels, labels_all, cases, cases_all, edges, edges_all}
 use Rattle.tsa_core.specs.Bodies.{known, known_all}
-use Rattle.tsa_core.specs.Uses.{access_guards, reads, reads_to, reads_all, call_ways}
+use Rattle.tsa_core.specs.Cells.{inner_cells, argument_cells}
+use Rattle.tsa_core.specs.Uses.{access_guards, call_ways}
 use Rattle.tsa_core.specs.Programs.{declared_functions, bodied_function, attr_args, attrs_of, lock_of, lock_kinds, program_of}
 use Rattle.tsa_core.specs.Examples.{ControlIsAsWritten, PointsAreAsWritten, UsesAreAsWritten, ProgramsAreAsWritten}
 
 -- to unfold this is to unfold all of it
 unfoldable pub worked : Unit {0}
-unfolding computed is_pair quick_longest front_with quick_pieces_at leads structure_at size_of places_inside argument_ways guard_ways parts_behind members_after enumerators_behind placed_behind meaning arguments call_in labels labels_all cases cases_all edges edges_all known known_all access_guards reads reads_to reads_all call_ways declared_functions bodied_function attr_args attrs_of lock_of lock_kinds program_of
+unfolding computed is_pair quick_longest front_with quick_pieces_at leads structure_at size_of places_inside argument_ways guard_ways parts_behind members_after enumerators_behind placed_behind meaning arguments call_in labels labels_all cases cases_all edges edges_all known known_all access_guards inner_cells argument_cells call_ways declared_functions bodied_function attr_args attrs_of lock_of lock_kinds program_of
 worked = tt
 
 pub control_is_as_written : ControlIsAsWritten

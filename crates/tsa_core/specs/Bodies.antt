@@ -1,6 +1,6 @@
 -- What a body does at each of its points, and what is known there.
-use Rattle.std.specs.Prelude.{ℕ, pos, Bool, true, false, not, nat_eq, List, [], ◌∷◌, ◌++◌, map, Option, Some, None}
-use Rattle.std.specs.List.{list_any, flat_map}
+use Rattle.std.specs.Prelude.{ℕ, pos, Bool, true, false, List, [], ◌∷◌, ◌++◌, map, replicate, Option, Some, None, slice_set}
+use Rattle.std.specs.List.{flat_map}
 use Rattle.tsa_base.specs.declared.value.Value.TheVariants.{Int}
 use Rattle.tsa_tree.specs.declarations.Syntax.{Initialiser, value}
 use Rattle.tsa_tree.specs.declared.expr.BinaryOp.{BinaryOp}
@@ -144,30 +144,34 @@ kinds_by here _ = []
 abbrev pub kinds_declared : List Known → List Kind
 kinds_declared ks = flat_map (λ k. kinds_by k.here k.deed) ks
 
--- A body: its points in order, how they follow each other, and the kinds of the locals that it declares.
+-- Which locals never change, the parameters first: to declare one is to begin it, and an assignment to one changes it.
+abbrev pub changed : List Bool → Term → List Bool
+changed stable (variable n) = slice_set stable n false
+changed stable place = stable
+
+abbrev pub stable_by : List Bool → Scope → Deed → List Bool
+stable_by stable here (declares d) = stable ++ true ∷ []
+stable_by stable here (assigns left o right) = changed stable (meaning here left).term
+stable_by stable here deed = stable
+
+abbrev pub stable_behind : List Bool → List Known → List Bool
+stable_behind stable [] = stable
+stable_behind stable (k ∷ rest) = stable_behind (stable_by stable k.here k.deed) rest
+
+-- A body: its points in order, how they follow each other, the kinds of the locals that it declares, and which locals never change.
 pub record Body : Type 0 where
   pub points : List Point
   pub edges : List Edge
   pub locals : List Kind
+  pub stable : List Bool
 
 abbrev pub body_of : Scope → Kind → Statements → Body
 body_of here result body = record {
   points = map (point_of result) (known_in_body here body);
   edges = body_edges here body;
   locals = kinds_declared (known_in_body here body);
+  stable = stable_behind (replicate here.locals true) (known_in_body here body);
 }
-
--- whether a point assigns to a local; to declare it is to begin it
-abbrev pub assigns_local : ℕ → Point → Bool
-assigns_local n p = by p.action
-  where
-    by : Action → Bool
-    by (set_local m o kind right) = nat_eq n m
-    by action = false
-
--- a local that is never assigned to
-abbrev pub is_stable : Body → ℕ → Bool
-is_stable body n = not (list_any (assigns_local n) body.points)
 
 -- which outcomes an action can have
 abbrev pub can_have : Action → Outcome → Bool

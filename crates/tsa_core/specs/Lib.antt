@@ -2,10 +2,14 @@ pub mod Terms
 pub mod Meanings
 pub mod Control
 pub mod Bodies
+pub mod Cells
 pub mod Uses
+pub mod Loads
 pub mod Programs
 pub mod Laws
 pub mod Kinds
 pub mod PointKinds
 pub mod KindLaws
+pub mod CaseLaws
+pub mod PointLoads
 pub mod Examples

@@ -1,5 +1,5 @@
 -- The core program of a unit: its places and their values at the start, its locks, and its functions with their attributes and bodies.
-use Rattle.std.specs.Prelude.{ℕ, Bool, true, false, ◌&&◌, not, List, [], ◌∷◌, ◌++◌, take, map, Option, Some, None, option_map, is_some, Result, Ok, Err, codes, if◌then◌else◌}
+use Rattle.std.specs.Prelude.{ℕ, Bool, true, false, ◌&&◌, not, List, [], ◌∷◌, ◌++◌, take, length, replicate, map, Option, Some, None, option_map, is_some, Result, Ok, Err, codes, if◌then◌else◌}
 use Rattle.std.specs.Str.{bytes_eq}
 use Rattle.tsa_base.specs.declared.token.Span.{Span}
 use Rattle.tsa_tree.specs.attributes.Syntax.{Attribute}
@@ -15,11 +15,11 @@ use Rattle.tsa_tree.specs.types.Runnable.{is_lock_function, is_environment}
 use Rattle.tsa_tree.specs.types.Scopes.{Scope, found}
 use Rattle.tsa_tree.specs.types.Units.{outset, behind_item, is_capability}
 use Rattle.tsa_tree.specs.units.Syntax.{UnitItem, structure_item, function_item, body_item}
-use Rattle.tsa_way.specs.LockPaths.{lock_way}
+use Rattle.tsa_way.specs.LockPaths.{lock_way, stable_in}
 use Rattle.tsa_way.specs.Ways.{Way}
 use Rattle.tsa_layout.specs.Calls.{Layout}
 use Rattle.tsa_place.specs.Units.{no_places, placed_in}
-use Rattle.tsa_core.specs.Bodies.{Body, body_of, is_stable, known_in_body}
+use Rattle.tsa_core.specs.Bodies.{Body, body_of, known_in_body}
 use Rattle.tsa_core.specs.Uses.{Uses, uses_of}
 
 -- An argument of an attribute: the path of the lock that it names, where it has one; of a try, the result for which that is taken.
@@ -50,21 +50,22 @@ pub record Program : Type 0 where
   pub locks : List (Option LockKind)
   pub functions : List Function
 
--- The first declaration of a function, or its body, with what is known before it.
+-- The first declaration of a function, which may be its body, with what is known before it.
 pub record Declared : Type 0 where
   pub here : Scope
   pub head : Head
+  pub with_body : Bool
 
-abbrev pub unless_known : Bool → Scope → Head → List Declared
-unless_known true here head = []
-unless_known false here head = record { here = here; head = head } ∷ []
+abbrev pub unless_known : Bool → Declared → List Declared
+unless_known true d = []
+unless_known false d = d ∷ []
 
-abbrev pub first_head : Scope → Head → List Declared
-first_head here head = unless_known (is_some (found here.names head.name.text)) here head
+abbrev pub first_head : Scope → Head → Bool → List Declared
+first_head here head with_body = unless_known (is_some (found here.names head.name.text)) (record { here = here; head = head; with_body = with_body })
 
 abbrev pub declared_by : Scope → UnitItem → List Declared
-declared_by here (function_item head) = first_head here head
-declared_by here (body_item head body close) = first_head here head
+declared_by here (function_item head) = first_head here head false
+declared_by here (body_item head body close) = first_head here head true
 declared_by here item = []
 
 -- the functions of a unit in order of their first declarations
@@ -94,13 +95,13 @@ bodied_function name here (item ∷ rest) = bodied_by name here item (bodied_fun
 abbrev pub body_in : Bodied → Body
 body_in b = body_of b.here (thing_type b.here b.head.result).kind b.body
 
--- the parameters that a body never assigns to; without a body no parameter changes
-abbrev pub stable_params : Option Bodied → ℕ → Bool
-stable_params None n = true
-stable_params (Some b) n = is_stable (body_in b) n
+-- the locals of a function that never change, of which its attributes see the parameters; without a body no parameter changes
+abbrev pub stable_locals : (params : ℕ) → Option Bodied → List Bool
+stable_locals params None = replicate params true
+stable_locals params (Some b) = (body_in b).stable
 
 abbrev pub uses_in : Layout → Bodied → List Uses
-uses_in l b = map (uses_of l (is_stable (body_in b))) (known_in_body b.here b.body)
+uses_in l b = map (uses_of l (stable_in (body_in b).stable)) (known_in_body b.here b.body)
 
 abbrev pub all_uses : Layout → Option Bodied → List Uses
 all_uses l None = []
@@ -125,7 +126,7 @@ abbrev pub function_of : Layout → Declared → Option Bodied → Function
 function_of l d b = record {
   params = params_of d.here d.head.params;
   result = (thing_type d.here d.head.result).kind;
-  attrs = attrs_of (stable_params b) (inside d.here d.head (is_some b)) d.head.attrs;
+  attrs = attrs_of (stable_in (stable_locals (length d.head.params) b)) (inside d.here d.head d.with_body) d.head.attrs;
   body = option_map body_in b;
   uses = all_uses l b;
   is_lock = not (is_some b) && is_lock_function d.here d.head;

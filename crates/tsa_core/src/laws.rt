@@ -1,8 +1,11 @@
 //! Laws of the core program.
+ghost use Rattle.tsa_core.specs.CaseLaws.{CasesDiffer, ReadCasesStandApart, ReadCasesDiffer};
 ghost use Rattle.tsa_core.specs.Examples.{ControlIsAsWritten, PointsAreAsWritten, UsesAreAsWritten, ProgramsAreAsWritten};
 ghost use Rattle.tsa_core.specs.KindLaws.{ScopesBelong, PointsHaveTheirKinds, BodiesAgree, ProgramsAreWellKinded};
 ghost use Rattle.tsa_core.specs.Kinds.{TermsHaveTheirKinds};
 ghost use Rattle.tsa_core.specs.Laws.{PointsAreThoseOfTheText, TermsHaveTheirTypes, EdgesStayInside, EdgesAreFollowed, FunctionsAreNumbered, OutcomesAreOfTheActions, OutcomesAreOfThePoints, LocalsAreListed, PointsGoOn, PointsSpeakOfKnown, BodiesBeginBelow, UsesStandBesidePoints};
+ghost use Rattle.tsa_core.specs.Loads.{LoadsAreCells, ConversionsKeepLoads};
+ghost use Rattle.tsa_core.specs.PointLoads.{UsesAreOfCells, PointsLoadTheirCells, PointsLoadJustThose};
 
 /// A body has the points of its text, and does at each of them what the text does.
 pub fn points_are_those_of_the_text()
@@ -107,4 +110,28 @@ pub fn bodies_agree()
 /// At each point of each body of a program the terms have the kinds that are wanted there, by the program's own layout and functions.
 pub fn programs_are_well_kinded()
     ensures { ProgramsAreWellKinded }
+{}
+
+/// Of a typed expression without a call, the cells that are read are those that its term and its value load, and to convert the value changes no load.
+pub fn loads_are_cells()
+    ensures read { LoadsAreCells }
+    ensures converted { ConversionsKeepLoads }
+{}
+
+/// In a body of a typed unit no switch has a value twice: no two edges leave one point for the same value.
+pub fn cases_differ()
+    ensures apart { CasesDiffer }
+    ensures read { ReadCasesDiffer }
+{}
+
+/// In a text the cases of each switch stand at places of their own.
+pub fn cases_stand_apart()
+    ensures { ReadCasesStandApart }
+{}
+
+/// At each point of a unit's body the accesses are the loads and the write of its terms: of the arguments of its call and of its action.
+pub fn accesses_are_the_loads()
+    ensures cells { UsesAreOfCells }
+    ensures loads { PointsLoadTheirCells }
+    ensures just { PointsLoadJustThose }
 {}
