@@ -1,0 +1,4 @@
+pub mod Walk
+pub mod Operands
+pub mod Spans
+pub mod Paths

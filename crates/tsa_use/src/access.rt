@@ -1,0 +1,88 @@
+//! Cells as they are read and written, in order of the text.
+ghost use Rattle.std.specs.Prelude.{◌≡◌, List, [], ◌∷◌, ◌++◌, reverse, OnOk};
+ghost use Rattle.tsa_use.specs.Accesses.{Access as SpecAccess};
+ghost use Rattle.tsa_use.specs.Seen.{own_access};
+
+use crate::thing::{Thing, is_loaded};
+use std::alloc::Global;
+use std::marker::Model;
+use tsa_base::{NoMemory, Span};
+use tsa_way::Path;
+
+/// A cell as it is read or written: where the expression stands that stands for it, and the paths of its guards in order, of which some may have none.
+#[derive(Drop)]
+pub struct Access {
+    pub span: Span,
+    pub is_write: bool,
+    pub guards: Vec<Option<Path>>,
+}
+
+impl Model for Access {
+    ghost use Rattle.tsa_use.specs.Accesses.{Access};
+
+    ghost Value = { Access };
+
+    ghost view = { λ access. record { span = access.span; is_write = access.is_write; guards = access.guards.items } };
+}
+
+/// Accesses that are found from the last to the first. Contracts see them in order of the text.
+#[derive(Drop)]
+pub struct Accesses {
+    from_last: Vec<Access>,
+}
+
+impl Model for Accesses {
+    ghost use Rattle.std.specs.Prelude.{List, reverse};
+    ghost use Rattle.tsa_use.specs.Accesses.{Access};
+
+    ghost Value = { List Access };
+
+    ghost view = { λ all. reverse all.from_last.items };
+}
+
+/// Moves accesses behind others, the last one first.
+fn move_from_last(mut from_last: Vec<Access>, found: &mut Vec<Access>) -> Result<(), NoMemory>
+    ensures { OnOk result (found.new.items ≡ found.old.items ++ reverse from_last.items) }
+{
+    'each: while let Some(access) = from_last.pop() {
+        found.push(access)?;
+    }
+    Ok(())
+}
+
+impl Accesses {
+    /// None. No memory is taken.
+    pub fn new(alloc: Global) -> Accesses
+        ensures { result ≡ [] }
+    {
+        Accesses {
+            from_last: Vec::new(alloc),
+        }
+    }
+
+    /// One more in front.
+    fn put(&mut self, access: Access) -> Result<(), NoMemory>
+        ensures { OnOk result (self.new ≡ access ∷ self.old) }
+    {
+        self.from_last.push(access)?;
+        Ok(())
+    }
+
+    /// The access of a thing in front, where that is a cell.
+    pub fn put_own(&mut self, thing: Thing, access: Access) -> Result<(), NoMemory>
+        ensures { OnOk result (self.new ≡ own_access thing access ++ self.old) }
+    {
+        if is_loaded(thing) {
+            self.put(access)
+        } else {
+            Ok(())
+        }
+    }
+
+    /// Moves all behind others.
+    pub fn move_behind(self, found: &mut Vec<Access>) -> Result<(), NoMemory>
+        ensures { OnOk result (found.new.items ≡ found.old.items ++ self) }
+    {
+        move_from_last(self.from_last, found)
+    }
+}
