@@ -21,7 +21,7 @@ nothing : {A : Type 0} {x : A} {B : Type 0} → None ≡ Some x → B
 nothing e = cc
 
 -- steps one after another
-steps_after : (l : Layout) (locals : Locals) (first rest : List PathStep) (spot : Option Spot)
+pub steps_after : (l : Layout) (locals : Locals) (first rest : List PathStep) (spot : Option Spot)
     → take_steps l locals (first ++ rest) spot ≡ take_steps l locals rest (take_steps l locals first spot)
 steps_after l locals [] rest spot = refl
 steps_after l locals (step ∷ first) rest spot = steps_after l locals first rest (option_and_then (take_step l locals step) spot)

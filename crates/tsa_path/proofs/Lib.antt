@@ -6,3 +6,14 @@ pub mod Keeping
 pub mod Numbers
 pub mod Examples
 pub mod Written
+pub mod Bearing
+pub mod StandDeclared
+pub mod Folding
+pub mod Pointers
+pub mod StepsBehind
+pub mod Leads
+pub mod Conversions
+pub mod ArgumentPaths
+pub mod ArgumentsPassed
+pub mod CallsSuit
+pub mod ValueExamples

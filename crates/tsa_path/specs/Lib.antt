@@ -6,3 +6,6 @@ pub mod PathTexts
 pub mod Labels
 pub mod Examples
 pub mod Written
+pub mod Values
+pub mod ValueExamples
+pub mod ArgumentLaws

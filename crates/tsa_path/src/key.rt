@@ -48,6 +48,7 @@ impl PartialEq for Key {
 
     ghost laws = { Prim.search (comparing, rules, root_laws.laws-law, step_laws.laws-law) };
 
+    /// Keys are equal where their paths have the same root and the same steps in order.
     fn eq(&self, other: &Key) -> bool {
         self.path.root() == other.path.root() && self.path.steps() == other.path.steps()
     }
@@ -75,6 +76,7 @@ impl Hash for Key {
 
     ghost respects_eq = { (and-Alike (on_Alike (λ a. a.path.root) (record { fed = root_laws.respects_eq-law })) (on_Alike (λ a. a.path.steps) (items_Alike (record { fed = step_laws.respects_eq-law })))).fed };
 
+    /// What is hashed of a key: the root and the steps of its path.
     fn hash<H: Hasher>(&self, state: &mut H) {
         self.path.root().hash(state);
         self.path.steps().hash(state);

@@ -1,7 +1,9 @@
 //! Laws of paths.
+ghost use Rattle.tsa_path.specs.ArgumentLaws.{ArgumentsHaveTheirPaths, CallsSuitTheirPaths};
 ghost use Rattle.tsa_path.specs.Examples.{SubstitutionsAreAsWritten, TextsAreAsWritten};
 ghost use Rattle.tsa_path.specs.Laws.{SameBitsSameElements, SubstitutionKeepsTheMeaning};
 ghost use Rattle.tsa_path.specs.PathTables.{NumbersStay, TableHoldsDifferentPaths, TableStaysWithinItsLimit};
+ghost use Rattle.tsa_path.specs.ValueExamples.{ValuesAreAsWritten};
 ghost use Rattle.tsa_path.specs.Written.{LocksAreAsWritten};
 ghost use Rattle.tsa_path.specs.Sameness.{SameWaysAreEqual};
 
@@ -37,4 +39,15 @@ pub fn paths_are_as_written()
 /// Lock expressions of attributes have the paths whose texts stand beside them, or none.
 pub fn locks_are_as_written()
     ensures { LocksAreAsWritten }
+{}
+
+/// Where the arguments of a typed call have values, each argument's path says what its value is: that of a local, a constant, or where the pointer points.
+pub fn arguments_have_their_paths()
+    ensures arguments { ArgumentsHaveTheirPaths }
+    ensures calls { CallsSuitTheirPaths }
+{}
+
+/// Expressions are worth what stands beside them, or nothing where they trap.
+pub fn values_are_as_written()
+    ensures { ValuesAreAsWritten }
 {}

@@ -12,8 +12,8 @@ mod trail;
 
 pub use key::is_same;
 pub use laws::{
-    locks_are_as_written, paths_are_as_written, paths_are_told_apart, paths_keep_their_numbers,
-    substitution_keeps_the_meaning,
+    arguments_have_their_paths, locks_are_as_written, paths_are_as_written, paths_are_told_apart,
+    paths_keep_their_numbers, substitution_keeps_the_meaning, values_are_as_written,
 };
 pub use names::{Named, PathNames};
 pub use refusal::InternRefusal;

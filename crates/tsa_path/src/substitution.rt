@@ -34,17 +34,6 @@ fn as_index(path: &Path) -> Option<PathStep>
     }
 }
 
-/// The same path once more.
-fn copy(alloc: Global, path: &Path) -> Result<Path, NoMemory>
-    ensures { IfOk result (λ copy. copy ≡ path.now) }
-{
-    let mut copy = Path::new(alloc, path.root());
-    'each: for step in path.steps() {
-        copy = copy.onward(*step)?;
-    }
-    Ok(copy)
-}
-
 /// The path to where an argument points, which follows a local.
 fn as_pointer(alloc: Global, path: &Path) -> Result<Option<Path>, NoMemory>
     ensures { IfOk result (λ pointed. pointed ≡ spec_as_pointer path.now) }
@@ -55,7 +44,7 @@ fn as_pointer(alloc: Global, path: &Path) -> Result<Option<Path>, NoMemory>
             Ok(Some(local.onward(PathStep::Follow)?))
         }
         (Root::Owner, [PathStep::Constant(_)]) => Ok(None),
-        _ => Ok(Some(copy(alloc, path)?)),
+        _ => Ok(Some(path.copy(alloc)?)),
     }
 }
 
