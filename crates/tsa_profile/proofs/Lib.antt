@@ -1,0 +1,16 @@
+pub mod Worked
+pub mod NumbersFit
+pub mod SmallNames
+pub mod ConstantPlaces
+pub mod EachPlace
+pub mod GoodValues
+pub mod InitialisersFit
+pub mod CellsFit
+pub mod StartsTyped
+pub mod ProfileAllows
+pub mod StartLaws
+pub mod NoneFails
+pub mod CallsStand
+pub mod PointsRun
+pub mod HeadsRun
+pub mod UnitsRun

@@ -1,0 +1,5 @@
+use Rattle.tsa_profile.proofs.Worked as proved
+use Rattle.tsa_profile.proofs.laws.profiles_are_as_written.Goals as goal
+
+pub returns : goal.returns
+returns c = proved.profiles_are_as_written
