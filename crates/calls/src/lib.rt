@@ -1,6 +1,6 @@
 //! Each public call of the libraries once with ample memory, ends that fail in mid-stream, and what no command shows: the
-//! tokens of a text, where the nodes of a tree stand in it, what the names of a unit mean, its places, and paths. What commands show stands in the data of
-//! the program `rows`.
+//! tokens of a text, where the nodes of a tree stand in it, what the names of a unit mean, its places, paths, and what bodies use.
+//! What commands show stands in the data of the program `rows`.
 #![tactic(auto)]
 
 #[cfg(test)]
@@ -19,3 +19,5 @@ mod statements;
 mod symbols;
 #[cfg(test)]
 mod texts;
+#[cfg(test)]
+mod uses;
