@@ -5,8 +5,9 @@ use bumpalo::Bump;
 use std::alloc::Global;
 use std::test::Fail;
 use tsa_base::Value;
+use tsa_item::know_global;
 use tsa_layout::declared_thing;
-use tsa_place::{Places, know_global};
+use tsa_place::Places;
 use tsa_points::{Step, Walk, body_steps, stable_locals};
 use tsa_scope::{FunctionTypes, Names, Scope, outset};
 use tsa_tree::expr::Expr;
@@ -15,7 +16,7 @@ use tsa_tree::kind::Kind;
 use tsa_tree::meaning::{Entry, Meaning};
 use tsa_tree::stmt::Action;
 use tsa_unit::parse;
-use tsa_use::{Access, Body};
+use tsa_use::{Access, Body, NamedLocks, Standing};
 use tsa_way::{Path, PathStep, Root, Sight};
 
 // The local i changes, and so may what the global n holds: b[n] has no path, and neither has a guard of its members.
@@ -128,7 +129,7 @@ fn put_value(
     expr: &Expr<'_>,
 ) -> Result<(), Fail> {
     let mut found = Vec::new(*out.allocator());
-    body.reads(&mut found, expr)?;
+    body.reads(&mut found, Standing::Whole, expr)?;
     put_accesses(out, shown, &found)?;
     for path in &body.argument_paths(expr)? {
         put_way(out, shown, b"argument ", path)?;
@@ -214,6 +215,7 @@ fn put_steps<'a>(
     stable: &[bool],
 ) -> Result<(), Fail> {
     let layout = shown.places.layout();
+    let attributes: Vec<NamedLocks> = Vec::new(*out.allocator());
     for step in steps {
         let sight = Sight {
             scope: walk.scope(),
@@ -222,6 +224,8 @@ fn put_steps<'a>(
         let body = Body {
             sight,
             layout: &layout,
+            attributes: &attributes,
+            is_run: true,
         };
         put_step(out, shown, body, step)?;
         walk.pass(step)?;

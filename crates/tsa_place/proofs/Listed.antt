@@ -6,7 +6,8 @@ use Rattle.tsa_layout.specs.Layouts.{structure_at, size_of}
 use Rattle.tsa_layout.specs.Places.{places_inside}
 use Rattle.tsa_layout.specs.Calls.{around, text_along, guards_along}
 use Rattle.tsa_layout.specs.Parts.{argument_ways, guard_ways, parts_behind, members_after}
-use Rattle.tsa_place.specs.Units.{enumerators_behind, placed_behind}
+use Rattle.tsa_item.specs.Items.{enumerators_behind}
+use Rattle.tsa_place.specs.Units.{placed_behind}
 use Rattle.tsa_place.specs.Examples.{PlacesAreListed}
 
 pub places_are_listed : PlacesAreListed

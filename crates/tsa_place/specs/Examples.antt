@@ -12,7 +12,8 @@ use Rattle.tsa_layout.specs.declared.place.Guard.{Guard}
 use Rattle.tsa_layout.specs.declared.place.Guard.TheVariants.{Lock, Nothing}
 use Rattle.tsa_layout.specs.declared.place.Placed.{Placed}
 use Rattle.tsa_layout.specs.Stores.{is_value_of}
-use Rattle.tsa_place.specs.Units.{no_places, placed_in}
+use Rattle.tsa_fill.specs.Units.{no_places}
+use Rattle.tsa_place.specs.Units.{placed_in}
 
 -- the places of a text that is a unit, or the byte at which there are too many
 abbrev pub placed : List ℕ → Result Layout Span

@@ -1,4 +1,3 @@
 pub mod Units
 pub mod Examples
-pub mod Filling
 pub mod Answers

@@ -5,12 +5,11 @@ ghost use Rattle.tsa_layout.specs.Calls.{declarator_of, element_place, evaluated
 ghost use Rattle.tsa_place.specs.Units.{placed_in};
 ghost use Rattle.tsa_tree.specs.units.Shapes.{item_shapes};
 
-use crate::globals::Globals;
-use crate::refusal::PlaceRefusal;
 use crate::unit::placed;
 use std::alloc::Global;
 use std::marker::Model;
 use tsa_base::{NoMemory, Span, Value};
+use tsa_fill::{Globals, PlaceRefusal};
 use tsa_layout::{Guard, Layout, PlaceKind, Placed};
 use tsa_tree::item::UnitTree;
 use tsa_tree::kind::Kind;

@@ -14,7 +14,8 @@ use Rattle.tsa_way.specs.LockPaths.{leads}
 use Rattle.tsa_layout.specs.Layouts.{structure_at, size_of}
 use Rattle.tsa_layout.specs.Places.{places_inside}
 use Rattle.tsa_layout.specs.Parts.{argument_ways, guard_ways, parts_behind, members_after}
-use Rattle.tsa_place.specs.Units.{enumerators_behind, placed_behind}
+use Rattle.tsa_item.specs.Items.{enumerators_behind}
+use Rattle.tsa_place.specs.Units.{placed_behind}
 
 pub checks_are_as_written : ChecksAreAsWritten
 unfolding computed line_at column_at span_text unit_of tree_in items_in judged_items warned_in items_are_within body_is_within is_thin_unit struct_named named meaning step_fits head_fits path_named action_of unit_body judged typed_in sized_in leads structure_at size_of places_inside argument_ways guard_ways parts_behind members_after enumerators_behind placed_behind
