@@ -13,7 +13,7 @@ use Rattle.tsa_core.specs.Uses.{uses_of}
 use Rattle.tsa_points.specs.CoreLaws.{known_of, seen, seen_at, PlacedAreKnown, PointsAreOfTheCore, UsesAreOfTheCore, StableIsOfTheCore}
 use Rattle.tsa_points.specs.Points.{PlacedPoint, placed_init, placed_step, placed_for, placed_in, placed_all}
 use Rattle.tsa_points.specs.Stable.{stable_along}
-use Rattle.tsa_points.specs.Steps.{BodyStep, does, opens, closes, body_steps}
+use Rattle.tsa_steps.specs.Steps.{BodyStep, does, opens, closes, body_steps}
 use Rattle.tsa_points.specs.Walks.{Walk, walk, pass, points_along, placed_in_body}
 use Rattle.tsa_points.proofs.Meanings.{point_kept}
 use Rattle.tsa_points.proofs.UsesKept.{uses_kept}

@@ -1,4 +1,3 @@
-pub mod StepLists
 pub mod Closing
 pub mod Passing
 pub mod Written

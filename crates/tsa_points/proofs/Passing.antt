@@ -9,7 +9,7 @@ use Rattle.tsa_tree.specs.types.Scopes.{Scope, with_names, further}
 use Rattle.tsa_tree.specs.types.Statements.{behind_init, behind, behind_all}
 use Rattle.tsa_tree.specs.types.Targets.{declared_in, declared_in_all}
 use Rattle.tsa_points.specs.Points.{PlacedPoint, placed, placed_init, placed_step, placed_for, placed_in, placed_all}
-use Rattle.tsa_points.specs.Steps.{BodyStep, does, closes, nested, init_steps, third_steps, test_step, for_test, steps_of, steps_of_all}
+use Rattle.tsa_steps.specs.Steps.{BodyStep, does, closes, nested, init_steps, third_steps, test_step, for_test, steps_of, steps_of_all}
 use Rattle.tsa_points.specs.Walks.{Walk, walk, behind_deed, pass, walk_behind, points_at, points_along}
 use Rattle.tsa_points.specs.Laws.{StatementsArePassed, StepsAreThePoints, BodyStepsAreThePoints}
 use Rattle.tsa_points.proofs.Closing.{closes_one, closes_all, closes_for, further_further, further_none}

@@ -10,7 +10,7 @@ use Rattle.tsa_core.specs.Bodies.{Known, knows, known_in_body, point_of, body_of
 use Rattle.tsa_core.specs.Uses.{uses_of}
 use Rattle.tsa_points.specs.Points.{PlacedPoint}
 use Rattle.tsa_points.specs.Stable.{stable_along}
-use Rattle.tsa_points.specs.Steps.{body_steps}
+use Rattle.tsa_steps.specs.Steps.{body_steps}
 use Rattle.tsa_points.specs.Walks.{walk, placed_in_body}
 
 -- a point without its span

@@ -7,7 +7,7 @@ use Rattle.tsa_tree.specs.types.Scopes.{Scope, further}
 use Rattle.tsa_tree.specs.types.Statements.{behind, behind_all}
 use Rattle.tsa_tree.specs.types.Targets.{declared_in_all}
 use Rattle.tsa_points.specs.Points.{PlacedPoint, placed_in, placed_all}
-use Rattle.tsa_points.specs.Steps.{steps_of, steps_of_all, body_steps}
+use Rattle.tsa_steps.specs.Steps.{steps_of, steps_of_all, body_steps}
 use Rattle.tsa_points.specs.Walks.{walk, walk_behind, points_along, placed_in_body}
 
 -- The steps of a statement come by its points, and lead to behind it, where the same blocks are open.

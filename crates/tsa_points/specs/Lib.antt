@@ -1,5 +1,4 @@
 pub mod Points
-pub mod Steps
 pub mod Walks
 pub mod Laws
 pub mod Stable

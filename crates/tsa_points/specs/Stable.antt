@@ -3,7 +3,7 @@ use Rattle.std.specs.Prelude.{ℕ, Bool, List, [], ◌∷◌, Option, Some, None
 use Rattle.tsa_tree.specs.types.Scopes.{Scope}
 use Rattle.tsa_core.specs.Bodies.{stable_by}
 use Rattle.tsa_core.specs.Terms.{Term, variable}
-use Rattle.tsa_points.specs.Steps.{BodyStep, does, opens, closes}
+use Rattle.tsa_steps.specs.Steps.{BodyStep, does, opens, closes}
 use Rattle.tsa_points.specs.Walks.{Walk, pass}
 
 abbrev pub stable_at : List Bool → Scope → BodyStep → List Bool

@@ -7,7 +7,7 @@ use Rattle.tsa_tree.specs.types.Locals.{behind_local}
 use Rattle.tsa_tree.specs.types.Scopes.{Scope, with_names, further}
 use Rattle.tsa_tree.specs.types.Targets.{declared_in_all}
 use Rattle.tsa_points.specs.Points.{PlacedPoint, placed, placed_all}
-use Rattle.tsa_points.specs.Steps.{BodyStep, does, opens, closes}
+use Rattle.tsa_steps.specs.Steps.{BodyStep, does, opens, closes}
 
 -- what is known, and how many names were known where each open block began, the innermost first
 pub record Walk : Type 0 where

@@ -5,14 +5,14 @@ ghost use Rattle.tsa_tree.specs.statements.Shapes.{action_shape};
 ghost use Rattle.tsa_tree.specs.types.Scopes.{known_in};
 ghost use Rattle.tsa_core.specs.Bodies.{changed, stable_by};
 ghost use Rattle.tsa_core.specs.Meanings.{meaning, of_name};
-ghost use Rattle.tsa_points.specs.Steps.{step_shape};
+ghost use Rattle.tsa_steps.specs.Steps.{step_shape};
 ghost use Rattle.tsa_points.specs.Stable.{local_number, stable_at, stable_along};
 ghost use Rattle.tsa_points.specs.Walks.{walk_behind};
 
-use crate::steps::Step;
 use crate::walk::Walk;
 use tsa_base::NoMemory;
 use tsa_scope::Scope;
+use tsa_steps::Step;
 use tsa_tree::expr::{Expr, ExprKind};
 use tsa_tree::meaning::Meaning;
 use tsa_tree::stmt::Action;

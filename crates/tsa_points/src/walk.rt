@@ -4,14 +4,14 @@ ghost use Rattle.tsa_tree.specs.declarations.Shapes.{decl_shape};
 ghost use Rattle.tsa_tree.specs.statements.Shapes.{action_shape};
 ghost use Rattle.tsa_tree.specs.types.Locals.{behind_local};
 ghost use Rattle.tsa_tree.specs.types.Scopes.{with_locals};
-ghost use Rattle.tsa_points.specs.Steps.{opens, closes, step_shape};
+ghost use Rattle.tsa_steps.specs.Steps.{opens, closes, step_shape};
 ghost use Rattle.tsa_points.specs.Walks.{walk, behind_deed, pass};
 
-use crate::steps::Step;
 use std::marker::Model;
 use tsa_base::NoMemory;
 use tsa_layout::declared_thing;
 use tsa_scope::Scope;
+use tsa_steps::Step;
 use tsa_tree::decl::Decl;
 use tsa_tree::meaning::{Entry, Meaning};
 use tsa_tree::stmt::Action;

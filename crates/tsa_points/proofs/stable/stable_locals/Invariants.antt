@@ -1,5 +1,5 @@
 use Rattle.std.proofs.Common.{◌≡◌, drop, map, replicate, true}
-use Rattle.tsa_points.specs.Steps.{step_shape}
+use Rattle.tsa_steps.specs.Steps.{step_shape}
 use Rattle.tsa_points.specs.Stable.{stable_along}
 use Rattle.tsa_points.specs.Walks.{walk_behind}
 use Rattle.tsa_points.proofs.stable.stable_locals.Given as goal

@@ -1,7 +1,7 @@
 use Rattle.std.proofs.Common.{◌≡◌, ◌++◌, OnOk, map, subst, sym, ap, arith}
 use Rattle.tsa_tree.proofs.statements.Trees.{tall, block_at}
-use Rattle.tsa_points.specs.Steps.{step_shape, steps_of}
-use Rattle.tsa_points.proofs.steps.+stepping.Goals as goal
+use Rattle.tsa_steps.specs.Steps.{step_shape, steps_of}
+use Rattle.tsa_steps.proofs.steps.+stepping.Goals as goal
 
 pub put_steps-put_block-requires : goal.put_steps-put_block-requires
 put_steps-put_block-requires t c = (omega (arith, ap tall (block_at c.args.stmt.now c.in-Block.items c.in-Block.is)), tt)

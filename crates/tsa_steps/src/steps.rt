@@ -1,8 +1,8 @@
 //! The steps of a body (C11 6.8): its points in order of the text, and where names begin and end.
 ghost use Rattle.std.specs.Prelude.{◌≡◌, ◌+◌, ◌++◌, ◌∷◌, [], map, option_map, OnOk, IfOk};
 ghost use Rattle.tsa_tree.specs.expressions.Shapes.{shape};
-ghost use Rattle.tsa_tree.specs.statements.Shapes.{action_shape, stmt_shape, stmt_shapes, init_given, step_given};
-ghost use Rattle.tsa_points.specs.Steps.{does, opens, closes, nested, init_steps, third_steps, test_step, for_test, steps_of, steps_of_all, body_steps as steps_of_body, step_shape, leaf_steps, value_step};
+ghost use Rattle.tsa_tree.specs.statements.Shapes.{action_shape, stmt_shape, stmt_shapes, init_given, step_given, step_of};
+ghost use Rattle.tsa_steps.specs.Steps.{does, opens, closes, nested, init_steps, third_steps, test_step, for_test, steps_of, steps_of_all, body_steps as steps_of_body, step_shape, leaf_steps, value_step};
 
 use std::alloc::Global;
 use tsa_base::{NoMemory, Span};
@@ -88,6 +88,20 @@ fn put_for_test<'a>(
     }
 }
 
+/// A statement that evaluates or assigns.
+fn put_simple<'a>(steps: &mut Vec<Step<'a>>, stmt: &'a Stmt<'a>) -> Result<(), NoMemory>
+    ensures { OnOk result (map step_shape steps.new.items ≡ map step_shape steps.old.items ++ third_steps (step_of stmt.entry.now.kind stmt.entry.now.span)) }
+{
+    match &stmt.kind {
+        StmtKind::Eval(tree) => put_point(steps, Action::Eval(tree), stmt.span),
+        StmtKind::Assign { left, op, right } => {
+            let op = *op;
+            put_point(steps, Action::Assign { left, op, right }, stmt.span)
+        }
+        _ => Ok(()),
+    }
+}
+
 /// The first part of a `for`, where there is one.
 fn put_init<'a>(steps: &mut Vec<Step<'a>>, part: Option<&'a Stmt<'a>>) -> Result<(), NoMemory>
     ensures { OnOk result (map step_shape steps.new.items ≡ map step_shape steps.old.items ++ init_steps (init_given part.entry)) }
@@ -97,11 +111,8 @@ fn put_init<'a>(steps: &mut Vec<Step<'a>>, part: Option<&'a Stmt<'a>>) -> Result
     };
     match &part.kind {
         StmtKind::Local(decl) => put_point(steps, Action::Declare(decl), decl.span),
-        StmtKind::Eval(tree) => put_point(steps, Action::Eval(tree), part.span),
-        StmtKind::Assign { left, op, right } => {
-            let op = *op;
-            put_point(steps, Action::Assign { left, op, right }, part.span)
-        }
+        StmtKind::Eval(_) => put_simple(steps, part),
+        StmtKind::Assign { .. } => put_simple(steps, part),
         _ => Ok(()),
     }
 }
@@ -110,16 +121,9 @@ fn put_init<'a>(steps: &mut Vec<Step<'a>>, part: Option<&'a Stmt<'a>>) -> Result
 fn put_third<'a>(steps: &mut Vec<Step<'a>>, part: Option<&'a Stmt<'a>>) -> Result<(), NoMemory>
     ensures { OnOk result (map step_shape steps.new.items ≡ map step_shape steps.old.items ++ third_steps (step_given part.entry)) }
 {
-    let Some(part) = part else {
-        return Ok(());
-    };
-    match &part.kind {
-        StmtKind::Eval(tree) => put_point(steps, Action::Eval(tree), part.span),
-        StmtKind::Assign { left, op, right } => {
-            let op = *op;
-            put_point(steps, Action::Assign { left, op, right }, part.span)
-        }
-        _ => Ok(()),
+    match part {
+        Some(part) => put_simple(steps, part),
+        None => Ok(()),
     }
 }
 
@@ -145,11 +149,8 @@ fn put_leaf<'a>(steps: &mut Vec<Step<'a>>, stmt: &'a Stmt<'a>) -> Result<(), NoM
     match &stmt.kind {
         StmtKind::Empty => put_point(steps, Action::Idle, span),
         StmtKind::Local(decl) => put_point(steps, Action::Declare(decl), decl.span),
-        StmtKind::Eval(tree) => put_point(steps, Action::Eval(tree), span),
-        StmtKind::Assign { left, op, right } => {
-            let op = *op;
-            put_point(steps, Action::Assign { left, op, right }, span)
-        }
+        StmtKind::Eval(_) => put_simple(steps, stmt),
+        StmtKind::Assign { .. } => put_simple(steps, stmt),
         StmtKind::Break => put_point(steps, Action::Jump, span),
         StmtKind::Continue => put_point(steps, Action::Jump, span),
         StmtKind::Goto(_) => put_point(steps, Action::Jump, span),

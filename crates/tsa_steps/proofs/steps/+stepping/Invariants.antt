@@ -1,8 +1,8 @@
 use Rattle.std.proofs.Common.{◌≡◌, ◌+◌, ◌*◌, ◌≤◌, ◌++◌, drop, map}
 use Rattle.tsa_tree.specs.statements.Shapes.{stmt_shapes}
 use Rattle.tsa_tree.proofs.statements.Trees.{tall, talls, shape_of}
-use Rattle.tsa_points.specs.Steps.{step_shape, steps_of_all}
-use Rattle.tsa_points.proofs.steps.+stepping.Given as goal
+use Rattle.tsa_steps.specs.Steps.{step_shape, steps_of_all}
+use Rattle.tsa_steps.proofs.steps.+stepping.Given as goal
 
 abbrev pub decreases-put_steps : goal.decreases-put_steps
 decreases-put_steps l = 3 * tall (shape_of l.stmt.now)
