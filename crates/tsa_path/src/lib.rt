@@ -5,6 +5,7 @@ mod key;
 mod laws;
 mod names;
 mod refusal;
+mod set;
 mod substitution;
 mod table;
 mod texts;
@@ -17,6 +18,7 @@ pub use laws::{
 };
 pub use names::{Named, PathNames};
 pub use refusal::InternRefusal;
+pub use set::PathSet;
 pub use substitution::{constant_path, substitute};
 pub use table::PathTable;
 pub use texts::path_text;
