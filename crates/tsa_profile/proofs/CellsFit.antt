@@ -27,7 +27,8 @@ use Rattle.tsa_layout.specs.declared.place.Placed.{Placed}
 use Rattle.tsa_layout.specs.Calls.{Layout, is_structure, evaluated, no_locals, place_in}
 use Rattle.tsa_layout.specs.Parts.{no_stable}
 use Rattle.tsa_layout.specs.Stores.{is_of}
-use Rattle.tsa_place.specs.Units.{or_zero, address_in, cell_value, values_in}
+use Rattle.tsa_item.specs.Items.{or_zero}
+use Rattle.tsa_fill.specs.Units.{address_in, cell_value, values_in}
 use Rattle.tsa_core.proofs.CaseNumbers.{value_fits, unsigned_below}
 use Rattle.tsa_core.proofs.KindTests.{never, both_true, and_true, not_false}
 use Rattle.tsa_core.proofs.NoFailure.{none_of_both, none_of_first, keeps_typed}

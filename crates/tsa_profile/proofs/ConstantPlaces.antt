@@ -41,7 +41,7 @@ use Rattle.tsa_path.proofs.ArgumentPaths.{bound}
 use Rattle.tsa_path.proofs.Pointers.{spot_of, spot_onward}
 use Rattle.tsa_path.proofs.StandDeclared.{Marks, marks, part_marks, inner_marks, StandsAs, Heads, global_marked, member_marked, element_marked}
 use Rattle.tsa_path.proofs.StepsBehind.{Inner, member_by, Piece, element_by}
-use Rattle.tsa_profile.specs.Expressions.{is_empty}
+use Rattle.tsa_seen.specs.Locks.{is_empty}
 
 -- what is declared so far stays as it is
 pub record Extends (l whole : Layout) : Type 0 where

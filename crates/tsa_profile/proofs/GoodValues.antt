@@ -8,7 +8,7 @@ use Rattle.tsa_tree.specs.types.Arithmetic.{is_int}
 use Rattle.tsa_layout.specs.declared.place.Placed.{Placed}
 use Rattle.tsa_layout.specs.Calls.{is_structure}
 use Rattle.tsa_layout.specs.Stores.{is_of}
-use Rattle.tsa_place.specs.Units.{zero_of}
+use Rattle.tsa_item.specs.Items.{zero_of}
 use Rattle.tsa_lead.proofs.Laid.{front_at}
 use Rattle.tsa_core.proofs.KindTests.{never}
 

@@ -17,23 +17,23 @@ use Rattle.tsa_tree.specs.units.Syntax.{UnitItem}
 use Rattle.tsa_core.proofs.BodyScopes.{SameTypes, through, with_param_types, small_kept}
 use Rattle.tsa_core.proofs.KindTests.{never, neither, not_false, and_true}
 use Rattle.tsa_way.specs.Ways.{Way}
-use Rattle.tsa_profile.specs.declared.premise.ProfileCode.TheVariants.{PF1, PF2, PF4, PF6, PF7, PF9}
-use Rattle.tsa_profile.specs.Premises.{premise, first}
-use Rattle.tsa_profile.specs.Standing.{inside}
-use Rattle.tsa_profile.specs.Expressions.{View, own, parts}
+use Rattle.tsa_seen.specs.declared.premise.ProfileCode.TheVariants.{PF1, PF2, PF4, PF6, PF7, PF9}
+use Rattle.tsa_seen.specs.Premises.{premise, first}
+use Rattle.tsa_seen.specs.declared.standing.Standing.TheVariants.{Inside}
+use Rattle.tsa_use.specs.Expressions.{View, own, parts}
 use Rattle.tsa_profile.specs.Declarations.{way, is_order, is_named_once, is_among, is_call, argument, with_way, ways_behind, attribute_arguments, guard_premises, is_generic, misfits, attribute_premises, param_premises, is_nothing, head_premises}
-use Rattle.tsa_profile.proofs.NoneFails.{none_of_both, none_of_first}
+use Rattle.tsa_use.proofs.NoneFails.{none_of_both, none_of_first}
 use Rattle.tsa_profile.proofs.CallsStand.{neither_has, keeps_free}
 
 -- arguments of attributes have no calls
 argument_free : (v : View) (kind : AttrKind) (ways : List Way) (e : Expression) → first (argument v kind ways e) ≡ None → is_free e ≡ true
 argument_free v kind ways e h =
     let again = premise PF9 (expression_span e) (is_named_once kind && is_among ways (way v e)) in
-    let behind = own v inside false e ++ again ∷ parts v inside e in
+    let behind = own v Inside false e ++ again ∷ parts v Inside e in
     let x = none_of_first PF1 (expression_span e) (is_call e) (premise PF2 (expression_span e) (not (is_order kind) && is_none (way v e)) ∷ behind) h in
     let y = none_of_first PF2 (expression_span e) (not (is_order kind) && is_none (way v e)) behind x.1 in
-    let z = none_of_both (own v inside false e) (again ∷ parts v inside e) y.1 in
-    keeps_free v false e (z.0, (none_of_first PF9 (expression_span e) (is_named_once kind && is_among ways (way v e)) (parts v inside e) z.1).1)
+    let z = none_of_both (own v Inside false e) (again ∷ parts v Inside e) y.1 in
+    keeps_free v false e (z.0, (none_of_first PF9 (expression_span e) (is_named_once kind && is_among ways (way v e)) (parts v Inside e) z.1).1)
 
 arguments_stand : (v : View) (kind : AttrKind) (ways : List Way) (args : Arguments) → first (attribute_arguments v kind ways args) ≡ None → not (have_call args) ≡ true
 unfolding attribute_arguments

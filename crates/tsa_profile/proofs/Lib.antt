@@ -1,4 +1,5 @@
 pub mod Worked
+pub mod KnownAttributes
 pub mod NumbersFit
 pub mod SmallNames
 pub mod ConstantPlaces
@@ -9,8 +10,13 @@ pub mod CellsFit
 pub mod StartsTyped
 pub mod ProfileAllows
 pub mod StartLaws
-pub mod NoneFails
 pub mod CallsStand
 pub mod PointsRun
 pub mod HeadsRun
 pub mod UnitsRun
+pub mod AddedNames
+pub mod FunctionScopes
+pub mod KnownCalls
+pub mod BodyWays
+pub mod FunctionPaths
+pub mod PathTables

@@ -25,13 +25,13 @@ use Rattle.tsa_core.proofs.KindTests.{never, not_false, and_true}
 use Rattle.tsa_core.proofs.NoFailure as typing
 use Rattle.tsa_core.proofs.ValuesServe.{constant_free}
 use Rattle.tsa_points.specs.Points.{PlacedPoint, placed, placed_simple, placed_init, placed_step, placed_test, placed_for, placed_in, placed_all}
-use Rattle.tsa_profile.specs.declared.premise.ProfileCode.TheVariants.{PF4, PF7}
-use Rattle.tsa_profile.specs.Premises.{first}
-use Rattle.tsa_profile.specs.Standing.{whole, inside}
-use Rattle.tsa_profile.specs.Expressions.{expression}
+use Rattle.tsa_seen.specs.declared.premise.ProfileCode.TheVariants.{PF4, PF7}
+use Rattle.tsa_seen.specs.Premises.{first}
+use Rattle.tsa_seen.specs.declared.standing.Standing.TheVariants.{Whole, Inside}
+use Rattle.tsa_use.specs.Expressions.{expression}
 use Rattle.tsa_profile.specs.Bodies.{Around, view_at, begins_a_try, standing_of, value_misfits, point_premises, points_premises}
 use Rattle.tsa_profile.specs.Bodies as profile
-use Rattle.tsa_profile.proofs.NoneFails.{none_of_both, none_of_two, none_of_first}
+use Rattle.tsa_use.proofs.NoneFails.{none_of_both, none_of_two, none_of_first}
 use Rattle.tsa_profile.proofs.CallsStand.{inside_free, whole_stands, begun_stands, test_stands}
 
 -- the points of two parts, and the first of some points
@@ -72,7 +72,7 @@ local_stands a here d typed h =
 simple_stands : (a : Around) (here : Scope) (s : Simple) → first (point_premises a (placed_simple here s)) ≡ None → simple_runs s ≡ true
 simple_stands a here (evaluation e span) h = whole_stands (view_at a here) e h
 simple_stands a here (assignment left o right span) h =
-    let x = none_of_both (expression (view_at a here) inside left) (expression (view_at a here) whole right) h in
+    let x = none_of_both (expression (view_at a here) Inside left) (expression (view_at a here) Whole right) h in
     and_true (is_free left) (is_whole right) (inside_free (view_at a here) left x.0) (whole_stands (view_at a here) right x.1)
 
 -- the parts of a `for`
@@ -136,7 +136,7 @@ case_told a c key span h =
 returned_stands : (a : Around) (here : Scope) (span : Span) (given : Option Expression) → first (profile.deed_premises a here span (returns given)) ≡ None → is_whole_given given ≡ true
 returned_stands a here span None h = refl
 returned_stands a here span (Some e) h =
-    whole_stands (view_at a here) e (none_of_first PF7 span (value_misfits a here e) (expression (view_at a here) whole e) h).1
+    whole_stands (view_at a here) e (none_of_first PF7 span (value_misfits a here e) (expression (view_at a here) Whole e) h).1
 
 -- Statements, in order of the text.
 mutual

@@ -10,16 +10,17 @@ use Rattle.tsa_tree.specs.types.Units.{behind_item}
 use Rattle.tsa_tree.specs.units.Syntax.{UnitItem, structure_item, alias_item, enumeration_item, global_item, function_item, body_item}
 use Rattle.tsa_layout.specs.declared.place.Placed.{Placed}
 use Rattle.tsa_layout.specs.Calls.{Layout, is_structure, is_addressable}
+use Rattle.tsa_core.specs.Programs.{Attr}
 use Rattle.tsa_core.proofs.KindTests.{and_true}
-use Rattle.tsa_profile.specs.declared.premise.Failure.{Failure}
-use Rattle.tsa_profile.specs.declared.premise.ProfileCode.{ProfileCode}
-use Rattle.tsa_profile.specs.declared.premise.ProfileCode.TheVariants.{PF3}
+use Rattle.tsa_seen.specs.declared.premise.Failure.{Failure}
+use Rattle.tsa_seen.specs.declared.premise.ProfileCode.{ProfileCode}
+use Rattle.tsa_seen.specs.declared.premise.ProfileCode.TheVariants.{PF3}
 use Rattle.tsa_profile.specs.Declarations as profile
 use Rattle.tsa_profile.specs.Declarations.{guard_premises, given_init, init_premises}
-use Rattle.tsa_profile.specs.Expressions.{own, parts}
-use Rattle.tsa_profile.specs.Premises.{Premise, premise, or_else, failure_of, first}
-use Rattle.tsa_profile.specs.Standing.{inside}
-use Rattle.tsa_profile.specs.Units.{Unit, view_in, item_premises, items_premises}
+use Rattle.tsa_use.specs.Expressions.{own, parts}
+use Rattle.tsa_seen.specs.Premises.{Premise, premise, or_else, failure_of, first}
+use Rattle.tsa_seen.specs.declared.standing.Standing.TheVariants.{Inside}
+use Rattle.tsa_profile.specs.Units.{Unit, attributes_behind, view_in, item_premises, items_premises}
 use Rattle.tsa_profile.proofs.CellsFit.{Allows}
 use Rattle.tsa_profile.proofs.ConstantPlaces.{guarded}
 use Rattle.tsa_profile.proofs.InitialisersFit.{AllowedInitialiser, AllowedItems, AllowedInit}
@@ -57,8 +58,8 @@ module _ (u : Unit) where
   abbrev whole : Layout
   whole = u.program.layout
 
-  module _ (here : Scope) where
-    allows : (e : Expression) → first (own (view_in u here) inside false e) ≡ None → Allows is_addressable whole here e
+  module _ (known : List (List Attr)) (here : Scope) where
+    allows : (e : Expression) → first (own (view_in u known here) Inside false e) ≡ None → Allows is_addressable whole here e
     allows (unary prefix.Address inner span) h = λ p object is. unguarded p (guarded whole here inner) (holds_alone PF3 span (guarded whole here inner) h) object is
     allows (unary prefix.Follow inner span) h = tt
     allows (unary prefix.Minus inner span) h = tt
@@ -75,32 +76,33 @@ module _ (u : Unit) where
     mutual
       unfolding init_premises profile.item_premises
 
-      allowed_initialiser : (i : Initialiser) → first (init_premises (view_in u here) i) ≡ None → AllowedInitialiser (Allows is_addressable whole here) i
-      allowed_initialiser (value e) h = allows e (none_of_both (own (view_in u here) inside false e) (parts (view_in u here) inside e) h).0
+      allowed_initialiser : (i : Initialiser) → first (init_premises (view_in u known here) i) ≡ None → AllowedInitialiser (Allows is_addressable whole here) i
+      allowed_initialiser (value e) h = allows e (none_of_both (own (view_in u known here) Inside false e) (parts (view_in u known here) Inside e) h).0
       allowed_initialiser (list items span) h = allowed_items items h
 
-      allowed_items : (items : Initialisers) → first (profile.item_premises (view_in u here) items) ≡ None → AllowedItems (Allows is_addressable whole here) items
+      allowed_items : (items : Initialisers) → first (profile.item_premises (view_in u known here) items) ≡ None → AllowedItems (Allows is_addressable whole here) items
       allowed_items no_more h = tt
       allowed_items (one_more x rest) h =
-          let both = none_of_both (init_premises (view_in u here) x) (profile.item_premises (view_in u here) rest) h in
+          let both = none_of_both (init_premises (view_in u known here) x) (profile.item_premises (view_in u known here) rest) h in
           (allowed_initialiser x both.0, allowed_items rest both.1)
 
-  allowed_item : (here : Scope) (item : UnitItem) → first (item_premises u here item) ≡ None → AllowedItem is_addressable whole here item
-  allowed_item here (structure_item tag alias attrs members span) h = tt
-  allowed_item here (alias_item name ctype span) h = tt
-  allowed_item here (enumeration_item tag alias values span) h = tt
-  allowed_item here (function_item head) h = tt
-  allowed_item here (body_item head body close) h = tt
-  allowed_item here (global_item d) h =
-      by d.init (none_of_both (guard_premises (view_in u (with_global here d)) d.attrs) (given_init (view_in u (with_global here d)) d.init) h).1
+  allowed_item : (known behind : List (List Attr)) (here : Scope) (item : UnitItem) → first (item_premises u known behind here item) ≡ None → AllowedItem is_addressable whole here item
+  allowed_item known behind here (structure_item tag alias attrs members span) h = tt
+  allowed_item known behind here (alias_item name ctype span) h = tt
+  allowed_item known behind here (enumeration_item tag alias values span) h = tt
+  allowed_item known behind here (function_item head) h = tt
+  allowed_item known behind here (body_item head body close) h = tt
+  allowed_item known behind here (global_item d) h =
+      by d.init (none_of_both (guard_premises (view_in u known (with_global here d)) d.attrs) (given_init (view_in u known (with_global here d)) d.init) h).1
     where
-      by : (i : Option Initialiser) → first (given_init (view_in u (with_global here d)) i) ≡ None → AllowedInit (Allows is_addressable whole (with_global here d)) i
+      by : (i : Option Initialiser) → first (given_init (view_in u known (with_global here d)) i) ≡ None → AllowedInit (Allows is_addressable whole (with_global here d)) i
       by None h = tt
-      by (Some i) h = allowed_initialiser (with_global here d) i h
+      by (Some i) h = allowed_initialiser known (with_global here d) i h
 
-  pub allowed_all : (here : Scope) (items : List UnitItem) → first (items_premises u here items) ≡ None → AllowedAll is_addressable whole here items
+  pub allowed_all : (known : List (List Attr)) (here : Scope) (items : List UnitItem) → first (items_premises u known here items) ≡ None → AllowedAll is_addressable whole here items
   unfolding items_premises
-  allowed_all here [] h = tt
-  allowed_all here (item ∷ rest) h =
-      let both = none_of_both (item_premises u here item) (items_premises u (behind_item here item) rest) h in
-      (allowed_item here item both.0, allowed_all (behind_item here item) rest both.1)
+  allowed_all known here [] h = tt
+  allowed_all known here (item ∷ rest) h =
+      let behind = attributes_behind u known here item in
+      let both = none_of_both (item_premises u known behind here item) (items_premises u behind (behind_item here item) rest) h in
+      (allowed_item known behind here item both.0, allowed_all behind (behind_item here item) rest both.1)

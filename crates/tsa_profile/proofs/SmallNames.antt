@@ -21,7 +21,7 @@ use Rattle.tsa_tree.specs.types.Scopes.{Scope, Members, found, context_of, known
 use Rattle.tsa_tree.specs.types.Types.{single}
 use Rattle.tsa_tree.specs.units.Syntax.{UnitItem, structure_item, alias_item, enumeration_item, global_item, function_item, body_item}
 use Rattle.tsa_layout.specs.Parts.{members_after, unless, unless_taken, unless_named}
-use Rattle.tsa_place.specs.Units.{worth_written, worth, enumerators_behind, behind_data}
+use Rattle.tsa_item.specs.Items.{worth_written, worth, enumerators_behind, behind_data}
 use Rattle.tsa_core.proofs.ScopesAlike.{known_found}
 use Rattle.tsa_profile.proofs.NumbersFit.{IsFit, IsSmall, value_is_fit}
 

@@ -18,13 +18,13 @@ use Rattle.tsa_layout.specs.Calls.{Layout, is_structure, is_addressable}
 use Rattle.tsa_layout.specs.Stores.{may_point, is_value_of, start}
 use Rattle.tsa_lead.specs.Leading.{HasPlaces}
 use Rattle.tsa_lead.proofs.Laid.{nothing_laid}
-use Rattle.tsa_place.specs.Units.{no_places}
+use Rattle.tsa_fill.specs.Units.{no_places}
 use Rattle.tsa_core.proofs.LaidScopes.{Fits, MembersFit}
 use Rattle.tsa_core.specs.Programs.{layout_or_none, program_of}
 use Rattle.tsa_path.proofs.StandDeclared.{no_heads}
 use Rattle.tsa_profile.specs.Starts.{is_object_of, has_kind, StartValuesHaveTheirKinds, StartsAreWellTyped}
 use Rattle.tsa_profile.specs.Units as profile
-use Rattle.tsa_profile.specs.Units.{unit_of, tries_limit, paths_limit, limits}
+use Rattle.tsa_profile.specs.Units.{unit_of, tries_limits, paths_limits}
 use Rattle.tsa_profile.proofs.CellsFit.{Allows}
 use Rattle.tsa_profile.proofs.EachPlace.{every_at}
 use Rattle.tsa_profile.proofs.GoodValues.{may, good, GoodCell}
@@ -152,7 +152,7 @@ pub starts_are_well_typed : StartsAreWellTyped
 starts_are_well_typed items l sound typed profiled has place p at plain =
     let u = unit_of [] items in
     let told =
-    none_of_both (profile.items_premises u (outset items) items) (limits (tries_limit u) (outset items) items ++ limits (paths_limit u) (outset items) items) profiled in
+    none_of_both (profile.items_premises u [] (outset items) items) (tries_limits u [] (outset items) items ++ paths_limits u [] (outset items) items) profiled in
     value_same l p.kind (start l place)
     ∙ cell_is_good is_addressable items l sound typed
-    (subst (λ whole. AllowedAll is_addressable whole (outset items) items) (layout_is items l has) (allowed_all u (outset items) items told.0)) has place p at plain
+    (subst (λ whole. AllowedAll is_addressable whole (outset items) items) (layout_is items l has) (allowed_all u [] (outset items) items told.0)) has place p at plain

@@ -32,7 +32,9 @@ use Rattle.tsa_layout.specs.Parts.{member_behind, parts_behind, part_in, structu
 use Rattle.tsa_layout.specs.Places.{item_of, places_of}
 use Rattle.tsa_layout.proofs.Below.{part_within}
 use Rattle.tsa_layout.proofs.Standing.{earlier_structure}
-use Rattle.tsa_place.specs.Units.{values_in, given_by, known_global, global_part, behind_data, data_placed, too_many_at, or_behind, placed_behind}
+use Rattle.tsa_item.specs.Items.{known_global, global_part, behind_data}
+use Rattle.tsa_fill.specs.Units.{values_in, given_by}
+use Rattle.tsa_place.specs.Units.{data_placed, too_many_at, or_behind, placed_behind}
 use Rattle.tsa_lead.proofs.Laid as laid
 use Rattle.tsa_lead.proofs.Laid.{IsLaid, front_at}
 use Rattle.tsa_lead.proofs.Pieces.{some_at}

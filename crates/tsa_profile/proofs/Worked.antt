@@ -2,17 +2,17 @@
 use Rattle.std.proofs.Common.{refl}
 use Rattle.tsa_core.proofs.Worked.{worked}
 use Rattle.tsa_points.specs.Points.{placed_in, placed_all}
-use Rattle.tsa_profile.specs.Premises.{first}
-use Rattle.tsa_profile.specs.Expressions.{parts, arguments}
+use Rattle.tsa_seen.specs.Premises.{first}
+use Rattle.tsa_use.specs.Expressions.{parts, arguments}
 use Rattle.tsa_profile.specs.Declarations.{ways_behind, attribute_arguments, guard_premises, attribute_premises, param_premises, init_premises, item_premises}
 use Rattle.tsa_profile.specs.Bodies.{points_premises}
-use Rattle.tsa_profile.specs.Paths.{paths_of}
-use Rattle.tsa_profile.specs.Units.{member_premises, items_premises, limits}
+use Rattle.tsa_profile.specs.Ways.{points_ways}
+use Rattle.tsa_profile.specs.Units.{member_premises, items_premises, tries_limits, paths_limits}
 use Rattle.tsa_profile.specs.Examples.{ProfilesAreAsWritten}
 
 -- to unfold this is to unfold all of it
 unfoldable pub all : Unit {0}
-unfolding worked placed_in placed_all first parts arguments ways_behind attribute_arguments guard_premises attribute_premises param_premises init_premises item_premises points_premises paths_of member_premises items_premises limits
+unfolding worked placed_in placed_all first parts arguments ways_behind attribute_arguments guard_premises attribute_premises param_premises init_premises item_premises points_premises points_ways member_premises items_premises tries_limits paths_limits
 all = tt
 
 pub profiles_are_as_written : ProfilesAreAsWritten

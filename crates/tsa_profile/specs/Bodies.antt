@@ -9,30 +9,34 @@ use Rattle.tsa_tree.specs.points.Syntax.{Deed, declares, evaluates, assigns, tes
 use Rattle.tsa_tree.specs.types.DeclaredTypes.{thing_type}
 use Rattle.tsa_tree.specs.types.Runnable.{is_small}
 use Rattle.tsa_tree.specs.types.Scopes.{Scope}
-use Rattle.tsa_core.specs.Programs.{Program}
+use Rattle.tsa_layout.specs.Calls.{Layout}
+use Rattle.tsa_core.specs.Programs.{Attr}
 use Rattle.tsa_points.specs.Points.{PlacedPoint}
-use Rattle.tsa_profile.specs.declared.premise.ProfileCode.TheVariants.{PF4, PF7}
-use Rattle.tsa_profile.specs.Premises.{Premise, premise}
-use Rattle.tsa_profile.specs.Standing.{Standing, whole, begins, test, inside}
-use Rattle.tsa_profile.specs.Expressions.{View, constant, is_truth, is_try_call, expression}
+use Rattle.tsa_seen.specs.declared.premise.ProfileCode.TheVariants.{PF4, PF7}
+use Rattle.tsa_seen.specs.Premises.{Premise, premise}
+use Rattle.tsa_seen.specs.declared.standing.Standing.{Standing}
+use Rattle.tsa_seen.specs.declared.standing.Standing.TheVariants.{Whole, Begins, Test, Inside}
+use Rattle.tsa_use.specs.Expressions.{View, constant, is_truth, is_try_call, expression}
 use Rattle.tsa_profile.specs.Declarations.{init_premises, is_int}
 
--- the core program of the unit, whether the function of the body tries, and which locals never change
+-- the layout of the unit, the attributes of the functions that are declared up to there, whether the function of the body tries, and which locals never
+-- change
 pub record Around : Type 0 where
-  pub program : Program
+  pub layout : Layout
+  pub attributes : List (List Attr)
   pub tries : Bool
   pub stable : ℕ → Bool
 
 abbrev pub view_at : Around → Scope → View
-view_at a here = record { program = a.program; here = here; stable = a.stable; is_run = true }
+view_at a here = record { layout = a.layout; attributes = a.attributes; here = here; stable = a.stable; is_run = true }
 
 -- a local `int` that never changes may begin with what a try gives
 abbrev pub begins_a_try : Around → Scope → ThingType → Bool
 begins_a_try a here t = is_int t.kind && (not (is_some t.length) && a.stable here.locals)
 
 abbrev pub standing_of : Bool → Standing
-standing_of true = begins
-standing_of false = whole
+standing_of true = Begins
+standing_of false = Whole
 
 abbrev pub local_init : Around → Scope → ThingType → Option Initialiser → List Premise
 local_init a here t None = []
@@ -50,15 +54,15 @@ value_misfits a here e = a.tries && is_no_truth (constant (view_at a here) e)
 abbrev pub deed_premises : Around → Scope → Span → Deed → List Premise
 deed_premises a here span (declares d) =
     premise PF4 d.span (not (is_small (thing_type here d.ctype))) ∷ local_init a here (thing_type here d.ctype) d.init
-deed_premises a here span (evaluates e) = expression (view_at a here) whole e
-deed_premises a here span (assigns left o right) = expression (view_at a here) inside left ++ expression (view_at a here) whole right
+deed_premises a here span (evaluates e) = expression (view_at a here) Whole e
+deed_premises a here span (assigns left o right) = expression (view_at a here) Inside left ++ expression (view_at a here) Whole right
 deed_premises a here span (tests None) = []
-deed_premises a here span (tests (Some e)) = expression (view_at a here) test e
-deed_premises a here span (switches e) = expression (view_at a here) inside e
+deed_premises a here span (tests (Some e)) = expression (view_at a here) Test e
+deed_premises a here span (switches e) = expression (view_at a here) Inside e
 deed_premises a here span jumps = []
 deed_premises a here span idles = []
 deed_premises a here span (returns None) = []
-deed_premises a here span (returns (Some e)) = premise PF7 span (value_misfits a here e) ∷ expression (view_at a here) whole e
+deed_premises a here span (returns (Some e)) = premise PF7 span (value_misfits a here e) ∷ expression (view_at a here) Whole e
 deed_premises a here span ends = []
 
 abbrev pub point_premises : Around → PlacedPoint → List Premise

@@ -15,10 +15,11 @@ use Rattle.tsa_tree.specs.types.Scopes.{Scope, found}
 use Rattle.tsa_way.specs.LockPaths.{lock_way}
 use Rattle.tsa_way.specs.Ways.{Way}
 use Rattle.tsa_path.specs.PathTables.{is_known}
-use Rattle.tsa_profile.specs.declared.premise.ProfileCode.TheVariants.{PF1, PF2, PF4, PF6, PF7, PF9}
-use Rattle.tsa_profile.specs.Premises.{Premise, premise}
-use Rattle.tsa_profile.specs.Standing.{inside}
-use Rattle.tsa_profile.specs.Expressions.{View, own, parts, is_try}
+use Rattle.tsa_seen.specs.declared.premise.ProfileCode.TheVariants.{PF1, PF2, PF4, PF6, PF7, PF9}
+use Rattle.tsa_seen.specs.Premises.{Premise, premise}
+use Rattle.tsa_seen.specs.declared.standing.Standing.TheVariants.{Inside}
+use Rattle.tsa_use.specs.Expressions.{View, own, parts}
+use Rattle.tsa_seen.specs.Locks.{is_try}
 
 abbrev pub way : View → Expression → Option Way
 way v e = lock_way v.stable v.here e
@@ -55,8 +56,8 @@ abbrev pub argument : View → AttrKind → List Way → Expression → List Pre
 argument v kind ways e =
     premise PF1 (expression_span e) (is_call e)
     ∷ premise PF2 (expression_span e) (not (is_order kind) && is_none (way v e))
-    ∷ own v inside false e
-    ++ premise PF9 (expression_span e) (is_named_once kind && is_among ways (way v e)) ∷ parts v inside e
+    ∷ own v Inside false e
+    ++ premise PF9 (expression_span e) (is_named_once kind && is_among ways (way v e)) ∷ parts v Inside e
 
 abbrev pub with_way : Bool → List Way → Option Way → List Way
 with_way true ways (Some w) = ways ++ w ∷ []
@@ -133,7 +134,7 @@ head_premises outside here v head has_body =
 -- an initialiser of a global, which no thread works out
 unfoldable mutual
   pub init_premises : View → Initialiser → List Premise
-  init_premises v (value e) = own v inside false e ++ parts v inside e
+  init_premises v (value e) = own v Inside false e ++ parts v Inside e
   init_premises v (list items span) = item_premises v items
 
   pub item_premises : View → Initialisers → List Premise

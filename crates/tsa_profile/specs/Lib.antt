@@ -1,10 +1,10 @@
-pub mod Premises
-pub mod Standing
-pub mod Expressions
 pub mod Declarations
 pub mod Bodies
+pub mod Ways
 pub mod Paths
 pub mod Units
+pub mod Attributes
 pub mod Starts
 pub mod Examples
 pub mod Running
+pub mod Tables

@@ -7,13 +7,8 @@ use Rattle.tsa_core.specs.Bodies.{Body, Point}
 use Rattle.tsa_core.specs.Meanings.{Call}
 use Rattle.tsa_core.specs.Programs.{Function, Program}
 use Rattle.tsa_core.specs.Uses.{Uses}
-use Rattle.tsa_path.specs.PathTables.{with_path}
 use Rattle.tsa_path.specs.Substitution.{substituted}
-
-abbrev pub present : {A : Type 0} → List (Option A) → List A
-present [] = []
-present (None ∷ rest) = present rest
-present (Some x ∷ rest) = x ∷ present rest
+use Rattle.tsa_profile.specs.Ways.{present, each_once, unless_many}
 
 -- the locks that a function names, as its caller has them
 abbrev pub called_in : List (Option Way) → Option Function → List (Option Way)
@@ -38,9 +33,9 @@ points_in (Some b) = b.points
 abbrev pub ways_of : Program → Function → List Way
 ways_of p f = present (map (λ a. a.path) f.attrs) ++ points_ways p f.uses (points_in f.body)
 
-abbrev pub each_once : List Way → List Way → List Way
-each_once known [] = known
-each_once known (w ∷ rest) = each_once (with_path known w) rest
-
 unfoldable pub paths_of : Program → Function → List Way
 paths_of p f = each_once [] (ways_of p f)
+
+-- the same of a function with a body, where there are no more than it may have
+abbrev pub paths_if : Program → Function → Option (List Way)
+paths_if p f = option_and_then (λ b. unless_many (paths_of p f)) f.body

@@ -1,7 +1,9 @@
 //! Laws of the profile.
+ghost use Rattle.tsa_profile.specs.Attributes.{AttributesAreThoseOfTheCore};
 ghost use Rattle.tsa_profile.specs.Examples.{ProfilesAreAsWritten};
 ghost use Rattle.tsa_profile.specs.Starts.{StartValuesHaveTheirKinds, StartsAreWellTyped};
 ghost use Rattle.tsa_profile.specs.Running.{ProfilesAreRunnable};
+ghost use Rattle.tsa_profile.specs.Tables.{PathsAreThoseOfTheCore};
 
 /// Units are in the profile, or are refused where it is written beside them.
 pub fn profiles_are_as_written()
@@ -22,4 +24,14 @@ pub fn starts_are_well_typed()
 /// A typed unit in the profile is one that the machine runs.
 pub fn profiles_are_runnable()
     ensures { ProfilesAreRunnable }
+{}
+
+/// Behind the items of a unit the attributes that are known are those of the functions of its core program, by their numbers.
+pub fn attributes_are_those_of_the_core()
+    ensures { AttributesAreThoseOfTheCore }
+{}
+
+/// Behind the items of a typed unit the paths of its bodies, by the numbers of their functions, are those of the functions of its core program.
+pub fn paths_are_those_of_the_core()
+    ensures { PathsAreThoseOfTheCore }
 {}

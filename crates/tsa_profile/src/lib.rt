@@ -2,10 +2,9 @@
 #![tactic(auto)]
 
 mod laws;
-mod premise;
 
 pub use laws::{
-    profiles_are_as_written, profiles_are_runnable, start_values_have_their_kinds,
-    starts_are_well_typed,
+    attributes_are_those_of_the_core, paths_are_those_of_the_core, profiles_are_as_written,
+    profiles_are_runnable, start_values_have_their_kinds, starts_are_well_typed,
 };
-pub use premise::{Failure, ProfileCode};
+pub use tsa_seen::{Failure, ProfileCode};

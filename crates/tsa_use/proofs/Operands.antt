@@ -1,10 +1,9 @@
 -- The own access of an operand before those inside it.
 use Rattle.std.proofs.Common.{◌≡◌, ◌∙◌, ℕ, suc, Bool, true, false, List, [], ◌∷◌, ◌++◌, drop, map, refl, ap, sym, if◌then◌else◌}
-use Rattle.std.proofs.lemmas.List.{append_assoc, append-nil}
+use Rattle.std.proofs.lemmas.List.{append-nil}
 use Rattle.tsa_base.specs.declared.token.Span.{Span}
 use Rattle.std.specs.Prelude.{◌<◌, Option, Some, None, get_or, length}
 use Rattle.std.proofs.Math.Seq.{drop-cons}
-use Rattle.tsa_way.specs.Ways.{Way}
 use Rattle.tsa_tree.specs.declared.expr.BinaryOp.{BinaryOp}
 use Rattle.tsa_tree.specs.declared.expr.Expr.{Expr}
 use Rattle.tsa_tree.specs.declared.expr.ExprKind.{ExprKind}
@@ -15,12 +14,13 @@ use Rattle.tsa_tree.specs.types.Scopes.{Scope}
 use Rattle.tsa_layout.specs.Calls.{Layout}
 use Rattle.tsa_core.specs.Cells.{argument_cells, cells_read, inner_cells, own_cell}
 use Rattle.tsa_core.specs.Meanings.{is_loaded, meaning}
-use Rattle.tsa_use.specs.Accesses.{Access, access, accesses, before, span_of, written}
-use Rattle.tsa_use.specs.Seen.{Seen, own_access, seen_of}
+use Rattle.tsa_seen.specs.Accesses.{Access}
+use Rattle.tsa_use.specs.Accesses.{access, accesses, before, span_of, written}
+use Rattle.tsa_seen.specs.Seen.{Seen, own_access, seen_of}
 use Rattle.tsa_use.proofs.Walk.{before_append, before_nothing}
 
 -- an expression stands where its node does
-span_is : (kind : ExprKind) (span : Span) → span_of (kind_shape kind span) ≡ span
+pub span_is : (kind : ExprKind) (span : Span) → span_of (kind_shape kind span) ≡ span
 span_is (Number value unsigned) span = refl
 span_is Null span = refl
 span_is (Named name) span = refl

@@ -1,14 +1,13 @@
 -- Accesses without where they stand.
-use Rattle.std.proofs.Common.{◌≡◌, ◌∙◌, ℕ, Bool, true, false, List, [], ◌∷◌, ◌++◌, Option, map, refl, ap}
+use Rattle.std.proofs.Common.{◌≡◌, ◌∙◌, ℕ, Bool, true, false, List, [], ◌∷◌, ◌++◌, map, refl, ap}
 use Rattle.std.proofs.lemmas.List.{map-append}
-use Rattle.tsa_tree.specs.declared.expr.BinaryOp.{BinaryOp}
 use Rattle.tsa_tree.specs.expressions.Syntax.{Expression}
 use Rattle.tsa_tree.specs.types.Scopes.{Scope}
 use Rattle.tsa_layout.specs.Calls.{Layout}
 use Rattle.tsa_core.specs.Cells.{cells_read, inner_cells, own_cell, read_before}
 use Rattle.tsa_core.specs.Uses as core
 use Rattle.tsa_use.specs.Accesses.{accesses, without_span}
-use Rattle.tsa_use.specs.Laws.{ReadsAreThoseOfTheCore, WritesAreThoseOfTheCore}
+use Rattle.tsa_use.specs.Laws.{ArgumentsAreThoseOfTheCore, ReadsAreThoseOfTheCore, WritesAreThoseOfTheCore}
 
 all_are : (l : Layout) (stable : ℕ → Bool) (here : Scope) (w : Bool) (cells : List Expression) → map without_span (accesses l stable here w cells) ≡ core.accesses l stable here w cells
 unfolding accesses
@@ -26,3 +25,6 @@ writes_are_those l stable here o e =
     (map-append without_span (accesses l stable here true (own_cell here e)) (accesses l stable here false (inner_cells here e))
     ∙ ap (λ own. own ++ map without_span (accesses l stable here false (inner_cells here e))) (all_are l stable here true (own_cell here e))
     ∙ ap (λ inner. core.accesses l stable here true (own_cell here e) ++ inner) (all_are l stable here false (inner_cells here e)))
+
+pub arguments_are_those : ArgumentsAreThoseOfTheCore
+arguments_are_those l stable here e = refl

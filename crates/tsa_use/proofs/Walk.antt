@@ -1,7 +1,7 @@
 -- What the walk over an expression comes to at each node.
-use Rattle.std.proofs.Common.{◌≡◌, ◌∙◌, ℕ, Bool, true, false, not, List, [], ◌∷◌, ◌++◌, Option, Some, None, map, refl, ap, sym, if◌then◌else◌}
+use Rattle.std.proofs.Common.{◌≡◌, ◌∙◌, ℕ, Bool, true, false, not, List, [], ◌++◌, Option, Some, None, map, refl, ap, if◌then◌else◌}
 use Rattle.std.specs.Prelude.{option_and_then}
-use Rattle.std.proofs.lemmas.List.{append_assoc, append-nil, map-append}
+use Rattle.std.proofs.lemmas.List.{append_assoc, map-append}
 use Rattle.tsa_base.specs.declared.token.Span.{Span}
 use Rattle.tsa_tree.specs.declared.expr.BinaryOp.{BinaryOp}
 use Rattle.tsa_tree.specs.declared.expr.BinaryOp.TheVariants as op
@@ -9,25 +9,26 @@ use Rattle.tsa_tree.specs.declared.expr.UnaryOp.{UnaryOp}
 use Rattle.tsa_tree.specs.declared.expr.UnaryOp.TheVariants as prefix
 use Rattle.tsa_tree.specs.declared.kind.Kind.TheVariants as type
 use Rattle.tsa_tree.specs.declared.kind.ThingType.{ThingType}
-use Rattle.tsa_tree.specs.expressions.Syntax.{Identifier, Expression, Arguments, number, null, named, call, unary, binary, field, index, none, more}
+use Rattle.tsa_tree.specs.expressions.Syntax.{Identifier, Expression, Arguments, number, null, named, call, unary, binary, field, index}
 use Rattle.std.specs.Borrow.{Bor}
 use Rattle.tsa_tree.proofs.expressions.Trees.{call_at}
 use Rattle.tsa_tree.specs.declared.expr.Expr.{Expr}
 use Rattle.tsa_tree.specs.declared.expr.ExprKind.{Call}
 use Rattle.tsa_tree.specs.declared.expr.Name.{Name}
 use Rattle.tsa_tree.specs.expressions.Shapes.{name_shape, shape, shapes}
-use Rattle.tsa_tree.specs.types.Expressions.{number_type, owner}
+use Rattle.tsa_tree.specs.types.Expressions.{number_type}
 use Rattle.tsa_tree.specs.types.Operands.{binary_type, element_type}
 use Rattle.tsa_tree.specs.types.Scopes.{Scope, known_in}
 use Rattle.tsa_tree.specs.types.Types.{value}
 use Rattle.tsa_way.specs.LockPaths.{element_step, leads, name_way}
 use Rattle.tsa_layout.specs.Calls.{Layout}
-use Rattle.tsa_core.specs.Cells.{argument_cells, cells_read, inner_cells, own_cell}
+use Rattle.tsa_core.specs.Cells.{argument_cells, cells_read, inner_cells}
 use Rattle.tsa_core.specs.Meanings.{is_place, meaning, of_call, of_name, of_prefix, operands, to_member}
 use Rattle.tsa_core.specs.Terms.{Sense}
 use Rattle.tsa_core.specs.Uses.{access_guards, name_guards}
-use Rattle.tsa_use.specs.Accesses.{Access, access, accesses, before}
-use Rattle.tsa_use.specs.Seen.{Seen, a_value, behind, cells_behind, loaded, meant_as, member_of, seen_of, thing_of, typed, value_of}
+use Rattle.tsa_seen.specs.Accesses.{Access}
+use Rattle.tsa_use.specs.Accesses.{access, accesses, before}
+use Rattle.tsa_seen.specs.Seen.{a_value, behind, cells_behind, loaded, meant_as, member_of, seen_of, thing_of, typed, value_of}
 
 -- no operator gives a place
 no_place : (o : BinaryOp) (l r : Sense) → is_place (operands o l r) ≡ false

@@ -8,14 +8,9 @@ use Rattle.tsa_way.specs.Ways.{Way}
 use Rattle.tsa_layout.specs.Calls.{Layout}
 use Rattle.tsa_core.specs.Cells.{cells_read, inner_cells, own_cell, read_before}
 use Rattle.tsa_core.specs.Uses.{Access as PlainAccess, access_guards, call_ways}
+use Rattle.tsa_seen.specs.Accesses.{Access}
 
--- a cell as it is read or written: where the expression stands that stands for it, and the paths of its guards in order
-pub record Access : Type 0 where
-  pub span : Span
-  pub is_write : Bool
-  pub guards : List (Option Way)
-
--- the same without where it stands
+-- an access without where it stands
 abbrev pub without_span : Access → PlainAccess
 without_span a = record { is_write = a.is_write; guards = a.guards }
 

@@ -1,3 +1,4 @@
 pub mod Accesses
-pub mod Seen
 pub mod Laws
+pub mod Expressions
+pub mod Told

@@ -2,7 +2,6 @@
 ghost use Rattle.std.specs.Prelude.{◌≡◌, option_map, IfOk};
 ghost use Rattle.tsa_core.specs.Uses.{argument_ways, call_ways, called_ways};
 ghost use Rattle.tsa_tree.specs.expressions.Shapes.{shape, shapes};
-ghost use Rattle.tsa_tree.specs.types.Scopes.{known_in};
 ghost use Rattle.tsa_way.specs.LockPaths.{stable_in};
 ghost use Rattle.tsa_use.specs.Accesses.{arguments_of};
 
@@ -16,7 +15,7 @@ use tsa_way::Path;
 
 impl<'w, 'a> Body<'w, 'a> {
     /// The paths of arguments beside their parameters, as many as there are of both.
-    fn paths_for(
+    pub fn paths_for(
         self,
         params: &[ThingType],
         args: &[Expr<'_>],

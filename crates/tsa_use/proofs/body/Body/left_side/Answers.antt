@@ -1,13 +1,24 @@
-use Rattle.std.proofs.Common.{false}
+use Rattle.std.proofs.Common.{◌∙◌, ap}
+use Rattle.tsa_use.proofs.Failures.{left_fails}
 use Rattle.tsa_use.proofs.Operands.{joined_is, left_is}
 use Rattle.tsa_use.proofs.body.Body.left_side.Goals as goal
 
-pub returns-in-None : goal.returns-in-None
-returns-in-None c =
-    left_is _ _ _ false c.args.left.now c.args.op c.in_ok-seen.seen _ _ _ c.in-None.is c.in_ok-seen.ensures.seen c.new-cells.ensures c.in_ok-seen.ensures.cells
-    c.in_ok-put_write.ensures
+pub returns-in-None-clause-cells : goal.returns-in-None-clause-cells
+returns-in-None-clause-cells c =
+    left_is _ _ _ c.as_place.result.as_pointer c.args.left.now c.args.op c.in_ok-seen.seen _ _ _ c.in-None.is c.in_ok-seen.ensures.seen
+    (ap (λ u. u.accesses) c.new-uses.ensures) (c.tell.ensures.accesses ∙ c.in_ok-seen.ensures.cells) c.in_ok-put_write.ensures
 
-pub returns-in_ok-loaded-in-Some : goal.returns-in_ok-loaded-in-Some
-returns-in_ok-loaded-in-Some c =
-    joined_is _ _ _ false c.args.left.now c.args.op _ c.in_ok-seen.seen _ _ _ _ c.in-Some.is c.in_ok-seen.ensures.seen c.new-cells.ensures c.in_ok-seen.ensures.cells
-    c.in_ok-put_write.ensures c.in_ok-loaded-in-Some.ensures.cells
+pub returns-in-None-clause-failure : goal.returns-in-None-clause-failure
+returns-in-None-clause-failure c =
+    left_fails _ c.as_place.result.standing _ c.args.left.now c.in_ok-seen.seen _ _ _ _ (ap (λ p. p.standing) c.as_place.ensures) c.in_ok-seen.ensures.seen
+    c.guard_code.ensures (ap (λ u. u.failure) c.new-uses.ensures) c.in_ok-seen.ensures.failure c.tell.ensures.failure
+
+pub returns-in_ok-loaded-in-Some-clause-cells : goal.returns-in_ok-loaded-in-Some-clause-cells
+returns-in_ok-loaded-in-Some-clause-cells c =
+    joined_is _ _ _ c.as_place.result.as_pointer c.args.left.now c.args.op _ c.in_ok-seen.seen _ _ _ _ c.in-Some.is c.in_ok-seen.ensures.seen
+    (ap (λ u. u.accesses) c.new-uses.ensures) (c.tell.ensures.accesses ∙ c.in_ok-seen.ensures.cells) c.in_ok-put_write.ensures c.in_ok-loaded-in-Some.ensures.cells
+
+pub returns-in_ok-loaded-in-Some-clause-failure : goal.returns-in_ok-loaded-in-Some-clause-failure
+returns-in_ok-loaded-in-Some-clause-failure c =
+    left_fails _ c.as_place.result.standing _ c.args.left.now c.in_ok-seen.seen _ _ _ _ (ap (λ p. p.standing) c.as_place.ensures) c.in_ok-seen.ensures.seen
+    c.guard_code.ensures (ap (λ u. u.failure) c.new-uses.ensures) c.in_ok-seen.ensures.failure c.tell.ensures.failure

@@ -1,4 +1,4 @@
-use Rattle.std.proofs.Common.{◌≡◌, ◌++◌, ◌+◌, ◌-◌, ℕ, ◌≤◌, drop, length}
+use Rattle.std.proofs.Common.{◌≡◌, ◌++◌, ◌+◌, ◌-◌, drop, length}
 use Rattle.tsa_tree.specs.expressions.Shapes.{shapes}
 use Rattle.tsa_way.specs.LockPaths.{stable_in}
 use Rattle.tsa_core.specs.Uses.{argument_ways}

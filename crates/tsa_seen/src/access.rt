@@ -1,7 +1,6 @@
 //! Cells as they are read and written, in order of the text.
 ghost use Rattle.std.specs.Prelude.{◌≡◌, List, [], ◌∷◌, ◌++◌, reverse, OnOk};
-ghost use Rattle.tsa_use.specs.Accesses.{Access as SpecAccess};
-ghost use Rattle.tsa_use.specs.Seen.{own_access};
+ghost use Rattle.tsa_seen.specs.Seen.{own_access};
 
 use crate::thing::{Thing, is_loaded};
 use std::alloc::Global;
@@ -18,7 +17,7 @@ pub struct Access {
 }
 
 impl Model for Access {
-    ghost use Rattle.tsa_use.specs.Accesses.{Access};
+    ghost use Rattle.tsa_seen.specs.Accesses.{Access};
 
     ghost Value = { Access };
 
@@ -33,7 +32,7 @@ pub struct Accesses {
 
 impl Model for Accesses {
     ghost use Rattle.std.specs.Prelude.{List, reverse};
-    ghost use Rattle.tsa_use.specs.Accesses.{Access};
+    ghost use Rattle.tsa_seen.specs.Accesses.{Access};
 
     ghost Value = { List Access };
 

@@ -11,8 +11,8 @@ use Rattle.tsa_core.specs.Cells.{cells_read, inner_cells}
 use Rattle.tsa_core.specs.Meanings.{is_cell, is_place, meaning, null_pointer, of_field, of_type}
 use Rattle.tsa_core.specs.Terms.{Sense}
 use Rattle.tsa_core.specs.Uses.{access_guards, field_guards}
-use Rattle.tsa_use.specs.Accesses.{Access}
-use Rattle.tsa_use.specs.declared.thing.Thing.{Thing}
+use Rattle.tsa_seen.specs.Accesses.{Access}
+use Rattle.tsa_seen.specs.declared.thing.Thing.{Thing}
 
 -- the type of what an expression means, and whether that is a place
 abbrev pub thing_of : Sense → Thing

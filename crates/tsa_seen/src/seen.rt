@@ -2,7 +2,7 @@
 ghost use Rattle.std.specs.Prelude.{◌≡◌, ◌++◌, None, [], true, false, not, option_map, if◌then◌else◌, IfOk, OnOk};
 ghost use Rattle.tsa_tree.specs.declared.expr.UnaryOp.TheVariants as prefix;
 ghost use Rattle.tsa_core.specs.Meanings.{of_prefix};
-ghost use Rattle.tsa_use.specs.Seen.{a_value, loaded as spec_loaded, meant_as as spec_meant_as, own_access, thing_of, typed};
+ghost use Rattle.tsa_seen.specs.Seen.{a_value, loaded as spec_loaded, meant_as as spec_meant_as, own_access, thing_of, typed};
 
 use crate::access::{Access, Accesses};
 use crate::guards::copies;
@@ -22,7 +22,7 @@ pub struct Seen {
 }
 
 impl Model for Seen {
-    ghost use Rattle.tsa_use.specs.Seen.{Seen};
+    ghost use Rattle.tsa_seen.specs.Seen.{Seen};
 
     ghost Value = { Seen };
 

@@ -1,0 +1,5 @@
+pub mod Accesses
+pub mod Seen
+pub mod Locks
+pub mod Premises
+pub mod Standing

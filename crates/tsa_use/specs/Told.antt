@@ -1,0 +1,60 @@
+-- The first premise that fails in an expression, before another.
+use Rattle.std.specs.Prelude.{ℕ, Bool, true, false, not, ◌&&◌, ◌++◌, Option, Some, None, is_some, if◌then◌else◌}
+use Rattle.tsa_tree.specs.declared.expr.BinaryOp.{BinaryOp}
+use Rattle.tsa_tree.specs.declared.expr.BinaryOp.TheVariants as op
+use Rattle.tsa_tree.specs.declared.expr.UnaryOp.{UnaryOp}
+use Rattle.tsa_tree.specs.declared.expr.UnaryOp.TheVariants as prefix
+use Rattle.tsa_tree.specs.expressions.Syntax.{Expression, Arguments}
+use Rattle.tsa_way.specs.LockPaths.{stable_in}
+use Rattle.tsa_use.specs.declared.body.Body.{Body}
+use Rattle.tsa_seen.specs.declared.premise.Failure.{Failure}
+use Rattle.tsa_seen.specs.declared.premise.ProfileCode.{ProfileCode}
+use Rattle.tsa_seen.specs.declared.premise.ProfileCode.TheVariants.{PF1, PF2, PF5, PF8}
+use Rattle.tsa_seen.specs.declared.standing.Standing.{Standing}
+use Rattle.tsa_seen.specs.declared.standing.Standing.TheVariants.{Inside}
+use Rattle.tsa_seen.specs.Locks.{tries}
+use Rattle.tsa_use.specs.Expressions.{View, arguments, attributes_at, compares_a_try, constant, lacks_a_path, own, parts}
+use Rattle.tsa_seen.specs.Premises.{first, or_else}
+use Rattle.tsa_seen.specs.Standing.{beside, may_call, may_try}
+
+-- what an expression stands in, by what the walk over it has
+abbrev pub view_of : Body → View
+view_of b = record { layout = b.layout.now; attributes = b.attributes.now; here = b.sight.scope.now; stable = stable_in b.sight.stable.now; is_run = b.is_run }
+
+-- a code where something fails
+abbrev pub code_if : Bool → ProfileCode → Option ProfileCode
+code_if fails code = if fails then Some code else None
+
+-- what fails at a call: of one that may not stand there that alone; of another's function, that a lock has no path, and that it tries
+abbrev pub called_code : View → Standing → Arguments → ℕ → Option ProfileCode
+called_code v s args n = if lacks_a_path v args n then Some PF2 else code_if (tries (attributes_at v.attributes n) && not (may_try s)) PF5
+
+abbrev pub of_function : (ℕ → Option ProfileCode) → Option ℕ → Option ProfileCode
+of_function code None = None
+of_function code (Some n) = code n
+
+abbrev pub call_code : View → Standing → Arguments → Option ℕ → Option ProfileCode
+call_code v s args function = if not (may_call s) then Some PF1 else of_function (called_code v s args) function
+
+abbrev pub is_address : UnaryOp → Bool
+is_address prefix.Address = true
+is_address o = false
+
+abbrev pub is_equality : BinaryOp → Bool
+is_equality op.Equal = true
+is_equality op.Unequal = true
+is_equality o = false
+
+-- where a side of an operator stands beside the other, and what fails at an operator
+abbrev pub side : View → Standing → BinaryOp → (other : Expression) → Standing
+side v s o other = if is_equality o then beside s (is_some (constant v other)) else Inside
+
+abbrev pub sides_code : View → BinaryOp → (left right : Expression) → Option ProfileCode
+sides_code v o left right = if is_equality o then code_if (compares_a_try v left right) PF8 else None
+
+-- an expression whose value is wanted or not, and the arguments of a call, each before what was found behind it
+unfoldable pub failing : View → Standing → (is_value : Bool) → Expression → Option Failure → Option Failure
+failing v s is_value e later = or_else (first (own v s is_value e ++ parts v s e)) later
+
+unfoldable pub failing_arguments : View → Arguments → Option Failure → Option Failure
+failing_arguments v args later = or_else (first (arguments v args)) later
