@@ -1,0 +1,4 @@
+pub mod KnownItems
+pub mod KnownHeads
+pub mod TableLists
+pub mod BodyLists

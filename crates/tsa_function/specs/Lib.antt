@@ -1,0 +1,4 @@
+pub mod Members
+pub mod Functions
+pub mod Bodies
+pub mod Laws
