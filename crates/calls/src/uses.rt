@@ -16,7 +16,7 @@ use tsa_tree::kind::Kind;
 use tsa_tree::meaning::{Entry, Meaning};
 use tsa_tree::stmt::Action;
 use tsa_unit::parse;
-use tsa_use::{Access, Body, NamedLocks, Standing};
+use tsa_use::{Access, Body, NamedLocks, Standing, reads, writes};
 use tsa_way::{Path, PathStep, Root, Sight};
 
 // The local i changes, and so may what the global n holds: b[n] has no path, and neither has a guard of its members.
@@ -129,7 +129,7 @@ fn put_value(
     expr: &Expr<'_>,
 ) -> Result<(), Fail> {
     let mut found = Vec::new(*out.allocator());
-    body.reads(&mut found, Standing::Whole, expr)?;
+    reads(body, &mut found, Standing::Whole, expr)?;
     put_accesses(out, shown, &found)?;
     for path in &body.argument_paths(expr)? {
         put_way(out, shown, b"argument ", path)?;
@@ -175,7 +175,7 @@ fn put_action(
         Action::Assign { left, op, right } => {
             put(out, b"assign ")?;
             let mut found = Vec::new(*out.allocator());
-            body.writes(&mut found, *op, left)?;
+            writes(body, &mut found, *op, left)?;
             put_accesses(out, shown, &found)?;
             put_value(out, shown, body, right)
         }

@@ -18,7 +18,7 @@ use Rattle.tsa_path.specs.PathTables.{is_known}
 use Rattle.tsa_seen.specs.declared.premise.ProfileCode.TheVariants.{PF1, PF2, PF4, PF6, PF7, PF9}
 use Rattle.tsa_seen.specs.Premises.{Premise, premise}
 use Rattle.tsa_seen.specs.declared.standing.Standing.TheVariants.{Inside}
-use Rattle.tsa_use.specs.Expressions.{View, own, parts}
+use Rattle.tsa_node.specs.Expressions.{View, own, parts}
 use Rattle.tsa_seen.specs.Locks.{is_try}
 
 abbrev pub way : View → Expression → Option Way

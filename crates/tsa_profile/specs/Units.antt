@@ -18,7 +18,7 @@ use Rattle.tsa_seen.specs.declared.premise.Failure.{Failure}
 use Rattle.tsa_seen.specs.declared.premise.ProfileCode.TheVariants.{LM4, LM7}
 use Rattle.tsa_seen.specs.Premises.{Premise, premise, first}
 use Rattle.tsa_seen.specs.Locks.{tries}
-use Rattle.tsa_use.specs.Expressions.{View, attributes_at}
+use Rattle.tsa_node.specs.Expressions.{View, attributes_at}
 use Rattle.tsa_profile.specs.Declarations.{guard_premises, given_init, head_premises}
 use Rattle.tsa_profile.specs.Bodies.{Around, points_premises, is_try_variable}
 use Rattle.tsa_profile.specs.Ways.{function_paths}

@@ -16,7 +16,7 @@ use Rattle.tsa_path.specs.PathTables.{path_limit, with_path}
 use Rattle.tsa_path.specs.Substitution.{substituted}
 use Rattle.tsa_points.specs.CoreLaws.{known_of}
 use Rattle.tsa_points.specs.Points.{PlacedPoint}
-use Rattle.tsa_use.specs.Expressions.{attributes_at}
+use Rattle.tsa_node.specs.Expressions.{attributes_at}
 use Rattle.tsa_profile.specs.Bodies.{Around}
 
 abbrev pub present : {A : Type 0} → List (Option A) → List A

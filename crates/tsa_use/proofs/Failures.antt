@@ -14,7 +14,7 @@ use Rattle.tsa_tree.specs.declared.expr.Name.{Name}
 use Rattle.tsa_tree.specs.declared.expr.UnaryOp.{UnaryOp}
 use Rattle.tsa_tree.specs.declared.expr.UnaryOp.TheVariants as prefix
 use Rattle.tsa_tree.specs.expressions.Shapes.{name_shape, shape, shapes}
-use Rattle.tsa_tree.specs.expressions.Syntax.{Identifier, Expression, Arguments, number, null, named, call, unary, binary, field, index, none}
+use Rattle.tsa_tree.specs.expressions.Syntax.{Identifier, Expression, Arguments, number, null, named, call, unary, binary, field, index}
 use Rattle.tsa_tree.specs.types.Expressions.{function_of}
 use Rattle.tsa_tree.specs.types.Scopes.{known_in}
 use Rattle.tsa_core.specs.Cells.{own_cell}
@@ -27,11 +27,12 @@ use Rattle.tsa_seen.specs.declared.standing.Standing.{Standing}
 use Rattle.tsa_seen.specs.declared.standing.Standing.TheVariants.{Inside}
 use Rattle.tsa_use.specs.Accesses.{span_of}
 use Rattle.tsa_seen.specs.Locks.{is_empty, tries}
-use Rattle.tsa_use.specs.Expressions.{View, arguments, attributes_at, callee, compares_a_try, constant, expression, guards, lacks_a_guard, lacks_a_path, of_callee, own, parts}
+use Rattle.tsa_node.specs.Expressions.{View, arguments, attributes_at, callee, compares_a_try, constant, expression, guards, lacks_a_guard, lacks_a_path, of_callee, own, parts}
 use Rattle.tsa_seen.specs.Premises.{Premise, premise, or_else, failure_of, first, told}
 use Rattle.tsa_seen.specs.Seen.{Seen, seen_of}
 use Rattle.tsa_seen.specs.Standing.{beside, may_call, may_try, under_not}
-use Rattle.tsa_use.specs.Told.{call_code, code_if, failing, failing_arguments, side, sides_code}
+use Rattle.tsa_node.specs.Told.{call_code, code_if, side, sides_code}
+use Rattle.tsa_use.specs.Failures.{failing, failing_arguments}
 use Rattle.tsa_use.proofs.Operands.{span_is}
 
 or_else_or_else : (a b c : Option Failure) → or_else (or_else a b) c ≡ or_else a (or_else b c)

@@ -1,7 +1,6 @@
 pub mod Walk
 pub mod Operands
 pub mod Spans
-pub mod Paths
 pub mod NoneFails
 pub mod Failures
 pub mod Places

@@ -18,10 +18,11 @@ use Rattle.tsa_seen.specs.declared.premise.ProfileCode.{ProfileCode}
 use Rattle.tsa_seen.specs.declared.premise.ProfileCode.TheVariants.{PF1, PF3, PF8}
 use Rattle.tsa_seen.specs.declared.standing.Standing.{Standing}
 use Rattle.tsa_seen.specs.declared.standing.Standing.TheVariants.{Inside}
-use Rattle.tsa_use.specs.Expressions.{View, compares_a_try, guards, own, parts}
+use Rattle.tsa_node.specs.Expressions.{View, compares_a_try, guards, own, parts}
 use Rattle.tsa_seen.specs.Locks.{is_empty}
-use Rattle.tsa_seen.specs.Premises.{Premise, premise, or_else, failure_of, first, told}
-use Rattle.tsa_use.specs.Told.{code_if, failing, is_address, sides_code}
+use Rattle.tsa_seen.specs.Premises.{premise, or_else, first, told}
+use Rattle.tsa_node.specs.Told.{code_if, sides_code}
+use Rattle.tsa_use.specs.Failures.{failing, is_address}
 
 nothing_else : (a : Option Failure) → or_else a None ≡ a
 nothing_else None = refl

@@ -1,13 +1,12 @@
 -- The accesses of an expression, each with where the expression stands that is read or written.
-use Rattle.std.specs.Prelude.{ℕ, Bool, false, true, List, [], ◌++◌, map, Option, Some, None}
+use Rattle.std.specs.Prelude.{ℕ, Bool, false, true, List, ◌++◌, map, Option}
 use Rattle.tsa_base.specs.declared.token.Span.{Span}
 use Rattle.tsa_tree.specs.declared.expr.BinaryOp.{BinaryOp}
 use Rattle.tsa_tree.specs.expressions.Syntax.{Expression, number, null, named, call, unary, binary, field, index}
 use Rattle.tsa_tree.specs.types.Scopes.{Scope}
-use Rattle.tsa_way.specs.Ways.{Way}
 use Rattle.tsa_layout.specs.Calls.{Layout}
 use Rattle.tsa_core.specs.Cells.{cells_read, inner_cells, own_cell, read_before}
-use Rattle.tsa_core.specs.Uses.{Access as PlainAccess, access_guards, call_ways}
+use Rattle.tsa_core.specs.Uses.{Access as PlainAccess, access_guards}
 use Rattle.tsa_seen.specs.Accesses.{Access}
 
 -- an access without where it stands
@@ -44,11 +43,3 @@ abbrev pub written : Layout → (ℕ → Bool) → Scope → Option BinaryOp →
 written l stable here o e =
     accesses l stable here false (read_before here o e)
     ++ (accesses l stable here true (own_cell here e) ++ accesses l stable here false (inner_cells here e))
-
--- where the arguments of the call of an expression lead; none where it has no call
-abbrev pub or_none : Option (List (Option Way)) → List (Option Way)
-or_none None = []
-or_none (Some ways) = ways
-
-abbrev pub arguments_of : (ℕ → Bool) → Scope → Expression → List (Option Way)
-arguments_of stable here e = or_none (call_ways stable here e)

@@ -5,7 +5,8 @@ use Rattle.tsa_tree.specs.expressions.Syntax.{Expression}
 use Rattle.tsa_tree.specs.types.Scopes.{Scope}
 use Rattle.tsa_layout.specs.Calls.{Layout}
 use Rattle.tsa_core.specs.Uses as core
-use Rattle.tsa_use.specs.Accesses.{arguments_of, reads, without_span, written}
+use Rattle.tsa_node.specs.Arguments.{arguments_of}
+use Rattle.tsa_use.specs.Accesses.{reads, without_span, written}
 
 abbrev pub ReadsAreThoseOfTheCore : Type 0
 ReadsAreThoseOfTheCore = (l : Layout) (stable : ℕ → Bool) (here : Scope) (e : Expression) → map without_span (reads l stable here e) ≡ core.reads l stable here e

@@ -1,4 +1,3 @@
 pub mod Accesses
+pub mod Failures
 pub mod Laws
-pub mod Expressions
-pub mod Told

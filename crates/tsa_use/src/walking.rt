@@ -7,15 +7,15 @@ ghost use Rattle.tsa_tree.specs.expressions.Shapes.{shape, shapes};
 ghost use Rattle.tsa_tree.specs.expressions.Syntax.{unary};
 ghost use Rattle.tsa_use.specs.Accesses.{before, reads as spec_reads, written};
 ghost use Rattle.tsa_seen.specs.declared.standing.Standing.TheVariants.{Inside};
-ghost use Rattle.tsa_use.specs.Expressions.{expression};
+ghost use Rattle.tsa_node.specs.Expressions.{expression};
 ghost use Rattle.tsa_seen.specs.Premises.{first};
 ghost use Rattle.tsa_seen.specs.Seen.{behind, cells_behind, loaded, seen_of};
-ghost use Rattle.tsa_use.specs.Told.{failing, failing_arguments, view_of};
+ghost use Rattle.tsa_use.specs.Failures.{failing, failing_arguments};
+ghost use Rattle.tsa_node.specs.Told.{view_of};
 ghost use Rattle.tsa_way.specs.LockPaths.{stable_in};
 
-use crate::asked::{code_if, operator_at};
-use crate::body::Body;
 use tsa_base::{NoMemory, Span};
+use tsa_node::{Body, code_if, operator_at};
 use tsa_operand::value;
 use tsa_resolve::number_type;
 use tsa_seen::{
@@ -77,205 +77,213 @@ fn prefix_at(op: UnaryOp, span: Span, stand: Stand) -> Prefix
     Prefix { op, span, stand }
 }
 
-impl<'w, 'a> Body<'w, 'a> {
-    /// What an expression is, where it leads as a place or as a pointer, and the guards of its access. The cells that are read inside it come before
-    /// those that were found, and what fails in it before what failed.
-    #[cycle(walking)]
-    #[tactic(auto, using(crate::proofs::Walk::steps, crate::proofs::Failures::fails))]
-    pub(crate) fn walk(
-        self,
-        uses: &mut Uses,
-        stand: Stand,
-        expr: &Expr<'_>,
-    ) -> Result<Seen, NoMemory>
-        ensures seen { IfOk result (λ seen. seen ≡ seen_of self.entry.layout.now (stable_in self.entry.sight.stable.now) self.entry.sight.scope.now stand.as_pointer (shape expr.now)) }
-        ensures cells { OnOk result (uses.new.accesses ≡ before self.entry.layout.now (stable_in self.entry.sight.stable.now) self.entry.sight.scope.now (inner_cells self.entry.sight.scope.now (shape expr.now)) uses.old.accesses) }
-        ensures failure { OnOk result (uses.new.failure ≡ failing (view_of self.entry) stand.standing false (shape expr.now) uses.old.failure) }
-    {
-        match &expr.kind {
-            ExprKind::Number { value, unsigned } => {
-                Ok(self.plain(value_thing(number_type(*value, *unsigned))))
-            }
-            ExprKind::Null => Ok(self.plain(value_thing(value(Kind::Null)))),
-            ExprKind::Named(name) => self.name(name.text)?.meant_as(stand.as_pointer),
-            ExprKind::Call { callee, args } => {
-                self.arguments(uses, args)?;
-                let function = self.function(callee.text);
-                let code = self.call_code(stand.standing, function, args)?;
-                uses.tell(code, expr.span);
-                Ok(self.plain(called_thing(self.sight.scope.known(callee.text))))
-            }
-            ExprKind::Unary { op, inner } => {
-                self.with_prefix(uses, prefix_at(*op, expr.span, stand), inner)
-            }
-            ExprKind::Binary { op, left, right } => {
-                let sides = self.sides_of(operator_at(*op, stand.standing), left, right)?;
-                let right = self.value_type(uses, sides.right, right)?;
-                let left = self.value_type(uses, sides.left, left)?;
-                uses.tell(sides.code, expr.span);
-                Ok(self.plain(binary_thing(*op, left, right)))
-            }
-            ExprKind::Field { base, name, arrow } => {
-                let base = self.base(uses, *arrow, base)?;
-                self.field(base, name.text, *arrow)?
-                    .meant_as(stand.as_pointer)
-            }
-            ExprKind::Index { base, index } => {
-                self.value_type(uses, Standing::Inside, index)?;
-                let base = self.walk(uses, as_place(), base)?;
-                self.element(base, index)?.meant_as(stand.as_pointer)
-            }
+/// What an expression is, where it leads as a place or as a pointer, and the guards of its access. The cells that are read inside it come before
+/// those that were found, and what fails in it before what failed.
+#[cycle(walking)]
+#[tactic(auto, using(crate::proofs::Walk::steps, crate::proofs::Failures::fails))]
+pub(crate) fn walk(
+    body: Body<'_, '_>,
+    uses: &mut Uses,
+    stand: Stand,
+    expr: &Expr<'_>,
+) -> Result<Seen, NoMemory>
+    ensures seen { IfOk result (λ seen. seen ≡ seen_of body.entry.layout.now (stable_in body.entry.sight.stable.now) body.entry.sight.scope.now stand.as_pointer (shape expr.now)) }
+    ensures cells { OnOk result (uses.new.accesses ≡ before body.entry.layout.now (stable_in body.entry.sight.stable.now) body.entry.sight.scope.now (inner_cells body.entry.sight.scope.now (shape expr.now)) uses.old.accesses) }
+    ensures failure { OnOk result (uses.new.failure ≡ failing (view_of body.entry) stand.standing false (shape expr.now) uses.old.failure) }
+{
+    match &expr.kind {
+        ExprKind::Number { value, unsigned } => {
+            Ok(body.plain(value_thing(number_type(*value, *unsigned))))
+        }
+        ExprKind::Null => Ok(body.plain(value_thing(value(Kind::Null)))),
+        ExprKind::Named(name) => body.name(name.text)?.meant_as(stand.as_pointer),
+        ExprKind::Call { callee, args } => {
+            arguments(body, uses, args)?;
+            let function = body.function(callee.text);
+            let code = body.call_code(stand.standing, function, args)?;
+            uses.tell(code, expr.span);
+            Ok(body.plain(called_thing(body.sight.scope.known(callee.text))))
+        }
+        ExprKind::Unary { op, inner } => {
+            with_prefix(body, uses, prefix_at(*op, expr.span, stand), inner)
+        }
+        ExprKind::Binary { op, left, right } => {
+            let sides = body.sides_of(operator_at(*op, stand.standing), left, right)?;
+            let right = value_type(body, uses, sides.right, right)?;
+            let left = value_type(body, uses, sides.left, left)?;
+            uses.tell(sides.code, expr.span);
+            Ok(body.plain(binary_thing(*op, left, right)))
+        }
+        ExprKind::Field { base, name, arrow } => {
+            let base = owner(body, uses, *arrow, base)?;
+            body.field(base, name.text, *arrow)?
+                .meant_as(stand.as_pointer)
+        }
+        ExprKind::Index { base, index } => {
+            value_type(body, uses, Standing::Inside, index)?;
+            let base = walk(body, uses, as_place(), base)?;
+            body.element(base, index)?.meant_as(stand.as_pointer)
         }
     }
+}
 
-    /// The same of an expression with a prefix operator.
-    #[cycle(walking)]
-    #[tactic(auto, using(crate::proofs::Walk::steps, crate::proofs::Failures::fails))]
-    fn with_prefix(
-        self,
-        uses: &mut Uses,
-        prefix: Prefix,
-        inner: &Expr<'_>,
-    ) -> Result<Seen, NoMemory>
-        ensures seen { IfOk result (λ seen. seen ≡ seen_of self.entry.layout.now (stable_in self.entry.sight.stable.now) self.entry.sight.scope.now prefix.stand.as_pointer (unary prefix.op (shape inner.now) prefix.span)) }
-        ensures cells { OnOk result (uses.new.accesses ≡ before self.entry.layout.now (stable_in self.entry.sight.stable.now) self.entry.sight.scope.now (inner_cells self.entry.sight.scope.now (unary prefix.op (shape inner.now) prefix.span)) uses.old.accesses) }
-        ensures failure { OnOk result (uses.new.failure ≡ failing (view_of self.entry) prefix.stand.standing false (unary prefix.op (shape inner.now) prefix.span) uses.old.failure) }
-    {
-        let alloc = self.sight.scope.allocator();
-        match prefix.op {
-            UnaryOp::Address => {
-                let inner = self.walk(uses, as_place(), inner)?;
-                let code = code_if(are_some(&inner.guards), ProfileCode::PF3);
-                uses.tell(code, prefix.span);
-                Ok(inner.address(alloc, prefix.stand.as_pointer))
-            }
-            UnaryOp::Follow => {
-                let inner = self.operand(uses, as_pointer(), inner)?;
-                Ok(inner.followed(alloc, prefix.stand.as_pointer))
-            }
-            UnaryOp::Not => {
-                let standing = prefix.stand.standing.under_not();
-                let inner = self.value_type(uses, standing, inner)?;
-                Ok(self.plain(prefix_thing(UnaryOp::Not, inner)))
-            }
-            UnaryOp::Minus | UnaryOp::Flip => {
-                let inner = self.value_type(uses, Standing::Inside, inner)?;
-                Ok(self.plain(prefix_thing(prefix.op, inner)))
-            }
+/// The same of an expression with a prefix operator.
+#[cycle(walking)]
+#[tactic(auto, using(crate::proofs::Walk::steps, crate::proofs::Failures::fails))]
+fn with_prefix(
+    body: Body<'_, '_>,
+    uses: &mut Uses,
+    prefix: Prefix,
+    inner: &Expr<'_>,
+) -> Result<Seen, NoMemory>
+    ensures seen { IfOk result (λ seen. seen ≡ seen_of body.entry.layout.now (stable_in body.entry.sight.stable.now) body.entry.sight.scope.now prefix.stand.as_pointer (unary prefix.op (shape inner.now) prefix.span)) }
+    ensures cells { OnOk result (uses.new.accesses ≡ before body.entry.layout.now (stable_in body.entry.sight.stable.now) body.entry.sight.scope.now (inner_cells body.entry.sight.scope.now (unary prefix.op (shape inner.now) prefix.span)) uses.old.accesses) }
+    ensures failure { OnOk result (uses.new.failure ≡ failing (view_of body.entry) prefix.stand.standing false (unary prefix.op (shape inner.now) prefix.span) uses.old.failure) }
+{
+    let alloc = body.sight.scope.allocator();
+    match prefix.op {
+        UnaryOp::Address => {
+            let inner = walk(body, uses, as_place(), inner)?;
+            let code = code_if(are_some(&inner.guards), ProfileCode::PF3);
+            uses.tell(code, prefix.span);
+            Ok(inner.address(alloc, prefix.stand.as_pointer))
+        }
+        UnaryOp::Follow => {
+            let inner = operand(body, uses, as_pointer(), inner)?;
+            Ok(inner.followed(alloc, prefix.stand.as_pointer))
+        }
+        UnaryOp::Not => {
+            let standing = prefix.stand.standing.under_not();
+            let inner = value_type(body, uses, standing, inner)?;
+            Ok(body.plain(prefix_thing(UnaryOp::Not, inner)))
+        }
+        UnaryOp::Minus | UnaryOp::Flip => {
+            let inner = value_type(body, uses, Standing::Inside, inner)?;
+            Ok(body.plain(prefix_thing(prefix.op, inner)))
         }
     }
+}
 
-    /// The same of an expression whose value is used: a cell that it stands for is read.
-    #[cycle(walking)]
-    #[tactic(auto, using(crate::proofs::Operands::own_before, crate::proofs::Failures::value_fails))]
-    fn operand(self, uses: &mut Uses, stand: Stand, expr: &Expr<'_>) -> Result<Seen, NoMemory>
-        ensures seen { IfOk result (λ seen. seen ≡ loaded (seen_of self.entry.layout.now (stable_in self.entry.sight.stable.now) self.entry.sight.scope.now stand.as_pointer (shape expr.now))) }
-        ensures cells { OnOk result (uses.new.accesses ≡ before self.entry.layout.now (stable_in self.entry.sight.stable.now) self.entry.sight.scope.now (cells_read self.entry.sight.scope.now (shape expr.now)) uses.old.accesses) }
-        ensures failure { OnOk result (uses.new.failure ≡ failing (view_of self.entry) stand.standing true (shape expr.now) uses.old.failure) }
-    {
-        let seen = self.walk(uses, stand, expr)?;
-        uses.tell(self.guard_code(&seen), expr.span);
-        seen.loaded(self.sight.scope.allocator(), &mut uses.accesses, expr.span)
+/// The same of an expression whose value is used: a cell that it stands for is read.
+#[cycle(walking)]
+#[tactic(auto, using(crate::proofs::Operands::own_before, crate::proofs::Failures::value_fails))]
+fn operand(
+    body: Body<'_, '_>,
+    uses: &mut Uses,
+    stand: Stand,
+    expr: &Expr<'_>,
+) -> Result<Seen, NoMemory>
+    ensures seen { IfOk result (λ seen. seen ≡ loaded (seen_of body.entry.layout.now (stable_in body.entry.sight.stable.now) body.entry.sight.scope.now stand.as_pointer (shape expr.now))) }
+    ensures cells { OnOk result (uses.new.accesses ≡ before body.entry.layout.now (stable_in body.entry.sight.stable.now) body.entry.sight.scope.now (cells_read body.entry.sight.scope.now (shape expr.now)) uses.old.accesses) }
+    ensures failure { OnOk result (uses.new.failure ≡ failing (view_of body.entry) stand.standing true (shape expr.now) uses.old.failure) }
+{
+    let seen = walk(body, uses, stand, expr)?;
+    uses.tell(body.guard_code(&seen), expr.span);
+    seen.loaded(body.sight.scope.allocator(), &mut uses.accesses, expr.span)
+}
+
+/// The same of what stands before a member's name: a pointer before an arrow is used, and what stands before a point is meant as a place.
+#[cycle(walking)]
+fn owner(
+    body: Body<'_, '_>,
+    uses: &mut Uses,
+    arrow: bool,
+    expr: &Expr<'_>,
+) -> Result<Seen, NoMemory>
+    ensures seen { IfOk result (λ seen. seen ≡ behind arrow (seen_of body.entry.layout.now (stable_in body.entry.sight.stable.now) body.entry.sight.scope.now arrow (shape expr.now))) }
+    ensures cells { OnOk result (uses.new.accesses ≡ before body.entry.layout.now (stable_in body.entry.sight.stable.now) body.entry.sight.scope.now (cells_behind arrow body.entry.sight.scope.now (shape expr.now)) uses.old.accesses) }
+    ensures failure { OnOk result (uses.new.failure ≡ failing (view_of body.entry) Inside arrow (shape expr.now) uses.old.failure) }
+{
+    if arrow {
+        operand(body, uses, as_pointer(), expr)
+    } else {
+        walk(body, uses, as_place(), expr)
     }
+}
 
-    /// The same of what stands before a member's name: a pointer before an arrow is used, and what stands before a point is meant as a place.
-    #[cycle(walking)]
-    fn base(self, uses: &mut Uses, arrow: bool, expr: &Expr<'_>) -> Result<Seen, NoMemory>
-        ensures seen { IfOk result (λ seen. seen ≡ behind arrow (seen_of self.entry.layout.now (stable_in self.entry.sight.stable.now) self.entry.sight.scope.now arrow (shape expr.now))) }
-        ensures cells { OnOk result (uses.new.accesses ≡ before self.entry.layout.now (stable_in self.entry.sight.stable.now) self.entry.sight.scope.now (cells_behind arrow self.entry.sight.scope.now (shape expr.now)) uses.old.accesses) }
-        ensures failure { OnOk result (uses.new.failure ≡ failing (view_of self.entry) Inside arrow (shape expr.now) uses.old.failure) }
-    {
-        if arrow {
-            self.operand(uses, as_pointer(), expr)
-        } else {
-            self.walk(uses, as_place(), expr)
+/// The type of an expression whose value is used.
+#[cycle(walking)]
+#[tactic(auto, using(crate::proofs::Walk::seen_type))]
+fn value_type(
+    body: Body<'_, '_>,
+    uses: &mut Uses,
+    standing: Standing,
+    expr: &Expr<'_>,
+) -> Result<ExpressionType, NoMemory>
+    ensures value { IfOk result (λ t. t ≡ (meaning body.entry.sight.scope.now (shape expr.now)).type) }
+    ensures cells { OnOk result (uses.new.accesses ≡ before body.entry.layout.now (stable_in body.entry.sight.stable.now) body.entry.sight.scope.now (cells_read body.entry.sight.scope.now (shape expr.now)) uses.old.accesses) }
+    ensures failure { OnOk result (uses.new.failure ≡ failing (view_of body.entry) standing true (shape expr.now) uses.old.failure) }
+{
+    Ok(
+        operand(body, uses, as_value(standing), expr)?
+            .thing
+            .expression,
+    )
+}
+
+/// The arguments of a call, from the last to the first.
+#[cycle(walking)]
+fn arguments(body: Body<'_, '_>, uses: &mut Uses, args: &[Expr<'_>]) -> Result<(), NoMemory>
+    ensures cells { OnOk result (uses.new.accesses ≡ before body.entry.layout.now (stable_in body.entry.sight.stable.now) body.entry.sight.scope.now (argument_cells body.entry.sight.scope.now (shapes args.now)) uses.old.accesses) }
+    ensures failure { OnOk result (uses.new.failure ≡ failing_arguments (view_of body.entry) (shapes args.now) uses.old.failure) }
+{
+    let mut number = args.len();
+    'each: while number > 0 {
+        number -= 1;
+        value_type(body, uses, Standing::Inside, &args[number])?;
+    }
+    Ok(())
+}
+
+/// Adds the cells that are read for the value of an expression, in order of the text, and tells the first premise that fails in it.
+#[tactic(auto, using(crate::proofs::Operands::before_none, crate::proofs::Failures::none_behind))]
+pub fn reads(
+    body: Body<'_, '_>,
+    found: &mut Vec<Access>,
+    standing: Standing,
+    expr: &Expr<'_>,
+) -> Result<Option<Failure>, NoMemory>
+    ensures cells { OnOk result (found.new.items ≡ found.old.items ++ spec_reads body.entry.layout.now (stable_in body.entry.sight.stable.now) body.entry.sight.scope.now (shape expr.now)) }
+    ensures failure { IfOk result (λ failure. failure ≡ first (expression (view_of body.entry) standing (shape expr.now))) }
+{
+    let mut uses = Uses::new(body.sight.scope.allocator());
+    value_type(body, &mut uses, standing, expr)?;
+    let failure = uses.failure;
+    uses.accesses.move_behind(found)?;
+    Ok(failure)
+}
+
+/// The accesses of a left side, and what fails there.
+fn left_side(body: Body<'_, '_>, op: Option<BinaryOp>, left: &Expr<'_>) -> Result<Uses, NoMemory>
+    ensures cells { IfOk result (λ uses. uses.accesses ≡ written body.entry.layout.now (stable_in body.entry.sight.stable.now) body.entry.sight.scope.now op (shape left.now)) }
+    ensures failure { IfOk result (λ uses. uses.failure ≡ first (expression (view_of body.entry) Inside (shape left.now))) }
+{
+    let mut uses = Uses::new(body.sight.scope.allocator());
+    let seen = walk(body, &mut uses, as_place(), left)?;
+    uses.tell(body.guard_code(&seen), left.span);
+    seen.put_write(body.sight.scope.allocator(), &mut uses.accesses, left.span)?;
+    match op {
+        Some(_) => {
+            seen.loaded(body.sight.scope.allocator(), &mut uses.accesses, left.span)?;
+            Ok(uses)
         }
+        None => Ok(uses),
     }
+}
 
-    /// The type of an expression whose value is used.
-    #[cycle(walking)]
-    #[tactic(auto, using(crate::proofs::Walk::seen_type))]
-    fn value_type(
-        self,
-        uses: &mut Uses,
-        standing: Standing,
-        expr: &Expr<'_>,
-    ) -> Result<ExpressionType, NoMemory>
-        ensures value { IfOk result (λ t. t ≡ (meaning self.entry.sight.scope.now (shape expr.now)).type) }
-        ensures cells { OnOk result (uses.new.accesses ≡ before self.entry.layout.now (stable_in self.entry.sight.stable.now) self.entry.sight.scope.now (cells_read self.entry.sight.scope.now (shape expr.now)) uses.old.accesses) }
-        ensures failure { OnOk result (uses.new.failure ≡ failing (view_of self.entry) standing true (shape expr.now) uses.old.failure) }
-    {
-        Ok(
-            self.operand(uses, as_value(standing), expr)?
-                .thing
-                .expression,
-        )
-    }
-
-    /// The arguments of a call, from the last to the first.
-    #[cycle(walking)]
-    fn arguments(self, uses: &mut Uses, args: &[Expr<'_>]) -> Result<(), NoMemory>
-        ensures cells { OnOk result (uses.new.accesses ≡ before self.entry.layout.now (stable_in self.entry.sight.stable.now) self.entry.sight.scope.now (argument_cells self.entry.sight.scope.now (shapes args.now)) uses.old.accesses) }
-        ensures failure { OnOk result (uses.new.failure ≡ failing_arguments (view_of self.entry) (shapes args.now) uses.old.failure) }
-    {
-        let mut number = args.len();
-        'each: while number > 0 {
-            number -= 1;
-            self.value_type(uses, Standing::Inside, &args[number])?;
-        }
-        Ok(())
-    }
-
-    /// Adds the cells that are read for the value of an expression, in order of the text, and tells the first premise that fails in it.
-    #[tactic(auto, using(crate::proofs::Operands::before_none, crate::proofs::Failures::none_behind))]
-    pub fn reads(
-        self,
-        found: &mut Vec<Access>,
-        standing: Standing,
-        expr: &Expr<'_>,
-    ) -> Result<Option<Failure>, NoMemory>
-        ensures cells { OnOk result (found.new.items ≡ found.old.items ++ spec_reads self.entry.layout.now (stable_in self.entry.sight.stable.now) self.entry.sight.scope.now (shape expr.now)) }
-        ensures failure { IfOk result (λ failure. failure ≡ first (expression (view_of self.entry) standing (shape expr.now))) }
-    {
-        let mut uses = Uses::new(self.sight.scope.allocator());
-        self.value_type(&mut uses, standing, expr)?;
-        let failure = uses.failure;
-        uses.accesses.move_behind(found)?;
-        Ok(failure)
-    }
-
-    /// The accesses of a left side, and what fails there.
-    fn left_side(self, op: Option<BinaryOp>, left: &Expr<'_>) -> Result<Uses, NoMemory>
-        ensures cells { IfOk result (λ uses. uses.accesses ≡ written self.entry.layout.now (stable_in self.entry.sight.stable.now) self.entry.sight.scope.now op (shape left.now)) }
-        ensures failure { IfOk result (λ uses. uses.failure ≡ first (expression (view_of self.entry) Inside (shape left.now))) }
-    {
-        let mut uses = Uses::new(self.sight.scope.allocator());
-        let seen = self.walk(&mut uses, as_place(), left)?;
-        uses.tell(self.guard_code(&seen), left.span);
-        seen.put_write(self.sight.scope.allocator(), &mut uses.accesses, left.span)?;
-        match op {
-            Some(_) => {
-                seen.loaded(self.sight.scope.allocator(), &mut uses.accesses, left.span)?;
-                Ok(uses)
-            }
-            None => Ok(uses),
-        }
-    }
-
-    /// Adds the cells that an assignment reads and writes for its left side: the cell that it is, which is read before where an operator joins the
-    /// old value, and those that are read on the way to it. Tells the first premise that fails there.
-    pub fn writes(
-        self,
-        found: &mut Vec<Access>,
-        op: Option<BinaryOp>,
-        left: &Expr<'_>,
-    ) -> Result<Option<Failure>, NoMemory>
-        ensures cells { OnOk result (found.new.items ≡ found.old.items ++ written self.entry.layout.now (stable_in self.entry.sight.stable.now) self.entry.sight.scope.now op (shape left.now)) }
-        ensures failure { IfOk result (λ failure. failure ≡ first (expression (view_of self.entry) Inside (shape left.now))) }
-    {
-        let uses = self.left_side(op, left)?;
-        let failure = uses.failure;
-        uses.accesses.move_behind(found)?;
-        Ok(failure)
-    }
+/// Adds the cells that an assignment reads and writes for its left side: the cell that it is, which is read before where an operator joins the
+/// old value, and those that are read on the way to it. Tells the first premise that fails there.
+pub fn writes(
+    body: Body<'_, '_>,
+    found: &mut Vec<Access>,
+    op: Option<BinaryOp>,
+    left: &Expr<'_>,
+) -> Result<Option<Failure>, NoMemory>
+    ensures cells { OnOk result (found.new.items ≡ found.old.items ++ written body.entry.layout.now (stable_in body.entry.sight.stable.now) body.entry.sight.scope.now op (shape left.now)) }
+    ensures failure { IfOk result (λ failure. failure ≡ first (expression (view_of body.entry) Inside (shape left.now))) }
+{
+    let uses = left_side(body, op, left)?;
+    let failure = uses.failure;
+    uses.accesses.move_behind(found)?;
+    Ok(failure)
 }

@@ -7,9 +7,9 @@ ghost use Rattle.tsa_tree.specs.types.Expressions.{function_of as spec_function_
 ghost use Rattle.tsa_tree.specs.types.Scopes.{known_in};
 ghost use Rattle.tsa_seen.specs.declared.premise.ProfileCode.TheVariants.{PF2, PF8};
 ghost use Rattle.tsa_seen.specs.Locks.{tries};
-ghost use Rattle.tsa_use.specs.Expressions.{attributes_at, callee as spec_callee, compares_a_try, constant as spec_constant, is_other as spec_is_other, is_truth as spec_is_truth, is_try_call as spec_is_try_call, lacks_a_path as spec_lacks_a_path};
+ghost use Rattle.tsa_node.specs.Expressions.{attributes_at, callee as spec_callee, compares_a_try, constant as spec_constant, is_other as spec_is_other, is_truth as spec_is_truth, is_try_call as spec_is_try_call, lacks_a_path as spec_lacks_a_path};
 ghost use Rattle.tsa_seen.specs.Standing.{beside};
-ghost use Rattle.tsa_use.specs.Told.{call_code as spec_call_code, called_code as spec_called_code, code_if as spec_code_if, is_equality as spec_is_equality, side, sides_code, view_of};
+ghost use Rattle.tsa_node.specs.Told.{call_code as spec_call_code, called_code as spec_called_code, code_if as spec_code_if, is_equality as spec_is_equality, side, sides_code, view_of};
 
 use crate::body::Body;
 use tsa_base::NoMemory;
@@ -48,7 +48,7 @@ pub fn code_if(fails: bool, code: ProfileCode) -> Option<ProfileCode>
 }
 
 /// Whether a number is 0 or 1.
-fn is_truth(number: Number) -> bool
+pub fn is_truth(number: Number) -> bool
     ensures { result ≡ spec_is_truth number }
 {
     match number {
@@ -157,7 +157,7 @@ impl<'w, 'a> Body<'w, 'a> {
     }
 
     /// Whether an expression is the call of a function that tries.
-    fn is_try_call(self, expr: &Expr<'_>) -> bool
+    pub fn is_try_call(self, expr: &Expr<'_>) -> bool
         ensures { result ≡ spec_is_try_call (view_of self.entry) (shape expr.now) }
     {
         match self.callee(expr) {

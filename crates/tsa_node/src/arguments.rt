@@ -3,7 +3,7 @@ ghost use Rattle.std.specs.Prelude.{◌≡◌, option_map, IfOk};
 ghost use Rattle.tsa_core.specs.Uses.{argument_ways, call_ways, called_ways};
 ghost use Rattle.tsa_tree.specs.expressions.Shapes.{shape, shapes};
 ghost use Rattle.tsa_way.specs.LockPaths.{stable_in};
-ghost use Rattle.tsa_use.specs.Accesses.{arguments_of};
+ghost use Rattle.tsa_node.specs.Arguments.{arguments_of};
 
 use crate::body::Body;
 use tsa_base::NoMemory;

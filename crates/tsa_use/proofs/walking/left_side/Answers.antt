@@ -1,7 +1,7 @@
 use Rattle.std.proofs.Common.{◌∙◌, ap}
 use Rattle.tsa_use.proofs.Failures.{left_fails}
 use Rattle.tsa_use.proofs.Operands.{joined_is, left_is}
-use Rattle.tsa_use.proofs.body.Body.left_side.Goals as goal
+use Rattle.tsa_use.proofs.walking.left_side.Goals as goal
 
 pub returns-in-None-clause-cells : goal.returns-in-None-clause-cells
 returns-in-None-clause-cells c =

@@ -1,6 +1,6 @@
 use Rattle.tsa_way.specs.LockPaths.{stable_in}
-use Rattle.tsa_use.proofs.Paths.{call_inside}
-use Rattle.tsa_use.proofs.body.Body.+call_paths.Goals as goal
+use Rattle.tsa_node.proofs.Paths.{call_inside}
+use Rattle.tsa_node.proofs.body.Body.+call_paths.Goals as goal
 
 pub returns-in-Call : goal.returns-in-Call
 returns-in-Call t c =

@@ -3,8 +3,9 @@ use Rattle.tsa_tree.specs.expressions.Shapes.{shapes}
 use Rattle.tsa_way.specs.LockPaths.{stable_in}
 use Rattle.tsa_core.specs.Cells.{argument_cells}
 use Rattle.tsa_use.specs.Accesses.{before}
-use Rattle.tsa_use.specs.Told.{failing_arguments, view_of}
-use Rattle.tsa_use.proofs.body.Body.+walking.Given as goal
+use Rattle.tsa_use.specs.Failures.{failing_arguments}
+use Rattle.tsa_node.specs.Told.{view_of}
+use Rattle.tsa_use.proofs.walking.+walking.Given as goal
 
 abbrev pub decreases-arguments-each : goal.decreases-arguments-each
 decreases-arguments-each l = l.number
@@ -13,6 +14,6 @@ decreases-arguments-each l = l.number
 abbrev pub invariant-arguments-each : goal.invariant-arguments-each
 invariant-arguments-each l = record {
   within : l.number ≤ length l.args;
-  found : l.uses.accesses ≡ before l.self.layout.now (stable_in l.self.sight.stable.now) l.self.sight.scope.now (argument_cells l.self.sight.scope.now (shapes (drop l.number l.args))) l.fn.uses.accesses;
-  fails : l.uses.failure ≡ failing_arguments (view_of l.self) (shapes (drop l.number l.args)) l.fn.uses.failure;
+  found : l.uses.accesses ≡ before l.body.layout.now (stable_in l.body.sight.stable.now) l.body.sight.scope.now (argument_cells l.body.sight.scope.now (shapes (drop l.number l.args))) l.fn.uses.accesses;
+  fails : l.uses.failure ≡ failing_arguments (view_of l.body) (shapes (drop l.number l.args)) l.fn.uses.failure;
 }

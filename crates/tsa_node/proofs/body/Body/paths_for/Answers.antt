@@ -1,9 +1,9 @@
 use Rattle.std.proofs.Common.{◌∙◌, ◌∷◌, ◌++◌, [], arith, ap, sym}
 use Rattle.std.proofs.Math.Seq.{drop-cons}
 use Rattle.std.proofs.lemmas.List.{drop_all}
-use Rattle.tsa_use.proofs.Paths.{no_args, no_params, path_next}
-use Rattle.tsa_use.proofs.body.Body.paths_for.Goals as goal
-use Rattle.tsa_use.proofs.body.Body.paths_for.Goals.{then-each-test+else-number-args, else-each-test}
+use Rattle.tsa_node.proofs.Paths.{no_args, no_params, path_next}
+use Rattle.tsa_node.proofs.body.Body.paths_for.Goals as goal
+use Rattle.tsa_node.proofs.body.Body.paths_for.Goals.{then-each-test+else-number-args, else-each-test}
 
 pub each-preserved : goal.each-preserved
 each-preserved c =

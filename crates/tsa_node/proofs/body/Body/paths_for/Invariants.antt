@@ -1,8 +1,8 @@
-use Rattle.std.proofs.Common.{◌≡◌, ◌++◌, ◌+◌, ◌-◌, drop, length}
+use Rattle.std.proofs.Common.{◌≡◌, ◌++◌, ◌-◌, drop, length}
 use Rattle.tsa_tree.specs.expressions.Shapes.{shapes}
 use Rattle.tsa_way.specs.LockPaths.{stable_in}
 use Rattle.tsa_core.specs.Uses.{argument_ways}
-use Rattle.tsa_use.proofs.body.Body.paths_for.Given as goal
+use Rattle.tsa_node.proofs.body.Body.paths_for.Given as goal
 
 abbrev pub decreases-each : goal.decreases-each
 decreases-each l = length l.args - l.number

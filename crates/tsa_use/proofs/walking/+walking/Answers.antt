@@ -3,7 +3,7 @@ use Rattle.std.proofs.lemmas.List.{drop_all}
 use Rattle.tsa_use.proofs.Failures.{argument_fails_next, call_inside_fails, no_argument_fails, on_ok, operand_fails}
 use Rattle.tsa_use.proofs.Operands.{argument_next, no_argument}
 use Rattle.tsa_use.proofs.Walk.{call_inside}
-use Rattle.tsa_use.proofs.body.Body.+walking.Goals as goal
+use Rattle.tsa_use.proofs.walking.+walking.Goals as goal
 
 pub arguments-each-init : goal.arguments-each-init
 arguments-each-init t c = record {

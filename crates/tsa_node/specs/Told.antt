@@ -1,20 +1,16 @@
--- The first premise that fails in an expression, before another.
-use Rattle.std.specs.Prelude.{ℕ, Bool, true, false, not, ◌&&◌, ◌++◌, Option, Some, None, is_some, if◌then◌else◌}
+-- What fails at one node of an expression.
+use Rattle.std.specs.Prelude.{ℕ, Bool, true, false, not, ◌&&◌, Option, Some, None, is_some, if◌then◌else◌}
 use Rattle.tsa_tree.specs.declared.expr.BinaryOp.{BinaryOp}
 use Rattle.tsa_tree.specs.declared.expr.BinaryOp.TheVariants as op
-use Rattle.tsa_tree.specs.declared.expr.UnaryOp.{UnaryOp}
-use Rattle.tsa_tree.specs.declared.expr.UnaryOp.TheVariants as prefix
 use Rattle.tsa_tree.specs.expressions.Syntax.{Expression, Arguments}
 use Rattle.tsa_way.specs.LockPaths.{stable_in}
-use Rattle.tsa_use.specs.declared.body.Body.{Body}
-use Rattle.tsa_seen.specs.declared.premise.Failure.{Failure}
+use Rattle.tsa_node.specs.declared.body.Body.{Body}
 use Rattle.tsa_seen.specs.declared.premise.ProfileCode.{ProfileCode}
 use Rattle.tsa_seen.specs.declared.premise.ProfileCode.TheVariants.{PF1, PF2, PF5, PF8}
 use Rattle.tsa_seen.specs.declared.standing.Standing.{Standing}
 use Rattle.tsa_seen.specs.declared.standing.Standing.TheVariants.{Inside}
 use Rattle.tsa_seen.specs.Locks.{tries}
-use Rattle.tsa_use.specs.Expressions.{View, arguments, attributes_at, compares_a_try, constant, lacks_a_path, own, parts}
-use Rattle.tsa_seen.specs.Premises.{first, or_else}
+use Rattle.tsa_node.specs.Expressions.{View, attributes_at, compares_a_try, constant, lacks_a_path}
 use Rattle.tsa_seen.specs.Standing.{beside, may_call, may_try}
 
 -- what an expression stands in, by what the walk over it has
@@ -36,10 +32,6 @@ of_function code (Some n) = code n
 abbrev pub call_code : View → Standing → Arguments → Option ℕ → Option ProfileCode
 call_code v s args function = if not (may_call s) then Some PF1 else of_function (called_code v s args) function
 
-abbrev pub is_address : UnaryOp → Bool
-is_address prefix.Address = true
-is_address o = false
-
 abbrev pub is_equality : BinaryOp → Bool
 is_equality op.Equal = true
 is_equality op.Unequal = true
@@ -51,10 +43,3 @@ side v s o other = if is_equality o then beside s (is_some (constant v other)) e
 
 abbrev pub sides_code : View → BinaryOp → (left right : Expression) → Option ProfileCode
 sides_code v o left right = if is_equality o then code_if (compares_a_try v left right) PF8 else None
-
--- an expression whose value is wanted or not, and the arguments of a call, each before what was found behind it
-unfoldable pub failing : View → Standing → (is_value : Bool) → Expression → Option Failure → Option Failure
-failing v s is_value e later = or_else (first (own v s is_value e ++ parts v s e)) later
-
-unfoldable pub failing_arguments : View → Arguments → Option Failure → Option Failure
-failing_arguments v args later = or_else (first (arguments v args)) later
