@@ -1,17 +1,14 @@
 -- The bodies of a unit by the names of their functions, item by item.
-use Rattle.std.proofs.Common.{◌≡◌, ◌∙◌, ℕ, ◌+◌, suc, arith, Bool, true, false, ◌||◌, List, [], ◌∷◌, ◌++◌, drop, length, map, replicate, Option, Some, None, is_some, option_map, if◌then◌else◌, refl, sym, ap, subst}
+use Rattle.std.proofs.Common.{◌≡◌, ◌∙◌, ℕ, ◌+◌, suc, arith, Bool, true, false, ◌||◌, List, [], ◌∷◌, drop, Option, Some, None, is_some, option_map, if◌then◌else◌, refl, sym, ap, subst}
 use Rattle.std.specs.Borrow.{Bor}
 use Rattle.std.proofs.lemmas.Slice.Eq.{bytes_eq-Decides}
 use Rattle.std.specs.Str.{bytes_eq}
-use Rattle.tsa_base.specs.declared.token.Span.{Span}
-use Rattle.tsa_tree.specs.declarations.Syntax.{Head}
 use Rattle.tsa_tree.specs.declarations.Shapes.{head_shape}
 use Rattle.tsa_tree.specs.declared.item.FnTree.{FnTree}
 use Rattle.tsa_tree.specs.declared.item.Item.{Item}
 use Rattle.tsa_tree.specs.declared.item.Item.TheVariants.{Structure, Alias, Enumeration, Global, Function}
 use Rattle.tsa_tree.specs.declared.stmt.Stmt.{Stmt}
 use Rattle.tsa_tree.specs.statements.Shapes.{stmt_shapes}
-use Rattle.tsa_tree.specs.statements.Syntax.{Statements}
 use Rattle.tsa_tree.specs.types.Heads.{inside, head_premises}
 use Rattle.tsa_tree.specs.types.Premises.{first}
 use Rattle.tsa_tree.specs.types.Runnable.{has_body}

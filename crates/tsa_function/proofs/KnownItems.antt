@@ -1,5 +1,5 @@
 -- What is known behind an item of a typed unit, where each name is known unless it is taken.
-use Rattle.std.proofs.Common.{◌≡◌, ◌∙◌, ℕ, ℤ, pos, ◌+◌, suc, arith, ◌+ℤ◌, Bool, false, ◌||◌, List, [], ◌∷◌, ◌++◌, drop, length, Option, Some, None, is_some, refl, sym, ap, subst}
+use Rattle.std.proofs.Common.{◌≡◌, ◌∙◌, ℕ, ℤ, pos, ◌+◌, suc, arith, ◌+ℤ◌, false, ◌||◌, List, [], ◌∷◌, ◌++◌, drop, length, Option, Some, None, is_some, refl, sym, ap, subst}
 use Rattle.tsa_base.specs.declared.token.Span.{Span}
 use Rattle.tsa_tree.specs.attributes.Syntax.{Attribute}
 use Rattle.tsa_tree.specs.declarations.Syntax.{Declaration, EnumConstant, DeclaredType}
@@ -29,7 +29,7 @@ use Rattle.tsa_item.specs.Items.{worth_written, worth, enumerators_behind, behin
 use Rattle.tsa_core.proofs.KindTests.{neither}
 use Rattle.tsa_core.proofs.NoFailure.{none_of_both, none_of_first, constant_told, keeps_typed, HasType}
 use Rattle.tsa_core.proofs.UnitScopes.{declared_told, struct_told, global_told}
-use Rattle.tsa_function.specs.Members.{behind_member, with_members}
+use Rattle.tsa_function.specs.Members.{with_members}
 use Rattle.tsa_function.specs.Laws.{MembersComeOneByOne, MembersMakeTheStruct}
 
 -- NAMES
