@@ -13,4 +13,5 @@ pub use aliases::{a_type_name, declare_alias};
 pub use declared::{Typing, judge_type};
 pub use enumerators::{count_on, declare_enum, enumerator_entry, int_value};
 pub use globals::declare_global;
+pub use initialisers::initialiser;
 pub use structs::declare_struct;
