@@ -1,0 +1,9 @@
+pub mod Gathers
+pub mod Limits
+pub mod PointPaths
+pub mod Judges
+pub mod Functions
+pub mod CoreCalls
+pub mod NodeCalls
+pub mod Firsts
+pub mod Keeps
