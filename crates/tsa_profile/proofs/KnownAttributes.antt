@@ -4,7 +4,7 @@ use Rattle.std.proofs.lemmas.List.{append_assoc, append-nil, map-append}
 use Rattle.tsa_tree.specs.types.Scopes.{Scope}
 use Rattle.tsa_tree.specs.types.Units.{outset, behind_item}
 use Rattle.tsa_tree.specs.units.Syntax.{UnitItem}
-use Rattle.tsa_core.specs.Programs.{Attr, Declared, declared_by, declared_functions, function_in, program_of}
+use Rattle.tsa_core.specs.Programs.{Attr, declared_by, declared_functions, function_in, program_of}
 use Rattle.tsa_profile.specs.Attributes.{attributes_of_all, AttributesAreThoseOfTheCore}
 use Rattle.tsa_profile.specs.Units.{Unit, attributes_by, attributes_behind, unit_of}
 

@@ -1,10 +1,9 @@
-pub mod Declarations
-pub mod Bodies
-pub mod Ways
 pub mod Paths
 pub mod Units
 pub mod Attributes
 pub mod Starts
 pub mod Examples
 pub mod Running
+pub mod Judged
 pub mod Tables
+pub mod Judging

@@ -1,5 +1,5 @@
 -- The profile of a unit.
-use Rattle.std.specs.Prelude.{ℕ, Bool, true, false, not, ◌&&◌, nat_lt, List, [], ◌∷◌, ◌++◌, length, map, filter, Option, Some, None, is_some, is_none}
+use Rattle.std.specs.Prelude.{ℕ, Bool, true, false, not, ◌&&◌, nat_lt, List, [], ◌∷◌, ◌++◌, length, map, filter, Option, is_some, is_none}
 use Rattle.tsa_tree.specs.declarations.Syntax.{Declaration, Head}
 use Rattle.tsa_tree.specs.statements.Syntax.{Statements}
 use Rattle.tsa_tree.specs.types.Globals.{with_global}
@@ -19,9 +19,9 @@ use Rattle.tsa_seen.specs.declared.premise.ProfileCode.TheVariants.{LM4, LM7}
 use Rattle.tsa_seen.specs.Premises.{Premise, premise, first}
 use Rattle.tsa_seen.specs.Locks.{tries}
 use Rattle.tsa_node.specs.Expressions.{View, attributes_at}
-use Rattle.tsa_profile.specs.Declarations.{guard_premises, given_init, head_premises}
-use Rattle.tsa_profile.specs.Bodies.{Around, points_premises, is_try_variable}
-use Rattle.tsa_profile.specs.Ways.{function_paths}
+use Rattle.tsa_ask.specs.Declarations.{guard_premises, given_init, head_premises}
+use Rattle.tsa_deed.specs.Bodies.{Around, points_premises, is_try_variable}
+use Rattle.tsa_deed.specs.Ways.{function_paths}
 
 -- A unit: its items, its core program, and the functions whose bodies are said to stand elsewhere.
 pub record Unit : Type 0 where

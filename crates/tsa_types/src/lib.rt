@@ -6,6 +6,7 @@ mod heads;
 mod typed;
 mod unit;
 
+pub use functions::function_number;
 pub use tsa_resolve::TypeRefusal;
 pub use tsa_tree::meaning::Symbol;
 pub use tsa_tree::premise::TypeCode;
