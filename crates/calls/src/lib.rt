@@ -1,5 +1,6 @@
 //! Each public call of the libraries once with ample memory, ends that fail in mid-stream, and what no command shows: the
-//! tokens of a text, where the nodes of a tree stand in it, what the names of a unit mean, its places, paths, and what bodies use.
+//! tokens of a text, where the nodes of a tree stand in it, what the names of a unit mean, its places, paths, what bodies use, and what a unit
+//! in the profile tells.
 //! What commands show stands in the data of the program `rows`.
 #![tactic(auto)]
 
@@ -13,6 +14,8 @@ mod nodes;
 mod paths;
 #[cfg(test)]
 mod places;
+#[cfg(test)]
+mod profile;
 #[cfg(test)]
 mod statements;
 #[cfg(test)]

@@ -49,7 +49,12 @@ fn put_guards(out: &mut Vec<u8>, alloc: Global, places: &Places, place: u32) -> 
 }
 
 // What a cell holds at the start.
-fn put_value(out: &mut Vec<u8>, alloc: Global, places: &Places, value: Value) -> Result<(), Fail> {
+pub fn put_value(
+    out: &mut Vec<u8>,
+    alloc: Global,
+    places: &Places,
+    value: Value,
+) -> Result<(), Fail> {
     match value {
         Value::Int(number) => {
             put_if(out, number < 0, b" minus")?;

@@ -67,3 +67,7 @@ pub record ChecksAreAsWritten : Type 0 where
   pub unsigned_number : IsNotThin (codes "int g; void f(void) { g = 1u; }")
   -- more places than a unit may have
   pub too_many_places : Refuses (codes "struct s { int x; }; struct s a[10], b[32760];") LimitPassed 1 38 (codes "LM6 over 65536 places")
+  -- premises of the profile, each at the node where it fails
+  pub inner_call : Refuses (codes "int ask(int i); int k; void f(void) { k = 1 + ask(1); }") Refused 1 47 (codes "PF1 call stands in a refused place")
+  pub no_path : Refuses (locks ++ codes "int n; struct lock m[2]; void f(void) { acq(&m[n]); }") Refused 1 160 (codes "PF2 capability is no stable path")
+  pub no_shape : Refuses (codes "struct s { int x; }; void f(struct s *p);") Refused 1 27 (codes "PF6 function without a body has no allowed shape")

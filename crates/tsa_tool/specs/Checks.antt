@@ -13,8 +13,10 @@ use Rattle.tsa_tree.specs.types.FirstFailing.{first_failing}
 use Rattle.tsa_base.specs.declared.token.Span.{Span}
 use Rattle.tsa_layout.specs.Calls.{Layout}
 use Rattle.tsa_place.specs.Units.{placed_in}
+use Rattle.tsa_seen.specs.declared.premise.Failure.{Failure as Misfit}
+use Rattle.tsa_profile.specs.Units.{refusal_of_profile}
 use Rattle.tsa_tool.specs.declared.check.Refusal.{Refusal}
-use Rattle.tsa_tool.specs.declared.check.Refusal.TheVariants.{Lex, Syntax, Types, Places, NotBuilt}
+use Rattle.tsa_tool.specs.declared.check.Refusal.TheVariants.{Lex, Syntax, Types, Places, Profile, NotBuilt}
 use Rattle.tsa_tool.specs.Items.{Item}
 use Rattle.tsa_tool.specs.Limits.{is_thin_unit}
 use Rattle.tsa_tool.specs.Program.{bodies_of}
@@ -81,10 +83,22 @@ sized_in bytes = do
   sized ← or_too_many tree (placed_in tree)
   Ok sized
 
+-- a unit, or the first premise of the profile that fails in it
+abbrev pub or_misfit : List UnitItem → Option Misfit → Result (List UnitItem) Refusal
+or_misfit tree None = Ok tree
+or_misfit tree (Some misfit) = Err (Profile misfit.code misfit.span.from)
+
+-- the unit of an input that is in the profile, or the first refusal up to that
+unfoldable pub fit_in : List ℕ → Result (List UnitItem) Refusal
+fit_in bytes = do
+  tree ← sized_in bytes
+  fit ← or_misfit tree (refusal_of_profile tree)
+  Ok fit
+
 -- the items of an input, whether or not they may stand after each other
 unfoldable pub items_in : List ℕ → Result (List Item) Refusal
 items_in bytes = do
-  tree ← sized_in bytes
+  tree ← fit_in bytes
   items ← ok_or NotBuilt (thin_of tree)
   Ok items
 

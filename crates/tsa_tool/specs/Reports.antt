@@ -13,12 +13,14 @@ use Rattle.tsa_expr.specs.declared.refusal.SyntaxCode.{SyntaxCode}
 use Rattle.tsa_expr.specs.declared.refusal.SyntaxCode.TheVariants.{SY1, AT1, AT2, LM2, LM3, LM5}
 use Rattle.tsa_tree.specs.declared.premise.TypeCode.{TypeCode}
 use Rattle.tsa_tree.specs.declared.premise.TypeCode.TheVariants.{TY1, TY2, TY3, TY4, TY5, TY6, TY7, TY8, TY9}
+use Rattle.tsa_seen.specs.declared.premise.ProfileCode.{ProfileCode}
+use Rattle.tsa_seen.specs.declared.premise.ProfileCode.TheVariants.{PF1, PF2, PF3, PF4, PF5, PF6, PF7, PF8, PF9, LM4, LM7}
 use Rattle.tsa_base.specs.Places.{place_at, place_text}
 use Rattle.tsa_tool.specs.Lines.{Warned}
 use Rattle.tsa_tool.specs.declared.answer.Status.{Status}
 use Rattle.tsa_tool.specs.declared.answer.Status.TheVariants.{Accepted, Printed, Warned as Warns, Refused, WordsRefused, LimitPassed}
 use Rattle.tsa_tool.specs.declared.check.Refusal.{Refusal}
-use Rattle.tsa_tool.specs.declared.check.Refusal.TheVariants.{Lex, Syntax, Types, Places, NotBuilt}
+use Rattle.tsa_tool.specs.declared.check.Refusal.TheVariants.{Lex, Syntax, Types, Places, Profile, NotBuilt}
 use Rattle.tsa_tool.specs.declared.command.Command.{Command}
 use Rattle.tsa_tool.specs.declared.command.Command.TheVariants.{Check, Print}
 
@@ -74,6 +76,20 @@ type_text TY7 = codes "TY7 jump or label without its target"
 type_text TY8 = codes "TY8 wrong return"
 type_text TY9 = codes "TY9 initialiser or constant refused"
 
+-- what a code of a premise of the profile, or of a limit of a function, says
+abbrev pub profile_text : ProfileCode → List ℕ
+profile_text PF1 = codes "PF1 call stands in a refused place"
+profile_text PF2 = codes "PF2 capability is no stable path"
+profile_text PF3 = codes "PF3 address inside a guarded entity"
+profile_text PF4 = codes "PF4 local of struct or array type"
+profile_text PF5 = codes "PF5 try result is dropped"
+profile_text PF6 = codes "PF6 function without a body has no allowed shape"
+profile_text PF7 = codes "PF7 attribute does not fit the function's body"
+profile_text PF8 = codes "PF8 try result compared with a constant other than 0 and 1"
+profile_text PF9 = codes "PF9 capability named twice"
+profile_text LM4 = codes "LM4 over 256 capabilities in a function"
+profile_text LM7 = codes "LM7 over 48 try variables in a function"
+
 -- a limit that is passed has a status of its own
 abbrev pub syntax_status : SyntaxCode → Status
 syntax_status SY1 = Refused
@@ -83,12 +99,18 @@ syntax_status LM2 = LimitPassed
 syntax_status LM3 = LimitPassed
 syntax_status LM5 = LimitPassed
 
+abbrev pub profile_status : ProfileCode → Status
+profile_status LM4 = LimitPassed
+profile_status LM7 = LimitPassed
+profile_status _ = Refused
+
 -- the line and the status of a refusal of these bytes: `L:C: ` and the text, where it has a place
 abbrev pub refused_report : List ℕ → Refusal → Report
 refused_report bytes (Lex code byte) = record { status = Refused; text = line (place_text (place_at bytes byte) ++ lex_text code) }
 refused_report bytes (Syntax code byte) = record { status = syntax_status code; text = line (place_text (place_at bytes byte) ++ syntax_text code) }
 refused_report bytes (Types code byte) = record { status = Refused; text = line (place_text (place_at bytes byte) ++ type_text code) }
 refused_report bytes (Places byte) = record { status = LimitPassed; text = line (place_text (place_at bytes byte) ++ codes "LM6 over 65536 places") }
+refused_report bytes (Profile code byte) = record { status = profile_status code; text = line (place_text (place_at bytes byte) ++ profile_text code) }
 refused_report bytes NotBuilt = record { status = Refused; text = line (codes "NB0 form is not built yet") }
 
 abbrev pub accepted : Report

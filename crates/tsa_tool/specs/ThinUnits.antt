@@ -9,9 +9,11 @@ use Rattle.tsa_expr.specs.declared.refusal.SyntaxRefusal.TheVariants.{At, Functi
 use Rattle.tsa_unit.specs.Parsing.{unit_of}
 use Rattle.tsa_tree.specs.declared.premise.Failure.{Failure}
 use Rattle.tsa_tree.specs.types.FirstFailing.{first_failing}
-use Rattle.tsa_tool.specs.declared.check.Refusal.TheVariants.{Lex, Syntax, Types, Places, NotBuilt}
+use Rattle.tsa_tool.specs.declared.check.Refusal.TheVariants.{Lex, Syntax, Types, Places, Profile, NotBuilt}
 use Rattle.tsa_layout.specs.Calls.{Layout}
 use Rattle.tsa_place.specs.Units.{placed_in}
+use Rattle.tsa_seen.specs.declared.premise.Failure.{Failure as Misfit}
+use Rattle.tsa_profile.specs.Units.{refusal_of_profile}
 use Rattle.tsa_tool.specs.Items.{Item}
 use Rattle.tsa_tool.specs.Names.{fits}
 use Rattle.tsa_tool.specs.Program.{bodies_of}
@@ -20,8 +22,8 @@ use Rattle.tsa_tool.specs.Lines.{Warned, unit_warned}
 use Rattle.tsa_tool.specs.Checks.{byte_of, warned_in}
 use Rattle.tsa_tool.specs.ThinTrees.{AreItems}
 
--- the text has tokens, they are a unit, its types are right, it has no more places than it may, its tree is of the items, each item may stand after those before it, and no limit is
--- passed
+-- the text has tokens, they are a unit, its types are right, it has no more places than it may, it is in the profile, its tree is of the items, each item may
+-- stand after those before it, and no limit is passed
 pub record IsThin (text : List ℕ) (items : List Item) : Type 0 where
   pub tokens : List Lexeme
   pub tree : List UnitItem
@@ -30,12 +32,13 @@ pub record IsThin (text : List ℕ) (items : List Item) : Type 0 where
   pub typed : first_failing tree ≡ None
   pub layout : Layout
   pub placed : placed_in tree ≡ Ok layout
+  pub profiled : refusal_of_profile tree ≡ None
   pub formed : AreItems tree items
   pub fits_each : (before : List Item) (item : Item) (behind : List Item) → items ≡ before ++ item ∷ behind → fits text before item ≡ true
   pub items_within : items_are_within items ≡ true
   pub bodies_within : list_all body_is_within (bodies_of text items) ≡ true
 
--- the text has tokens, they are a unit, its types are right, it has no more places than it may, and it isn't thin
+-- the text has tokens, they are a unit, its types are right, it has no more places than it may, it is in the profile, and it isn't thin
 pub record IsNotBuilt (text : List ℕ) : Type 0 where
   pub tokens : List Lexeme
   pub tree : List UnitItem
@@ -44,6 +47,7 @@ pub record IsNotBuilt (text : List ℕ) : Type 0 where
   pub typed : first_failing tree ≡ None
   pub layout : Layout
   pub placed : placed_in tree ≡ Ok layout
+  pub profiled : refusal_of_profile tree ≡ None
   pub no_items : (items : List Item) → IsThin text items → ⊥
 
 pub record ThinUnitsAreWarnedOf : Type 0 where
@@ -62,7 +66,11 @@ pub record ThinUnitsAreWarnedOf : Type 0 where
   -- a unit with too many places is refused by the declarator at which there are
   pub at_declarator : (text : List ℕ) (tokens : List Lexeme) (tree : List UnitItem) (span : Span) →
       tokens_of text ≡ Ok tokens → unit_of tokens ≡ Ok tree → first_failing tree ≡ None → placed_in tree ≡ Err span → warned_in text ≡ Err (Places span.from)
+  -- a unit of which a premise of the profile fails, or that passes a limit of it, is refused by the first one
+  pub at_premise : (text : List ℕ) (tokens : List Lexeme) (tree : List UnitItem) (l : Layout) (misfit : Misfit) →
+      tokens_of text ≡ Ok tokens → unit_of tokens ≡ Ok tree → first_failing tree ≡ None → placed_in tree ≡ Ok l → refusal_of_profile tree ≡ Some misfit
+      → warned_in text ≡ Err (Profile misfit.code misfit.span.from)
   pub memory : (tokens : List Lexeme) → unit_of tokens ≡ Err NoMemory → ⊥
-  -- exactly a unit of right types, with no more places than it may have, that isn't thin is a form that isn't built
+  -- exactly a unit of right types, with no more places than it may have, that is in the profile and isn't thin is a form that isn't built
   pub other : (text : List ℕ) → IsNotBuilt text → warned_in text ≡ Err NotBuilt
   pub not_built : (text : List ℕ) → warned_in text ≡ Err NotBuilt → IsNotBuilt text

@@ -1,7 +1,7 @@
 //! What is answered to an input.
 ghost use Rattle.std.specs.Prelude.{◌≡◌, ◌≤◌, ◌∷◌, ◌++◌, [], codes, IfOk, OnOk, length};
 ghost use Rattle.tsa_base.specs.declared.limits.TheConstants.{INPUT_LIMIT};
-ghost use Rattle.tsa_tool.specs.Reports.{status_number, words_refused, too_long, answered, judged, printed, accepted, warned_report, refused_report, lex_text, syntax_text, syntax_status, type_text, line};
+ghost use Rattle.tsa_tool.specs.Reports.{status_number, words_refused, too_long, answered, judged, printed, accepted, warned_report, refused_report, lex_text, syntax_text, syntax_status, type_text, profile_text, profile_status, line};
 ghost use Rattle.tsa_tool.specs.Answer.{report_of};
 ghost use Rattle.tsa_tool.specs.Warned.{warned_of};
 ghost use Rattle.std.specs.Fmt.{decimal};
@@ -13,6 +13,7 @@ use crate::warn::UnitLines;
 use std::alloc::Global;
 use tsa_base::{LexCode, LineStarts, NoMemory};
 use tsa_expr::SyntaxCode;
+use tsa_profile::ProfileCode;
 use tsa_types::TypeCode;
 
 /// How an answer ends the program.
@@ -143,6 +144,7 @@ fn refuse(alloc: Global, bytes: &[u8], refusal: Refusal) -> Result<Answer, NoMem
         Refusal::Syntax { code, byte } => refuse_syntax(alloc, bytes, code, byte),
         Refusal::Types { code, byte } => refuse_types(alloc, bytes, code, byte),
         Refusal::Places { byte } => refuse_places(alloc, bytes, byte),
+        Refusal::Profile { code, byte } => refuse_profile(alloc, bytes, code, byte),
         Refusal::NotBuilt => answer_of(alloc, Status::Refused, b"NB0 form is not built yet\n"),
     }
 }
@@ -179,6 +181,21 @@ fn refuse_types(alloc: Global, bytes: &[u8], code: TypeCode, byte: u32) -> Resul
     Ok(Answer {
         status: Status::Refused,
         text: placed_line(alloc, bytes, byte, type_text(code))?,
+    })
+}
+
+// The answer to a unit of which a premise of the profile fails, or that passes a limit of it.
+fn refuse_profile(
+    alloc: Global,
+    bytes: &[u8],
+    code: ProfileCode,
+    byte: u32,
+) -> Result<Answer, NoMemory>
+    ensures { IfOk result (λ answer. report_of answer ≡ refused_report bytes.now (Refusal.Profile code byte)) }
+{
+    Ok(Answer {
+        status: profile_status(code),
+        text: placed_line(alloc, bytes, byte, profile_text(code))?,
     })
 }
 
@@ -245,6 +262,35 @@ fn type_text(code: TypeCode) -> &'static [u8]
         TypeCode::TY7 => b"TY7 jump or label without its target",
         TypeCode::TY8 => b"TY8 wrong return",
         TypeCode::TY9 => b"TY9 initialiser or constant refused",
+    }
+}
+
+// What a code of a premise of the profile, or of a limit of a function, says.
+fn profile_text(code: ProfileCode) -> &'static [u8]
+    ensures { result.now ≡ profile_text code }
+{
+    match code {
+        ProfileCode::PF1 => b"PF1 call stands in a refused place",
+        ProfileCode::PF2 => b"PF2 capability is no stable path",
+        ProfileCode::PF3 => b"PF3 address inside a guarded entity",
+        ProfileCode::PF4 => b"PF4 local of struct or array type",
+        ProfileCode::PF5 => b"PF5 try result is dropped",
+        ProfileCode::PF6 => b"PF6 function without a body has no allowed shape",
+        ProfileCode::PF7 => b"PF7 attribute does not fit the function's body",
+        ProfileCode::PF8 => b"PF8 try result compared with a constant other than 0 and 1",
+        ProfileCode::PF9 => b"PF9 capability named twice",
+        ProfileCode::LM4 => b"LM4 over 256 capabilities in a function",
+        ProfileCode::LM7 => b"LM7 over 48 try variables in a function",
+    }
+}
+
+// The status of a refusal by the profile.
+fn profile_status(code: ProfileCode) -> Status
+    ensures { result ≡ profile_status code }
+{
+    match code {
+        ProfileCode::LM4 | ProfileCode::LM7 => Status::LimitPassed,
+        _ => Status::Refused,
     }
 }
 

@@ -7,7 +7,9 @@ ghost use Rattle.tsa_tree.specs.tokens.Signs.{lexemes};
 ghost use Rattle.tsa_tree.specs.tokens.Texts.{AreOfText};
 ghost use Rattle.tsa_tree.specs.units.Shapes.{item_shapes};
 ghost use Rattle.tsa_unit.specs.Parsing.{unit_of};
-ghost use Rattle.tsa_tool.specs.Checks.{lexed, byte_of, refusal_of, placed, tree_in, typed_in, sized_in, items_in, judged_items, warned_in};
+ghost use Rattle.tsa_place.specs.Units.{placed_in};
+ghost use Rattle.tsa_profile.specs.Units.{refusal_of_profile};
+ghost use Rattle.tsa_tool.specs.Checks.{lexed, byte_of, refusal_of, placed, tree_in, typed_in, or_too_many, or_misfit, fit_in, items_in, judged_items, warned_in};
 ghost use Rattle.tsa_tool.specs.Reports.{printed_report};
 ghost use Rattle.tsa_tool.specs.Warned.{warned_of};
 ghost use Rattle.tsa_tool.specs.declared.answer.Status.TheVariants.{Printed};
@@ -26,18 +28,21 @@ use tsa_expr::{SyntaxCode, SyntaxRefusal};
 use tsa_lex::{LexRefusal, lex};
 use tsa_place::{PlaceRefusal, Places};
 use tsa_print::print_unit;
+use tsa_profile::{Fit, ProfileCode, ProfileRefusal, fit};
 use tsa_tree::Parsed;
 use tsa_types::{TypeCode, TypeRefusal, Typed, type_check};
 use tsa_unit::parse;
 
 /// Why a unit is refused, with a line of its own: a byte that makes it no tokens, a token or a function that its syntax
-/// refuses, a node that its types refuse, a declarator at which there are too many places, or a form that isn't built yet.
+/// refuses, a node that its types refuse, a declarator at which there are too many places, a node or a function that the profile refuses, or a form
+/// that isn't built yet.
 #[derive(Clone, Copy)]
 pub enum Refusal {
     Lex { code: LexCode, byte: u32 },
     Syntax { code: SyntaxCode, byte: u32 },
     Types { code: TypeCode, byte: u32 },
     Places { byte: u32 },
+    Profile { code: ProfileCode, byte: u32 },
     NotBuilt,
 }
 
@@ -165,22 +170,53 @@ fn read_typed<'a>(alloc: Global, bump: &'a Bump, bytes: &[u8]) -> Result<Typed<'
     }
 }
 
-// The unit of an input that has no more places than it may, in an arena.
-#[tactic(auto, unfolding(crate::specs::Checks::sized_in), using(crate::proofs::TypedLaws::places))]
-fn read_sized<'a>(alloc: Global, bump: &'a Bump, bytes: &[u8]) -> Result<Typed<'a>, ToolRefusal>
-    requires { length bytes.now ≤ INPUT_LIMIT }
-    ensures tree { IfOk result (λ typed. sized_in bytes.now ≡ Ok (item_shapes typed.unit.now.items.now)) }
-    ensures count { IfOk result (λ typed. length typed.unit.now.items.now ≤ INPUT_LIMIT) }
-    ensures refused { (r : _) → IsErrOf result (ToolRefusal.Refused r) → sized_in bytes.now ≡ Err r }
+// A typed unit with its places, or the declarator at which there are too many.
+#[tactic(auto, using(crate::proofs::TypedLaws::places))]
+fn places_of(alloc: Global, typed: &Typed<'_>) -> Result<Places, ToolRefusal>
+    ensures places { IfOk result (λ places. placed_in (item_shapes typed.now.unit.now.items.now) ≡ Ok places) }
+    ensures sized { IfOk result (λ places. or_too_many (item_shapes typed.now.unit.now.items.now) (placed_in (item_shapes typed.now.unit.now.items.now)) ≡ Ok (item_shapes typed.now.unit.now.items.now)) }
+    ensures refused { (r : _) → IsErrOf result (ToolRefusal.Refused r) → or_too_many (item_shapes typed.now.unit.now.items.now) (placed_in (item_shapes typed.now.unit.now.items.now)) ≡ Err r }
 {
-    let typed = read_typed(alloc, bump, bytes)?;
     match Places::new(alloc, typed.unit()) {
-        Ok(_) => Ok(typed),
+        Ok(places) => Ok(places),
         Err(PlaceRefusal::TooMany { span }) => Err(ToolRefusal::Refused(Refusal::Places {
             byte: span.from,
         })),
         Err(PlaceRefusal::NoMemory) => Err(ToolRefusal::NoMemory),
     }
+}
+
+// A typed unit that is in the profile, or the first node or function that the profile refuses.
+#[tactic(auto, using(crate::proofs::TypedLaws::profile))]
+fn fit_of<'a>(alloc: Global, typed: Typed<'a>, places: &Places) -> Result<Fit<'a>, ToolRefusal>
+    requires placed { placed_in (item_shapes typed.unit.now.items.now) ≡ Ok places.now }
+    ensures tree { IfOk result (λ fit. fit.typed ≡ typed.entry) }
+    ensures fits { IfOk result (λ fit. or_misfit (item_shapes typed.entry.unit.now.items.now) (refusal_of_profile (item_shapes typed.entry.unit.now.items.now)) ≡ Ok (item_shapes typed.entry.unit.now.items.now)) }
+    ensures refused { (r : _) → IsErrOf result (ToolRefusal.Refused r) → or_misfit (item_shapes typed.entry.unit.now.items.now) (refusal_of_profile (item_shapes typed.entry.unit.now.items.now)) ≡ Err r }
+{
+    match fit(alloc, typed, places) {
+        Ok(fit) => Ok(fit),
+        Err(ProfileRefusal::At { code, span } | ProfileRefusal::Function { code, span }) => {
+            Err(ToolRefusal::Refused(Refusal::Profile {
+                code,
+                byte: span.from,
+            }))
+        }
+        Err(ProfileRefusal::NoMemory) => Err(ToolRefusal::NoMemory),
+    }
+}
+
+// The unit of an input that has no more places than it may and is in the profile, in an arena.
+#[tactic(auto, unfolding(crate::specs::Checks::sized_in, crate::specs::Checks::fit_in))]
+fn read_fit<'a>(alloc: Global, bump: &'a Bump, bytes: &[u8]) -> Result<Fit<'a>, ToolRefusal>
+    requires { length bytes.now ≤ INPUT_LIMIT }
+    ensures tree { IfOk result (λ fit. fit_in bytes.now ≡ Ok (item_shapes fit.typed.unit.now.items.now)) }
+    ensures count { IfOk result (λ fit. length fit.typed.unit.now.items.now ≤ INPUT_LIMIT) }
+    ensures refused { (r : _) → IsErrOf result (ToolRefusal.Refused r) → fit_in bytes.now ≡ Err r }
+{
+    let typed = read_typed(alloc, bump, bytes)?;
+    let places = places_of(alloc, &typed)?;
+    fit_of(alloc, typed, &places)
 }
 
 // The items of an input that are a unit of the thin language, in an arena.
@@ -191,8 +227,8 @@ fn read_items<'a>(alloc: Global, bump: &'a Bump, bytes: &[u8]) -> Result<ThinUni
     ensures count { IfOk result (λ unit. vec_len unit.items ≤ INPUT_LIMIT) }
     ensures refused { (r : _) → IsErrOf result (ToolRefusal.Refused r) → items_in bytes.now ≡ Err r }
 {
-    let typed = read_sized(alloc, bump, bytes)?;
-    match thin(alloc, typed.unit().items)? {
+    let fit = read_fit(alloc, bump, bytes)?;
+    match thin(alloc, fit.unit().items)? {
         Some(unit) => Ok(unit),
         None => Err(NOT_BUILT),
     }

@@ -11,9 +11,10 @@ pub fn thin_trees_are_seen()
     ensures { ThinTreesAreSeen }
 {}
 
-/// What `check` warns of is exactly the thin units: their tokens are a unit of thin items, each item may stand after
-/// those before it, and no limit is passed. Any other text is refused by its first bad byte, by its syntax, or as not
-/// built exactly where its tokens are a unit.
+/// What `check` warns of is exactly the thin units: their tokens are a unit of thin items, of which no premise of types or
+/// of the profile fails, each item may stand after those before it, and no limit is passed. Any other text is refused by
+/// its first bad byte, by its syntax, by the first premise of types that fails, by its places, by the first premise or
+/// limit of the profile, or as not built exactly where it is a unit that none of these refuses.
 #[tactic(auto, using(crate::proofs::ThinLaw::thin_law))]
 pub fn thin_units_are_warned_of()
     ensures { ThinUnitsAreWarnedOf }
