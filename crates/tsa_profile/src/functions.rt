@@ -27,7 +27,7 @@ ghost use Rattle.tsa_node.specs.Expressions.{attributes_at};
 ghost use Rattle.tsa_way.specs.LockPaths.{stable_in};
 
 use crate::ground::Ground;
-use crate::knowledge::{Knowledge, or_else};
+use crate::knowledge::{Knowledge, or_else, put_scope, take_scope};
 use crate::refusal::{ProfileRefusal, judged};
 use tsa_ask::{Heading, attributes_failure, named_locks};
 use tsa_base::{NoMemory, Span};
@@ -50,13 +50,6 @@ struct Inside<'s> {
     name: Span,
     close: Span,
     stable: &'s [bool],
-}
-
-/// What is known behind the steps of a body, and what is found of them.
-#[derive(Drop)]
-struct Walked<'a> {
-    known: Knowledge<'a>,
-    judged: Judged,
 }
 
 /// A limit that a function passes, told at its name.
@@ -168,81 +161,64 @@ impl<'t, 'a> Ground<'t, 'a> {
         }
     }
 
-    /// Judges a function along the steps of its body.
+    /// Judges a function along the steps of its body, and makes known what they leave known.
     fn along(
         self,
-        known: Knowledge<'a>,
+        known: &mut Knowledge<'a>,
         inner: Inside<'_>,
         steps: &[Step<'a>],
-    ) -> Result<Walked<'a>, NoMemory>
-        ensures known { IfOk result (λ walked. walked.known ≡ with_scope (walk_behind (walk known.entry.here []) (map step_shape steps.now)).here known.entry) }
-        ensures failure { IfOk result (λ walked. walked.judged.failure ≡ first (points_premises (around_at self.entry known.entry inner.entry.number inner.entry.stable.now) (points_along (walk known.entry.here []) (map step_shape steps.now)))) }
-        ensures tries { IfOk result (λ walked. walked.judged.tries ≡ length (filter (is_try_variable (around_at self.entry known.entry inner.entry.number inner.entry.stable.now)) (points_along (walk known.entry.here []) (map step_shape steps.now)))) }
-        ensures paths { IfOk result (λ walked. walked.judged.paths ≡ function_paths (around_at self.entry known.entry inner.entry.number inner.entry.stable.now) (attributes_at known.entry.attributes inner.entry.number) (points_along (walk known.entry.here []) (map step_shape steps.now))) }
+    ) -> Result<Judged, NoMemory>
+        ensures known { OnOk result (known.new ≡ with_scope (walk_behind (walk known.old.here []) (map step_shape steps.now)).here known.old) }
+        ensures failure { IfOk result (λ judged. judged.failure ≡ first (points_premises (around_at self.entry known.old inner.entry.number inner.entry.stable.now) (points_along (walk known.old.here []) (map step_shape steps.now)))) }
+        ensures tries { IfOk result (λ judged. judged.tries ≡ length (filter (is_try_variable (around_at self.entry known.old inner.entry.number inner.entry.stable.now)) (points_along (walk known.old.here []) (map step_shape steps.now)))) }
+        ensures paths { IfOk result (λ judged. judged.paths ≡ function_paths (around_at self.entry known.old inner.entry.number inner.entry.stable.now) (attributes_at known.old.attributes inner.entry.number) (points_along (walk known.old.here []) (map step_shape steps.now))) }
     {
-        let Knowledge {
-            scope,
-            attributes,
-            tables,
-            tries,
-            paths,
-        } = known;
-        let mut walk = Walk::new(scope);
-        let own = locks_of(&attributes, inner.number);
+        let mut walk = Walk::new(take_scope(&mut known.scope)?);
+        let own = locks_of(&known.attributes, inner.number);
         let judged = self
-            .around(&attributes, inner)
+            .around(&known.attributes, inner)
             .judge(&mut walk, steps, own)?;
-        let known = Knowledge {
-            scope: walk.into_scope(),
-            attributes,
-            tables,
-            tries,
-            paths,
-        };
-        Ok(Walked { known, judged })
+        put_scope(&mut known.scope, walk.into_scope());
+        Ok(judged)
     }
 
     /// The body of a function whose head is entered.
     fn body(
         self,
-        known: Knowledge<'a>,
+        known: &mut Knowledge<'a>,
         inner: Inside<'_>,
         body: &'a [Stmt<'a>],
-    ) -> Result<Knowledge<'a>, ProfileRefusal>
-        ensures judged { Judges (first (points_premises (around_at self.entry known.entry inner.entry.number inner.entry.stable.now) (placed_all known.entry.here (stmt_shapes body.now)))) (forget result) }
-        ensures found { IfOk result (λ after. after ≡ with_body known.entry inner.entry.number inner.entry.name (around_at self.entry known.entry inner.entry.number inner.entry.stable.now) (further (declared_in_all (stmt_shapes body.now)) known.entry.here) (placed_all known.entry.here (stmt_shapes body.now))) }
+    ) -> Result<(), ProfileRefusal>
+        ensures judged { Judges (first (points_premises (around_at self.entry known.old inner.entry.number inner.entry.stable.now) (placed_all known.old.here (stmt_shapes body.now)))) result }
+        ensures found { OnOk result (known.new ≡ with_body known.old inner.entry.number inner.entry.name (around_at self.entry known.old inner.entry.number inner.entry.stable.now) (further (declared_in_all (stmt_shapes body.now)) known.old.here) (placed_all known.old.here (stmt_shapes body.now))) }
     {
         let steps = body_steps(known.scope.allocator(), body, inner.close)?;
-        let Walked {
-            mut known,
-            judged: found,
-        } = self.along(known, inner, &steps)?;
+        let found = self.along(known, inner, &steps)?;
         judged(found.failure)?;
         let passes_tries = limit(found.tries > 48, ProfileCode::LM7, inner.name);
         let passes_paths = limit(found.paths.is_none(), ProfileCode::LM4, inner.name);
         known.tries = or_else(known.tries, passes_tries);
         known.paths = or_else(known.paths, passes_paths);
         set_paths(&mut known.tables, inner.number, found.paths);
-        Ok(known)
+        Ok(())
     }
 
     /// A function without a body, which may pass a limit where this is its first declaration and it has a body nowhere.
     fn alone(
         self,
-        known: Knowledge<'a>,
+        known: &mut Knowledge<'a>,
         inner: Inside<'_>,
         is_alone: bool,
-    ) -> Result<Knowledge<'a>, NoMemory>
-        ensures { IfOk result (λ after. after ≡ without_body known.entry inner.entry.number inner.entry.name (around_at self.entry known.entry inner.entry.number inner.entry.stable.now) is_alone) }
+    ) -> Result<(), NoMemory>
+        ensures { OnOk result (known.new ≡ without_body known.old inner.entry.number inner.entry.name (around_at self.entry known.old inner.entry.number inner.entry.stable.now) is_alone) }
     {
         if !is_alone {
-            return Ok(known);
+            return Ok(());
         }
-        let mut known = known;
         let own = locks_of(&known.attributes, inner.number);
         let is_full = attribute_paths(known.scope.allocator(), own)?.is_none();
         known.paths = or_else(known.paths, limit(is_full, ProfileCode::LM4, inner.name));
-        Ok(known)
+        Ok(())
     }
 
     /// The head of a function, which is entered; one that is declared for the first time names its locks.
@@ -269,55 +245,49 @@ impl<'t, 'a> Ground<'t, 'a> {
     /// A function with its body.
     fn bodied(
         self,
-        known: Knowledge<'a>,
+        known: &mut Knowledge<'a>,
         head: &FnTree<'a>,
         body: &'a [Stmt<'a>],
-    ) -> Result<Knowledge<'a>, ProfileRefusal>
-        requires typed { types.first (heads.head_premises known.here (head_shape head.now) true) ≡ None }
+    ) -> Result<(), ProfileRefusal>
+        requires typed { types.first (heads.head_premises known.old.here (head_shape head.now) true) ≡ None }
         requires body { is_some head.now.body ≡ true }
-        ensures judged { Judges (first (heads_premises (unit_at self.entry) known.entry.attributes known.entry.here (head_shape head.now) true ++ points_premises (around (unit_at self.entry) (declared_attributes (unit_at self.entry) known.entry (head_shape head.now) true) known.entry.here (head_shape head.now)) (points_in known.entry.here (head_shape head.now) (stmt_shapes body.now)))) (forget result) }
-        ensures behind { IfOk result (λ after. (close : Close) → after ≡ behind (unit_at self.entry) known.entry (body_item (head_shape head.now) (stmt_shapes body.now) close)) }
+        ensures judged { Judges (first (heads_premises (unit_at self.entry) known.old.attributes known.old.here (head_shape head.now) true ++ points_premises (around (unit_at self.entry) (declared_attributes (unit_at self.entry) known.old (head_shape head.now) true) known.old.here (head_shape head.now)) (points_in known.old.here (head_shape head.now) (stmt_shapes body.now)))) result }
+        ensures behind { (close : Close) → OnOk result (known.new ≡ behind (unit_at self.entry) known.old (body_item (head_shape head.now) (stmt_shapes body.now) close)) }
     {
-        let mut known = known;
         let number = function_number(&known.scope, head)?;
         let stable = self.stable(head)?;
-        let outside = self.entered(&mut known, head, &stable)?;
+        let outside = self.entered(known, head, &stable)?;
         let inner = Inside {
             number,
             name: head.name.span,
             close: close_of(head),
             stable: &stable,
         };
-        let mut after = self.body(known, inner, body)?;
-        leave(&mut after.scope, outside);
-        Ok(after)
+        self.body(known, inner, body)?;
+        leave(&mut known.scope, outside);
+        Ok(())
     }
 
     /// A function without a body.
-    fn prototype(
-        self,
-        known: Knowledge<'a>,
-        head: &FnTree<'a>,
-    ) -> Result<Knowledge<'a>, ProfileRefusal>
-        requires typed { types.first (heads.head_premises known.here (head_shape head.now) false) ≡ None }
+    fn prototype(self, known: &mut Knowledge<'a>, head: &FnTree<'a>) -> Result<(), ProfileRefusal>
+        requires typed { types.first (heads.head_premises known.old.here (head_shape head.now) false) ≡ None }
         requires body { is_some head.now.body ≡ false }
-        ensures judged { Judges (first (heads_premises (unit_at self.entry) known.entry.attributes known.entry.here (head_shape head.now) false)) (forget result) }
-        ensures behind { IfOk result (λ after. after ≡ behind (unit_at self.entry) known.entry (function_item (head_shape head.now))) }
+        ensures judged { Judges (first (heads_premises (unit_at self.entry) known.old.attributes known.old.here (head_shape head.now) false)) result }
+        ensures behind { OnOk result (known.new ≡ behind (unit_at self.entry) known.old (function_item (head_shape head.now))) }
     {
-        let mut known = known;
         let number = function_number(&known.scope, head)?;
         let is_alone = self.is_alone(&known.scope, head);
         let stable = self.stable(head)?;
-        let outside = self.entered(&mut known, head, &stable)?;
+        let outside = self.entered(known, head, &stable)?;
         let inner = Inside {
             number,
             name: head.name.span,
             close: head.name.span,
             stable: &stable,
         };
-        let mut after = self.alone(known, inner, is_alone)?;
-        leave(&mut after.scope, outside);
-        Ok(after)
+        self.alone(known, inner, is_alone)?;
+        leave(&mut known.scope, outside);
+        Ok(())
     }
 
     /// Whether a declaration is the first one of a function that has a body nowhere.
@@ -330,12 +300,12 @@ impl<'t, 'a> Ground<'t, 'a> {
     /// A function: its head, and its body where it has one.
     pub fn function(
         self,
-        known: Knowledge<'a>,
+        known: &mut Knowledge<'a>,
         head: &FnTree<'a>,
-    ) -> Result<Knowledge<'a>, ProfileRefusal>
-        requires typed { types.first (typed.item_premises known.here (function_shape head.now)) ≡ None }
-        ensures judged { Judges (first (item_premises (unit_at self.entry) known.entry.attributes (attributes_behind (unit_at self.entry) known.entry.attributes known.entry.here (function_shape head.now)) known.entry.here (function_shape head.now))) (forget result) }
-        ensures behind { IfOk result (λ after. after ≡ behind (unit_at self.entry) known.entry (function_shape head.now)) }
+    ) -> Result<(), ProfileRefusal>
+        requires typed { types.first (typed.item_premises known.old.here (function_shape head.now)) ≡ None }
+        ensures judged { Judges (first (item_premises (unit_at self.entry) known.old.attributes (attributes_behind (unit_at self.entry) known.old.attributes known.old.here (function_shape head.now)) known.old.here (function_shape head.now))) result }
+        ensures behind { OnOk result (known.new ≡ behind (unit_at self.entry) known.old (function_shape head.now)) }
     {
         match head.body {
             Some(body) => self.bodied(known, head, body),

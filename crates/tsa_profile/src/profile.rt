@@ -1,5 +1,5 @@
 //! Typed units are in the profile, or a node or a function of them is refused.
-ghost use Rattle.std.specs.Prelude.{◌≡◌, [], None, Ok, IfOk};
+ghost use Rattle.std.specs.Prelude.{◌≡◌, [], None, Ok, IfOk, OnOk};
 ghost use Rattle.tsa_place.specs.Units.{placed_in};
 ghost use Rattle.tsa_profile.specs.Judged.{Judges, forget};
 ghost use Rattle.tsa_profile.specs.Judging.{behind, behind_all, outset_of, unit_at};
@@ -23,34 +23,31 @@ use tsa_types::Typed;
 
 impl<'t, 'a> Ground<'t, 'a> {
     /// An item.
-    fn item(self, known: Knowledge<'a>, item: &Item<'a>) -> Result<Knowledge<'a>, ProfileRefusal>
-        requires outside { known.here.owned ≡ [] }
-        requires typed { types.first (typed.item_premises known.here (item_shape item.now)) ≡ None }
-        ensures judged { Judges (first (item_premises (unit_at self.entry) known.entry.attributes (attributes_behind (unit_at self.entry) known.entry.attributes known.entry.here (item_shape item.now)) known.entry.here (item_shape item.now))) (forget result) }
-        ensures behind { IfOk result (λ after. after ≡ behind (unit_at self.entry) known.entry (item_shape item.now)) }
+    fn item(self, known: &mut Knowledge<'a>, item: &Item<'a>) -> Result<(), ProfileRefusal>
+        requires outside { known.old.here.owned ≡ [] }
+        requires typed { types.first (typed.item_premises known.old.here (item_shape item.now)) ≡ None }
+        ensures judged { Judges (first (item_premises (unit_at self.entry) known.old.attributes (attributes_behind (unit_at self.entry) known.old.attributes known.old.here (item_shape item.now)) known.old.here (item_shape item.now))) result }
+        ensures behind { OnOk result (known.new ≡ behind (unit_at self.entry) known.old (item_shape item.now)) }
     {
-        let mut known = known;
         match item {
-            Item::Structure(def) => self.structure(&mut known, def)?,
-            Item::Global(decl) => self.global(&mut known, decl)?,
-            Item::Function(head) => return self.function(known, head),
-            Item::Alias(def) => know_alias(&mut known.scope, def)?,
-            Item::Enumeration(def) => know_enum(&mut known.scope, def)?,
+            Item::Structure(def) => self.structure(known, def),
+            Item::Global(decl) => self.global(known, decl),
+            Item::Function(head) => self.function(known, head),
+            Item::Alias(def) => Ok(know_alias(&mut known.scope, def)?),
+            Item::Enumeration(def) => Ok(know_enum(&mut known.scope, def)?),
         }
-        Ok(known)
     }
 
     /// All items in order.
-    fn items(self, known: Knowledge<'a>) -> Result<Knowledge<'a>, ProfileRefusal>
-        requires outset { known ≡ outset_of (unit_at self) }
-        ensures judged { Judges (first (items_premises (unit_at self.entry) [] (typed.outset (item_shapes self.entry.items.now)) (item_shapes self.entry.items.now))) (forget result) }
-        ensures behind { IfOk result (λ after. after ≡ behind_all (unit_at self.entry) (outset_of (unit_at self.entry)) (item_shapes self.entry.items.now)) }
+    fn items(self, known: &mut Knowledge<'a>) -> Result<(), ProfileRefusal>
+        requires outset { known.old ≡ outset_of (unit_at self) }
+        ensures judged { Judges (first (items_premises (unit_at self.entry) [] (typed.outset (item_shapes self.entry.items.now)) (item_shapes self.entry.items.now))) result }
+        ensures behind { OnOk result (known.new ≡ behind_all (unit_at self.entry) (outset_of (unit_at self.entry)) (item_shapes self.entry.items.now)) }
     {
-        let mut known = known;
         'each: for item in self.items {
-            known = self.item(known, item)?;
+            self.item(known, item)?;
         }
-        Ok(known)
+        Ok(())
     }
 
     /// What is known in front of the first item.
@@ -71,7 +68,8 @@ impl<'t, 'a> Ground<'t, 'a> {
         ensures judged { Judges (refusal_with self.entry.outside.now (item_shapes self.entry.items.now)) (forget result) }
         ensures behind { IfOk result (λ after. after ≡ behind_all (unit_at self.entry) (outset_of (unit_at self.entry)) (item_shapes self.entry.items.now)) }
     {
-        let known = self.items(self.outset(alloc)?)?;
+        let mut known = self.outset(alloc)?;
+        self.items(&mut known)?;
         judged(or_else(known.tries, known.paths))?;
         Ok(known)
     }

@@ -5,6 +5,6 @@ use Rattle.tsa_profile.proofs.ground.Ground.alone.Goals as goal
 
 pub returns-then-not-is_alone : goal.returns-then-not-is_alone
 returns-then-not-is_alone c =
-    let k = c.args.known in
+    let k = c.args.known.now in
     let a = around_at c.args.self k c.args.inner.number c.args.inner.stable.now in
     not_alone k c.args.inner.number c.args.inner.name a ∙ ap (without_body k c.args.inner.number c.args.inner.name a) (sym c.if-not-is_alone.true)

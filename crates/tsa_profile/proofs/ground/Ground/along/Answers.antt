@@ -25,4 +25,4 @@ returns-clause-tries c =
     c.in_ok-judged.ensures.tries
     ∙ ap (λ a. length (filter (is_try_variable a) (points_along c.new-walk.result steps)))
     (c.around.ensures ∙ ap around (c.deref-2.ensures.value ∙ ap (λ m. m.attributes) c.known.view_is))
-    ∙ ap (λ w. length (filter (is_try_variable (around c.args.known.attributes)) (points_along w steps))) (c.new-walk.ensures ∙ ap (λ m. walk m.here []) c.known.view_is)
+    ∙ ap (λ w. length (filter (is_try_variable (around c.args.known.now.attributes)) (points_along w steps))) (c.new-walk.ensures ∙ ap (λ s. walk s []) c.in_ok-take_scope.ensures ∙ ap (λ m. walk m.here []) c.known.view_is)

@@ -19,13 +19,13 @@ use Rattle.tsa_profile.proofs.ground.Ground.body.Goals as goal
 
 pub returns-in_err-judged-clause-judged : goal.returns-in_err-judged-clause-judged
 returns-in_err-judged-clause-judged c =
-    let k = c.args.known in
+    let k = c.args.known.now in
     let body = stmt_shapes c.args.body.now in
     let inner = c.args.inner in
     let a = around_at c.args.self k inner.number inner.stable.now in
     let steps = ap (map step_shape) c.deref.ensures.value ∙ c.in_ok-steps.ensures in
     let failure =
-    c.in_ok-known.ensures.failure
+    c.in_ok-found.ensures.failure
     ∙ ap (λ s. first (points_premises a (points_along (walk k.here []) s))) steps
     ∙ failure_along a k.here body inner.close in
     let p = err_from_is_err_and c.from_residual-in_err-judged.result c.from_residual-in_err-judged.ensures.1 in
@@ -33,38 +33,38 @@ returns-in_err-judged-clause-judged c =
 
 pub returns-clause-judged : goal.returns-clause-judged
 returns-clause-judged c =
-    let k = c.args.known in
+    let k = c.args.known.now in
     let body = stmt_shapes c.args.body.now in
     let inner = c.args.inner in
     let a = around_at c.args.self k inner.number inner.stable.now in
     let steps = ap (map step_shape) c.deref.ensures.value ∙ c.in_ok-steps.ensures in
     let failure =
-    c.in_ok-known.ensures.failure
+    c.in_ok-found.ensures.failure
     ∙ ap (λ s. first (points_premises a (points_along (walk k.here []) s))) steps
     ∙ failure_along a k.here body inner.close in
     judged_holds _ _ _ failure c.judged.ensures _ c.in_ok-judged.was
 
 pub returns-clause-found : goal.returns-clause-found
 returns-clause-found c =
-    let k = c.args.known in
+    let k = c.args.known.now in
     let body = stmt_shapes c.args.body.now in
     let inner = c.args.inner in
     let a = around_at c.args.self k inner.number inner.stable.now in
     let own = attributes_at k.attributes inner.number in
     let steps = ap (map step_shape) c.deref.ensures.value ∙ c.in_ok-steps.ensures in
-    let known = c.known-2.view_is ∙ c.in_ok-known.ensures.known in
+    let known = c.known-2.view_is ∙ c.in_ok-found.ensures.known in
     let tries =
-    c.in_ok-known.ensures.tries
+    c.in_ok-found.ensures.tries
     ∙ ap (λ s. length (filter (is_try_variable a) (points_along (walk k.here []) s))) steps
     ∙ tries_along a k.here body inner.close in
     let paths =
-    c.in_ok-known.ensures.paths
+    c.in_ok-found.ensures.paths
     ∙ ap (λ s. function_paths a own (points_along (walk k.here []) s)) steps
     ∙ paths_along a k.here body inner.close own in
     all_found k inner.number inner.name a (further (declared_in_all body) k.here) (placed_all k.here body) _
     (ap (λ m. m.here) known ∙ ap (λ s. (walk_behind (walk k.here []) s).here) steps ∙ scope_behind a k.here body inner.close)
     (ap (λ m. m.attributes) known)
-    (c.set_paths.ensures ∙ ap (λ m. slice_set m.tables inner.number c.in_ok-known.field-0.judged.paths) known ∙ ap (slice_set k.tables inner.number) paths)
+    (c.set_paths.ensures ∙ ap (λ m. slice_set m.tables inner.number c.in_ok-found.found.paths) known ∙ ap (slice_set k.tables inner.number) paths)
     (c.or_else-known-inside.ensures ∙ ap (λ m. or_else m.tries c.limit-passes_tries.result) known
     ∙ ap (or_else k.tries) (c.limit-passes_tries.ensures ∙ ap (λ n. first (premise LM7 inner.name (nat_lt 48 n) ∷ [])) tries))
     (c.or_else-known-inside-2.ensures ∙ ap (λ m. or_else m.paths c.limit-passes_paths.result) known

@@ -36,16 +36,16 @@ item-requires-clause-typed c =
     let at_i = drop-cons items i x c.each-test.true ∙ ap (λ y. y ∷ drop (suc i) items) (sym c.item-item.is) in
     item_typed c.each.known.here items i x at_i c.each.invariant.typed
 
-pub returns-in_err-known-clause-judged : goal.returns-in_err-known-clause-judged
-returns-in_err-known-clause-judged c =
+pub returns-in_err-item-clause-judged : goal.returns-in_err-item-clause-judged
+returns-in_err-item-clause-judged c =
     let items = c.args.self.items.now in
     let i = c.each.item-index in
     let x = c.item-item.result in
     let at_i = drop-cons items i x c.each-test.true ∙ ap (λ y. y ∷ drop (suc i) items) (sym c.item-item.is) in
     let p = err_from_is_err_and c.from_residual.result c.from_residual.ensures.1 in
     rw (p.1, p.2)
-    (judges_err _ _ c.in_err-known.field-0.0 c.each.invariant.judged
-    (items_stop (unit_at c.args.self) items i c.each.known x at_i c.in_err-known.field-0.0 c.in_err-known.ensures.judged))
+    (judges_err _ _ c.in_err-item.field-0.0 c.each.invariant.judged
+    (items_stop (unit_at c.args.self) items i c.each.known x at_i c.in_err-item.field-0.0 c.in_err-item.ensures.judged))
 
 pub each-preserved : goal.each-preserved
 each-preserved c =
@@ -55,8 +55,8 @@ each-preserved c =
     let x = c.item-item.result in
     let at_i = drop-cons items i x c.each-test.true ∙ ap (λ y. y ∷ drop (suc i) items) (sym c.item-item.is) in
     let k = c.each.known in
-    let next = c.in_ok-known.known in
-    let one = c.in_ok-known.ensures in
+    let next = c.item.new.known in
+    let one = c.in_ok-item.ensures in
     record {
       outside = ap (λ m. m.here.owned) one.behind ∙ owned_kept k.here (item_shape x) ∙ c.each.invariant.outside;
       typed = typed_next k.here items i x at_i next.here (ap (λ m. m.here) one.behind) c.each.invariant.typed;

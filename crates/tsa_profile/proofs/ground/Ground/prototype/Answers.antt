@@ -12,7 +12,7 @@ use Rattle.tsa_profile.proofs.ground.Ground.prototype.Goals as goal
 pub returns-clause-behind : goal.returns-clause-behind
 returns-clause-behind c =
     let u = unit_at c.args.self in
-    let k = c.args.known in
+    let k = c.args.known.now in
     let head = head_shape c.args.head.now in
     let s = c.deref-2.result.now in
     let n = c.in_ok-number.number in
@@ -21,10 +21,10 @@ returns-clause-behind c =
     let stable = ap stable_in c.deref-2.ensures.value ∙ c.in_ok-stable.ensures in
     let inside = c.in_ok-outside.ensures.entered ∙ ap (entered u k head) c.requires.body in
     let outside = c.in_ok-outside.ensures.outside ∙ ap (outside_of k.here head) c.requires.body in
-    let found = c.in_ok-after.after in
-    let told = c.in_ok-after.ensures ∙ ap (without_body e n head.name.span (around_at c.args.self e n s)) (c.is_alone-is_alone.ensures ∙ ap (λ m. is_alone u m.here head) c.known.view_is) in
+    let found = c.alone.new.known in
+    let told = c.in_ok-alone.ensures ∙ ap (without_body e n head.name.span (around_at c.args.self e n s)) (c.is_alone-is_alone.ensures ∙ ap (λ m. is_alone u m.here head) c.known.view_is) in
     alone_found c.args.self k head n s number stable e inside found _ told
-    (ap (with_scope c.leave.new.scope) c.after.view_is
+    (ap (with_scope c.leave.new.scope) c.known-2.view_is
     ∙ ap (λ h. with_scope h found)
     (c.leave.ensures.behind k.here head false outside
-    (ap (λ m. with_locals 0 m.here) c.after.view_is ∙ inside_alone c.args.self k head n s number stable e inside found told)))
+    (ap (λ m. with_locals 0 m.here) c.known-2.view_is ∙ inside_alone c.args.self k head n s number stable e inside found told)))
