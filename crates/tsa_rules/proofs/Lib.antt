@@ -1,0 +1,15 @@
+pub mod Tests
+pub mod Fitting
+pub mod Carried
+pub mod Possible
+pub mod Worked
+pub mod WorkedTests
+pub mod WorkedRules
+pub mod WorkedWalks
+pub mod WorkedLocks
+pub mod OneStatus
+pub mod Unnamed
+pub mod Sheets
+pub mod WorkedSheets
+pub mod WorkedOrder
+pub mod KeptPrograms

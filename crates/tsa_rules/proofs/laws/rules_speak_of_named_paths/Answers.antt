@@ -1,0 +1,5 @@
+use Rattle.tsa_rules.proofs.Unnamed as unnamed
+use Rattle.tsa_rules.proofs.laws.rules_speak_of_named_paths.Goals as goal
+
+pub returns : goal.returns
+returns c = unnamed.rules_speak_of_named_paths
