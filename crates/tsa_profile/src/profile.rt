@@ -93,6 +93,7 @@ pub fn fit_with<'a>(
     requires placed { placed_in (item_shapes unit.unit.now.items.now) ≡ Ok places.now }
     ensures judged { Judges (refusal_with outside.now (item_shapes unit.entry.unit.now.items.now)) (forget result) }
     ensures gives { IfOk result (λ fit. fit.typed ≡ unit.entry) }
+    ensures outside { IfOk result (λ fit. fit.outside.items ≡ outside.now) }
 {
     let kept = copied(alloc, outside)?;
     let items = unit.unit().items;
@@ -117,6 +118,7 @@ pub fn fit<'a>(alloc: Global, unit: Typed<'a>, places: &Places) -> Result<Fit<'a
     requires placed { placed_in (item_shapes unit.unit.now.items.now) ≡ Ok places.now }
     ensures judged { Judges (refusal_of_profile (item_shapes unit.entry.unit.now.items.now)) (forget result) }
     ensures gives { IfOk result (λ fit. fit.typed ≡ unit.entry) }
+    ensures outside { IfOk result (λ fit. fit.outside.items ≡ []) }
 {
     fit_with(alloc, unit, places, &[])
 }
