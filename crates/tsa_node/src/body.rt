@@ -1,7 +1,7 @@
 //! Names, members and elements as a body sees them, each with its guards (C11 6.5).
-ghost use Rattle.std.specs.Prelude.{◌≡◌, true, ◌++◌, length, Some, slice_get, option_map, option_and_then, IfOk, OnOk};
+ghost use Rattle.std.specs.Prelude.{◌≡◌, true, ◌++◌, length, Some, None, slice_get, option_map, option_and_then, IfOk, OnOk};
 ghost use Rattle.tsa_core.specs.Meanings.{of_name};
-ghost use Rattle.tsa_core.specs.Uses.{field_guards, guards_owned, member_guards, name_guards as spec_name_guards};
+ghost use Rattle.tsa_core.specs.Uses.{guards_owned, member_guards, name_guards as spec_name_guards};
 ghost use Rattle.tsa_layout.specs.Calls.{part_guards};
 ghost use Rattle.tsa_layout.specs.Layouts.{structure_at};
 ghost use Rattle.tsa_way.specs.Ways.{from};
@@ -11,6 +11,7 @@ ghost use Rattle.tsa_tree.specs.expressions.Shapes.{shape};
 ghost use Rattle.tsa_tree.specs.types.Scopes.{known_in};
 ghost use Rattle.tsa_tree.specs.types.Operands.{element_type as spec_element_type};
 ghost use Rattle.tsa_way.specs.LockPaths.{stable_in, name_way, element_step};
+ghost use Rattle.tsa_node.specs.Members.{found_guards};
 ghost use Rattle.tsa_seen.specs.Seen.{a_value, member_of, thing_of};
 
 use tsa_base::NoMemory;
@@ -108,19 +109,19 @@ impl<'w, 'a> Body<'w, 'a> {
         self.sight.scope.find_member(structure?, name)
     }
 
-    /// Adds the guards that are declared with a member.
+    /// Adds the guards that are declared with a member that was looked up.
     fn add_guards(
         self,
         guards: &mut Vec<Option<Path>>,
         owner: Owner<'_>,
-        name: &[u8],
+        member: Option<(usize, ThingType)>,
     ) -> Result<(), NoMemory>
-        ensures { OnOk result (guards.new.items ≡ guards.old.items ++ field_guards self.entry.layout.now self.entry.sight.scope.now (option_map (λ path. path.now) owner.entry.path) name.now owner.entry.structure) }
+        ensures { OnOk result (guards.new.items ≡ guards.old.items ++ found_guards self.entry.layout.now (option_map (λ path. path.now) owner.entry.path) owner.entry.structure member) }
     {
         let Some(structure) = owner.structure else {
             return Ok(());
         };
-        let Some((number, _)) = self.sight.scope.find_member(structure, name) else {
+        let Some((number, _)) = member else {
             return Ok(());
         };
         self.add_member(guards, owner.path, Member { structure, number })
@@ -133,26 +134,40 @@ impl<'w, 'a> Body<'w, 'a> {
         let entry = self.sight.scope.known(name);
         Ok(Seen {
             thing: named_thing(entry),
-            led: self.sight.name(name)?,
+            led: self.sight.known_name(name, entry)?,
+            guards: self.name_guards(name, entry)?,
+        })
+    }
+
+    /// What a name is, where it isn't asked where that leads.
+    pub fn name_value(self, name: &[u8]) -> Result<Seen, NoMemory>
+        ensures { IfOk result (λ seen. seen ≡ record { thing = thing_of (of_name (known_in self.entry.sight.scope.now name.now)); led = None; guards = spec_name_guards self.entry.layout.now self.entry.sight.scope.now name.now (known_in self.entry.sight.scope.now name.now) }) }
+    {
+        let entry = self.sight.scope.known(name);
+        Ok(Seen {
+            thing: named_thing(entry),
+            led: None,
             guards: self.name_guards(name, entry)?,
         })
     }
 
     /// A member of what was seen, as a place: its guards come after those on the way to it.
+    #[tactic(auto, using(crate::proofs::Members::found_are))]
     pub fn field(self, base: Seen, name: &[u8], arrow: bool) -> Result<Seen, NoMemory>
         ensures { IfOk result (λ seen. seen ≡ member_of self.entry.layout.now self.entry.sight.scope.now arrow name.now base) }
     {
         let expression = base.thing.expression;
         let structure = owner(arrow, expression);
+        let member = self.find_member(structure, name);
         let led = base.led;
         let mut guards = base.guards;
         let owner = Owner {
             path: path_of(&led),
             structure,
         };
-        self.add_guards(&mut guards, owner, name)?;
+        self.add_guards(&mut guards, owner, member)?;
         Ok(Seen {
-            thing: member_thing(arrow, expression, self.find_member(structure, name)),
+            thing: member_thing(arrow, expression, member),
             led: self.sight.member_of(led, name)?,
             guards,
         })

@@ -160,7 +160,14 @@ impl<'w, 'a> Sight<'w, 'a> {
     pub fn name(self, name: &[u8]) -> Result<Option<Led>, NoMemory>
         ensures { IfOk result (λ led. led ≡ option_and_then (name_way (stable_in self.entry.stable.now) self.entry.scope.now name.now) (known_in self.entry.scope.now name.now)) }
     {
-        let Some(entry) = self.scope.known(name) else {
+        self.known_name(name, self.scope.known(name))
+    }
+
+    /// The same of a name that was looked up.
+    pub fn known_name(self, name: &[u8], entry: Option<Entry>) -> Result<Option<Led>, NoMemory>
+        ensures { IfOk result (λ led. led ≡ option_and_then (name_way (stable_in self.entry.stable.now) self.entry.scope.now name.now) entry) }
+    {
+        let Some(entry) = entry else {
             return Ok(None);
         };
         match entry.meaning {
