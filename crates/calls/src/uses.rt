@@ -16,7 +16,7 @@ use tsa_tree::kind::Kind;
 use tsa_tree::meaning::{Entry, Meaning};
 use tsa_tree::stmt::Action;
 use tsa_unit::parse;
-use tsa_use::{Access, Body, NamedLocks, Standing, reads, writes};
+use tsa_use::{Access, Body, Footprint, NamedLocks, Standing, reads, writes};
 use tsa_way::{Path, PathStep, Root, Sight};
 
 // The local i changes, and so may what the global n holds: b[n] has no path, and neither has a guard of its members.
@@ -128,9 +128,9 @@ fn put_value(
     body: Body<'_, '_>,
     expr: &Expr<'_>,
 ) -> Result<(), Fail> {
-    let mut found = Vec::new(*out.allocator());
+    let mut found = Footprint::new(*out.allocator());
     reads(body, &mut found, Standing::Whole, expr)?;
-    put_accesses(out, shown, &found)?;
+    put_accesses(out, shown, found.accesses())?;
     for path in &body.argument_paths(expr)? {
         put_way(out, shown, b"argument ", path)?;
     }
@@ -174,9 +174,9 @@ fn put_action(
         Action::Declare(_) => put(out, b"declare "),
         Action::Assign { left, op, right } => {
             put(out, b"assign ")?;
-            let mut found = Vec::new(*out.allocator());
+            let mut found = Footprint::new(*out.allocator());
             writes(body, &mut found, *op, left)?;
-            put_accesses(out, shown, &found)?;
+            put_accesses(out, shown, found.accesses())?;
             put_value(out, shown, body, right)
         }
         Action::Eval(expr) => {

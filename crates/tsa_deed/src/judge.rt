@@ -100,9 +100,9 @@ impl<'w, 'a> Spot<'w, 'a> {
         ensures paths { OnOk result (gathered.new ≡ with_ways gathered.old (points_ways (around_of self.entry.around) (placed self.entry.scope.now (action_shape point.now.action) point.now.span ∷ []))) }
         ensures failure { IfOk result (λ failure. failure ≡ first (points_premises (around_of self.entry.around) (placed self.entry.scope.now (action_shape point.now.action) point.now.span ∷ []))) }
     {
-        let mut found = Vec::new(self.scope.allocator());
+        let mut found = gathered.take_room();
         let failure = self.deed_failure(&mut found, point)?;
-        gathered.put_accesses(self.scope.allocator(), &found)?;
+        gathered.put_footprint(found)?;
         self.put_calls(gathered, &point.action)?;
         Ok(failure)
     }

@@ -6,16 +6,20 @@ ghost use Rattle.tsa_path.specs.Substitution.{substituted};
 
 use std::alloc::Global;
 use std::marker::Model;
+use std::mem::replace;
 use tsa_base::NoMemory;
 use tsa_path::{InternRefusal, PathTable, substitute};
-use tsa_seen::{Access, NamedLock};
+use tsa_seen::{Access, Footprint, NamedLock};
 use tsa_way::Path;
 
-/// Paths, each once, and whether there was no room for one. Contracts see the list of them, or none where there wasn't.
+/// Paths, each once, whether there was no room for one, and room for what a point reads and writes. Contracts see the list of the paths, or none where
+/// there was no room.
 #[derive(Drop)]
 pub struct Gathered {
+    alloc: Global,
     table: PathTable,
     is_full: bool,
+    room: Footprint,
 }
 
 impl Model for Gathered {
@@ -64,8 +68,10 @@ impl Gathered {
         ensures { result ≡ Some [] }
     {
         Gathered {
+            alloc,
             table: PathTable::new(alloc),
             is_full: false,
+            room: Footprint::new(alloc),
         }
     }
 
@@ -120,12 +126,31 @@ impl Gathered {
     }
 
     /// Those of the guards of accesses.
-    pub fn put_accesses(&mut self, alloc: Global, found: &[Access]) -> Result<(), NoMemory>
+    fn put_accesses(&mut self, alloc: Global, found: &[Access]) -> Result<(), NoMemory>
         ensures { OnOk result (self.new ≡ with_guards self.old found.now) }
     {
         'each: for access in found {
             self.put_access(alloc, access)?;
         }
+        Ok(())
+    }
+
+    /// The room, in which there is nothing.
+    pub fn take_room(&mut self) -> Footprint
+        ensures room { result ≡ [] }
+        ensures kept { self.new ≡ self.old }
+    {
+        let mut room = replace(&mut self.room, Footprint::new(self.alloc));
+        room.clear();
+        room
+    }
+
+    /// Those of the guards of what a point reads and writes, of which the room is kept.
+    pub fn put_footprint(&mut self, found: Footprint) -> Result<(), NoMemory>
+        ensures { OnOk result (self.new ≡ with_guards self.old found) }
+    {
+        self.put_accesses(self.alloc, found.accesses())?;
+        let _none = replace(&mut self.room, found);
         Ok(())
     }
 

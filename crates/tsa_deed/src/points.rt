@@ -18,7 +18,7 @@ use tsa_base::{NoMemory, Span};
 use tsa_layout::{Layout, declared_thing};
 use tsa_node::is_truth;
 use tsa_scope::Scope;
-use tsa_seen::{Access, Failure, NamedLocks, ProfileCode, Standing};
+use tsa_seen::{Failure, Footprint, NamedLocks, ProfileCode, Standing};
 use tsa_tree::decl::{Decl, Init};
 use tsa_tree::expr::{BinaryOp, Expr};
 use tsa_tree::kind::{Kind, ThingType};
@@ -124,11 +124,11 @@ impl<'w, 'a> Spot<'w, 'a> {
     /// Adds the cells that are read for the value of an expression, and tells the first premise that fails in it.
     fn value(
         self,
-        found: &mut Vec<Access>,
+        found: &mut Footprint,
         standing: Standing,
         expr: &Expr<'_>,
     ) -> Result<Option<Failure>, NoMemory>
-        ensures cells { OnOk result (found.new.items ≡ found.old.items ++ value_accesses (around_of self.entry.around) self.entry.scope.now (shape expr.now)) }
+        ensures cells { OnOk result (found.new ≡ found.old ++ value_accesses (around_of self.entry.around) self.entry.scope.now (shape expr.now)) }
         ensures failure { IfOk result (λ failure. failure ≡ first (expression (view_at (around_of self.entry.around) self.entry.scope.now) standing (shape expr.now))) }
     {
         reads(self.body(), found, standing, expr)
@@ -137,11 +137,11 @@ impl<'w, 'a> Spot<'w, 'a> {
     /// The same for what an assignment reads and writes for its left side.
     fn left_side(
         self,
-        found: &mut Vec<Access>,
+        found: &mut Footprint,
         op: Option<BinaryOp>,
         left: &Expr<'_>,
     ) -> Result<Option<Failure>, NoMemory>
-        ensures cells { OnOk result (found.new.items ≡ found.old.items ++ left_accesses (around_of self.entry.around) self.entry.scope.now op (shape left.now)) }
+        ensures cells { OnOk result (found.new ≡ found.old ++ left_accesses (around_of self.entry.around) self.entry.scope.now op (shape left.now)) }
         ensures failure { IfOk result (λ failure. failure ≡ first (expression (view_at (around_of self.entry.around) self.entry.scope.now) Inside (shape left.now))) }
     {
         writes(self.body(), found, op, left)
@@ -151,11 +151,11 @@ impl<'w, 'a> Spot<'w, 'a> {
     #[tactic(auto, using(crate::proofs::Firsts::firsts))]
     fn initial(
         self,
-        found: &mut Vec<Access>,
+        found: &mut Footprint,
         thing: ThingType,
         init: &Option<Init<'_>>,
     ) -> Result<Option<Failure>, NoMemory>
-        ensures cells { OnOk result (found.new.items ≡ found.old.items ++ init_accesses (around_of self.entry.around) self.entry.scope.now (option_map init_shape init.now)) }
+        ensures cells { OnOk result (found.new ≡ found.old ++ init_accesses (around_of self.entry.around) self.entry.scope.now (option_map init_shape init.now)) }
         ensures failure { IfOk result (λ failure. failure ≡ first (local_init (around_of self.entry.around) self.entry.scope.now thing (option_map init_shape init.now))) }
     {
         let Some(init) = init else {
@@ -174,11 +174,11 @@ impl<'w, 'a> Spot<'w, 'a> {
     #[tactic(auto, using(crate::proofs::Firsts::firsts))]
     fn declaration(
         self,
-        found: &mut Vec<Access>,
+        found: &mut Footprint,
         span: Span,
         decl: &Decl<'_>,
     ) -> Result<Option<Failure>, NoMemory>
-        ensures cells { OnOk result (found.new.items ≡ found.old.items ++ deed_accesses (around_of self.entry.around) self.entry.scope.now (declares (decl_shape decl.now))) }
+        ensures cells { OnOk result (found.new ≡ found.old ++ deed_accesses (around_of self.entry.around) self.entry.scope.now (declares (decl_shape decl.now))) }
         ensures failure { IfOk result (λ failure. failure ≡ first (deed_premises (around_of self.entry.around) self.entry.scope.now span (declares (decl_shape decl.now)))) }
     {
         let thing = declared_thing(self.scope, &decl.ctype)?;
@@ -202,11 +202,11 @@ impl<'w, 'a> Spot<'w, 'a> {
     #[tactic(auto, using(crate::proofs::Firsts::firsts))]
     fn given_back(
         self,
-        found: &mut Vec<Access>,
+        found: &mut Footprint,
         span: Span,
         expr: &Expr<'_>,
     ) -> Result<Option<Failure>, NoMemory>
-        ensures cells { OnOk result (found.new.items ≡ found.old.items ++ deed_accesses (around_of self.entry.around) self.entry.scope.now (returns (Some (shape expr.now)))) }
+        ensures cells { OnOk result (found.new ≡ found.old ++ deed_accesses (around_of self.entry.around) self.entry.scope.now (returns (Some (shape expr.now)))) }
         ensures failure { IfOk result (λ failure. failure ≡ first (deed_premises (around_of self.entry.around) self.entry.scope.now span (returns (Some (shape expr.now))))) }
     {
         let misfit = failure_if(self.value_misfits(expr)?, ProfileCode::PF7, span);
@@ -218,10 +218,10 @@ impl<'w, 'a> Spot<'w, 'a> {
     #[tactic(auto, using(crate::proofs::Firsts::firsts))]
     pub fn deed_failure(
         self,
-        found: &mut Vec<Access>,
+        found: &mut Footprint,
         point: &Point<'_>,
     ) -> Result<Option<Failure>, NoMemory>
-        ensures cells { OnOk result (found.new.items ≡ found.old.items ++ deed_accesses (around_of self.entry.around) self.entry.scope.now (action_shape point.now.action)) }
+        ensures cells { OnOk result (found.new ≡ found.old ++ deed_accesses (around_of self.entry.around) self.entry.scope.now (action_shape point.now.action)) }
         ensures failure { IfOk result (λ failure. failure ≡ first (deed_premises (around_of self.entry.around) self.entry.scope.now point.now.span (action_shape point.now.action))) }
     {
         match &point.action {

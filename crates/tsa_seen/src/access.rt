@@ -27,7 +27,7 @@ impl Model for Access {
 /// Accesses that are found from the last to the first. Contracts see them in order of the text.
 #[derive(Drop)]
 pub struct Accesses {
-    from_last: Vec<Access>,
+    pub(crate) from_last: Vec<Access>,
 }
 
 impl Model for Accesses {
@@ -37,16 +37,6 @@ impl Model for Accesses {
     ghost Value = { List Access };
 
     ghost view = { λ all. reverse all.from_last.items };
-}
-
-/// Moves accesses behind others, the last one first.
-fn move_from_last(mut from_last: Vec<Access>, found: &mut Vec<Access>) -> Result<(), NoMemory>
-    ensures { OnOk result (found.new.items ≡ found.old.items ++ reverse from_last.items) }
-{
-    'each: while let Some(access) = from_last.pop() {
-        found.push(access)?;
-    }
-    Ok(())
 }
 
 impl Accesses {
@@ -76,12 +66,5 @@ impl Accesses {
         } else {
             Ok(())
         }
-    }
-
-    /// Moves all behind others.
-    pub fn move_behind(self, found: &mut Vec<Access>) -> Result<(), NoMemory>
-        ensures { OnOk result (found.new.items ≡ found.old.items ++ self) }
-    {
-        move_from_last(self.from_last, found)
     }
 }

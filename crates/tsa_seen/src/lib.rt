@@ -3,6 +3,7 @@
 #![tactic(auto)]
 
 mod access;
+mod footprint;
 mod guards;
 mod locks;
 mod premise;
@@ -12,6 +13,7 @@ mod thing;
 mod uses;
 
 pub use access::{Access, Accesses};
+pub use footprint::Footprint;
 pub use guards::{add_owned, copies};
 pub use locks::{NamedLock, NamedLocks, are_some, lack_a_path};
 pub use premise::{Failure, ProfileCode};

@@ -25,6 +25,16 @@ impl Uses {
         }
     }
 
+    /// None so far, in some room.
+    pub fn within(room: Accesses) -> Uses
+        ensures { result ≡ record { accesses = room; failure = None } }
+    {
+        Uses {
+            accesses: room,
+            failure: None,
+        }
+    }
+
     /// What fails at a node, where something does, comes before what was found.
     pub fn tell(&mut self, code: Option<ProfileCode>, span: Span)
         ensures accesses { self.new.accesses ≡ self.old.accesses }

@@ -33,6 +33,7 @@ use Rattle.tsa_seen.specs.Seen.{Seen, seen_of}
 use Rattle.tsa_seen.specs.Standing.{beside, may_call, may_try, under_not}
 use Rattle.tsa_node.specs.Told.{call_code, code_if, side, sides_code}
 use Rattle.tsa_use.specs.Failures.{failing, failing_arguments}
+use Rattle.tsa_use.specs.Values.{name_code, unled}
 use Rattle.tsa_use.proofs.Operands.{span_is}
 
 or_else_or_else : (a b c : Option Failure) → or_else (or_else a b) c ≡ or_else a (or_else b c)
@@ -177,6 +178,10 @@ module _ (v : View) (s : Standing) where
   prefix_alike prefix.Not inner span = refl
   prefix_alike prefix.Flip inner span = refl
 
+  pub number_wanted : (n : ℕ) (u : Bool) (span : Span) (later : Option Failure) → failing v s true (number n u span) later ≡ later
+  unfolding failing parts first
+  number_wanted n u span later = refl
+
   binary_alike : (o : BinaryOp) (left right : Expression) (span : Span) → own v s false (binary o left right span) ≡ own v s true (binary o left right span)
   binary_alike op.Equal left right span = refl
   binary_alike op.Unequal left right span = refl
@@ -211,6 +216,14 @@ module _ (v : View) (s : Standing) where
   cell_read true true lacks e = refl
   cell_read true false lacks e = refl
 
+  -- the same of a name
+  pub named_wanted : (name : Identifier) (span : Span) (later : Option Failure)
+      → failing v s true (named name span) later ≡ or_else (told span (name_code v.is_run v.layout v.here name.text)) later
+  unfolding failing parts first access_guards meaning name_code
+  named_wanted name span later =
+      sym (ap (λ b. or_else (told span (code_if b PF2)) later) (cell_read v.is_run (is_loaded (meaning v.here (named name span))) (list_any is_none (guards v (named name span))) (named name span))
+      ∙ wanted (named name span) later)
+
   -- the same of a node by what was seen of it
   pub value_fails : (p : Bool) (x : Expr) (later : Option Failure)
       → or_else (told x.span (code_if ((v.is_run && ((seen_of v.layout v.stable v.here p (shape x)).thing.is_place && is_cell (seen_of v.layout v.stable v.here p (shape x)).thing.expression.thing))
@@ -237,7 +250,7 @@ abbrev cell_code : View → Seen → Option ProfileCode
 cell_code v y = code_if ((v.is_run && (y.thing.is_place && is_cell y.thing.expression.thing)) && list_any is_none y.guards) PF2
 
 pub operand_fails : (v : View) (s : Standing) (p : Bool) (x : Expr) (seen : Seen) (code : Option ProfileCode) (later inner after : Option Failure)
-    → seen ≡ seen_of v.layout v.stable v.here p (shape x)
+    → unled seen ≡ unled (seen_of v.layout v.stable v.here p (shape x))
     → code ≡ code_if ((v.is_run && (seen.thing.is_place && is_cell seen.thing.expression.thing)) && list_any is_none seen.guards) PF2
     → inner ≡ failing v s false (shape x) later → after ≡ or_else (told x.span code) inner → after ≡ failing v s true (shape x) later
 operand_fails v s p x seen code later inner after saw coded inside is =
@@ -247,7 +260,7 @@ operand_fails v s p x seen code later inner after saw coded inside is =
     ∙ value_fails v s p x later
 
 pub left_fails : (v : View) (s : Standing) (p : Bool) (x : Expr) (seen : Seen) (code : Option ProfileCode) (start inner after : Option Failure) → s ≡ Inside
-    → seen ≡ seen_of v.layout v.stable v.here p (shape x)
+    → unled seen ≡ unled (seen_of v.layout v.stable v.here p (shape x))
     → code ≡ code_if ((v.is_run && (seen.thing.is_place && is_cell seen.thing.expression.thing)) && list_any is_none seen.guards) PF2
     → start ≡ None → inner ≡ failing v s false (shape x) start → after ≡ or_else (told x.span code) inner → after ≡ first (expression v Inside (shape x))
 left_fails v s p x seen code start inner after stands saw coded nothing inside is =
@@ -290,5 +303,8 @@ call_inside_fails v s x name args function code later inside after is known code
     ∙ ap (λ c. or_else (told x.span c) inside) (coded ∙ ap (call_code v s (shapes args.now)) known)
     ∙ ap (or_else (told x.span (call_code v s (shapes args.now) (option_and_then (λ e. function_of e.meaning) (known_in v.here name.text.now))))) arguments_fail
     ∙ sym (ap (λ e. failing v s false e later) (call_at x name args is) ∙ call_fails v s (name_shape name) (shapes args.now) x.span later)
+
+-- numbers and names whose values are wanted
+pub ruleset values_fail = (number_wanted, named_wanted)
 
 pub ruleset fails = (number_fails, null_fails, named_fails, call_fails, address_fails, follow_fails, minus_fails, flip_fails, not_fails, binary_fails, field_fails, index_fails)

@@ -16,6 +16,7 @@ use Rattle.tsa_core.specs.Cells.{argument_cells, cells_read, inner_cells, own_ce
 use Rattle.tsa_core.specs.Meanings.{is_loaded, meaning}
 use Rattle.tsa_seen.specs.Accesses.{Access}
 use Rattle.tsa_use.specs.Accesses.{access, accesses, before, span_of, written}
+use Rattle.tsa_use.specs.Values.{unled}
 use Rattle.tsa_seen.specs.Seen.{Seen, own_access, seen_of}
 use Rattle.tsa_use.proofs.Walk.{before_append, before_nothing}
 
@@ -89,7 +90,7 @@ module _ (l : Layout) (stable : ℕ → Bool) (here : Scope) where
 
   -- the same by what the accesses were made of
   pub left_is : (p : Bool) (x : Expr) (o : Option BinaryOp) (s : Seen) (start cells own : List Access) → o ≡ None
-      → s ≡ seen_of l stable here p (shape x) → start ≡ [] → cells ≡ before l stable here (inner_cells here (shape x)) start
+      → unled s ≡ unled (seen_of l stable here p (shape x)) → start ≡ [] → cells ≡ before l stable here (inner_cells here (shape x)) start
       → own ≡ own_access s.thing (record { span = x.span; is_write = true; guards = s.guards }) ++ cells → own ≡ written l stable here o (shape x)
   left_is p x o s start cells own none seen nothing inside is =
       is
@@ -100,7 +101,7 @@ module _ (l : Layout) (stable : ℕ → Bool) (here : Scope) where
       ∙ ap (λ o. written l stable here o (shape x)) (sym none)
 
   pub joined_is : (p : Bool) (x : Expr) (o : Option BinaryOp) (b : BinaryOp) (s : Seen) (start cells own whole : List Access) → o ≡ Some b
-      → s ≡ seen_of l stable here p (shape x) → start ≡ [] → cells ≡ before l stable here (inner_cells here (shape x)) start
+      → unled s ≡ unled (seen_of l stable here p (shape x)) → start ≡ [] → cells ≡ before l stable here (inner_cells here (shape x)) start
       → own ≡ own_access s.thing (record { span = x.span; is_write = true; guards = s.guards }) ++ cells
       → whole ≡ own_access s.thing (record { span = x.span; is_write = false; guards = s.guards }) ++ own → whole ≡ written l stable here o (shape x)
   joined_is p x o b s start cells own whole some seen nothing inside is all =

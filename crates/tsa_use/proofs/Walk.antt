@@ -1,5 +1,5 @@
 -- What the walk over an expression comes to at each node.
-use Rattle.std.proofs.Common.{◌≡◌, ◌∙◌, ℕ, Bool, true, false, not, List, [], ◌++◌, Option, Some, None, map, refl, ap, if◌then◌else◌}
+use Rattle.std.proofs.Common.{◌≡◌, ◌∙◌, ℕ, Bool, true, false, not, List, [], ◌∷◌, ◌++◌, Option, Some, None, map, refl, ap, if◌then◌else◌}
 use Rattle.std.specs.Prelude.{option_and_then}
 use Rattle.std.proofs.lemmas.List.{append_assoc, map-append}
 use Rattle.tsa_base.specs.declared.token.Span.{Span}
@@ -22,11 +22,12 @@ use Rattle.tsa_tree.specs.types.Types.{value}
 use Rattle.tsa_way.specs.LockPaths.{element_step, leads, name_way}
 use Rattle.tsa_layout.specs.Calls.{Layout}
 use Rattle.tsa_core.specs.Cells.{argument_cells, cells_read, inner_cells}
-use Rattle.tsa_core.specs.Meanings.{is_place, meaning, of_call, of_name, of_prefix, operands, to_member}
+use Rattle.tsa_core.specs.Meanings.{is_loaded, is_place, meaning, of_call, of_name, of_prefix, operands, to_member}
 use Rattle.tsa_core.specs.Terms.{Sense}
 use Rattle.tsa_core.specs.Uses.{access_guards, name_guards}
 use Rattle.tsa_seen.specs.Accesses.{Access}
 use Rattle.tsa_use.specs.Accesses.{access, accesses, before}
+use Rattle.tsa_use.specs.Values.{name_read}
 use Rattle.tsa_seen.specs.Seen.{a_value, behind, cells_behind, loaded, meant_as, member_of, seen_of, thing_of, typed, value_of}
 
 -- no operator gives a place
@@ -154,6 +155,29 @@ module _ (l : Layout) (stable : ℕ → Bool) (here : Scope) where
       ap (λ all. all ++ others) (map-append (access l stable here false) xs ys)
       ∙ append_assoc (map (access l stable here false) xs) (map (access l stable here false) ys) others
 
+  pub number_is : (n : ℕ) (u : Bool) (span : Span) → (meaning here (number n u span)).type ≡ number_type n u
+  unfolding meaning
+  number_is n u span = refl
+
+  pub number_read : (n : ℕ) (u : Bool) (span : Span) (others : List Access) → before l stable here (cells_read here (number n u span)) others ≡ others
+  unfolding meaning inner_cells
+  number_read n u span others = before_nothing others
+
+  -- the value of a name
+  pub named_type : (name : Identifier) (span : Span) → (meaning here (named name span)).type ≡ (thing_of (of_name (known_in here name.text))).expression
+  unfolding meaning
+  named_type name span = refl
+
+  read_if : (b : Bool) (e : Expression) (a : Access) (others : List Access) → access l stable here false e ≡ a
+      → map (access l stable here false) ((if b then e ∷ [] else []) ++ []) ++ others ≡ (if b then a ∷ [] else []) ++ others
+  read_if true e a others is = ap (λ a. a ∷ others) is
+  read_if false e a others is = refl
+
+  pub named_read : (name : Identifier) (span : Span) (others : List Access)
+      → before l stable here (cells_read here (named name span)) others ≡ name_read l here name.text span ++ others
+  unfolding before accesses inner_cells access_guards meaning name_read
+  named_read name span others = read_if (is_loaded (meaning here (named name span))) (named name span) _ others refl
+
   pub number_cells : (n : ℕ) (u : Bool) (span : Span) (others : List Access) → before l stable here (inner_cells here (number n u span)) others ≡ others
   unfolding inner_cells
   number_cells n u span others = before_nothing others
@@ -221,3 +245,6 @@ module _ (l : Layout) (stable : ℕ → Bool) (here : Scope) where
       ap (λ e. before l stable here (inner_cells here e) others) (call_at x callee args is) ∙ call_cells (name_shape callee) (shapes args.now) x.span others
 
 pub ruleset steps = (number_seen, null_seen, named_seen, call_seen, address_seen, follow_seen, minus_seen, not_seen, flip_seen, binary_seen, field_seen, index_seen, number_cells, null_cells, named_cells, call_cells, address_cells, follow_cells, minus_cells, not_cells, flip_cells, binary_cells, field_cells, index_cells)
+
+-- numbers and names whose values are used
+pub ruleset values = (number_is, number_read, named_type, named_read)

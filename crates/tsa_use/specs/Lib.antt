@@ -1,3 +1,4 @@
 pub mod Accesses
 pub mod Failures
 pub mod Laws
+pub mod Values

@@ -10,5 +10,5 @@ pub use laws::{
 };
 pub use place::{own_failure, place_failure};
 pub use tsa_node::Body;
-pub use tsa_seen::{Access, Failure, NamedLock, NamedLocks, ProfileCode, Standing};
+pub use tsa_seen::{Access, Failure, Footprint, NamedLock, NamedLocks, ProfileCode, Standing};
 pub use walking::{reads, writes};

@@ -1,16 +1,18 @@
 //! The walk over an expression (C11 6.5), from its last part to its first: the cells that are read, and the first premise of the profile that fails, since
 //! those of a node come before those of its parts. The recursion is as deep as the tree is high.
-ghost use Rattle.std.specs.Prelude.{◌≡◌, false, true, ◌++◌, IfOk, OnOk};
+ghost use Rattle.std.specs.Prelude.{◌≡◌, [], false, true, ◌++◌, IfOk, OnOk};
 ghost use Rattle.tsa_core.specs.Cells.{argument_cells, cells_read, inner_cells};
-ghost use Rattle.tsa_core.specs.Meanings.{meaning};
+ghost use Rattle.tsa_core.specs.Meanings.{meaning, of_name};
 ghost use Rattle.tsa_tree.specs.expressions.Shapes.{shape, shapes};
 ghost use Rattle.tsa_tree.specs.expressions.Syntax.{unary};
 ghost use Rattle.tsa_use.specs.Accesses.{before, reads as spec_reads, written};
 ghost use Rattle.tsa_seen.specs.declared.standing.Standing.TheVariants.{Inside};
 ghost use Rattle.tsa_node.specs.Expressions.{expression};
-ghost use Rattle.tsa_seen.specs.Premises.{first};
-ghost use Rattle.tsa_seen.specs.Seen.{behind, cells_behind, loaded, seen_of};
+ghost use Rattle.tsa_seen.specs.Premises.{first, or_else, told};
+ghost use Rattle.tsa_seen.specs.Seen.{behind, cells_behind, loaded, seen_of, thing_of};
+ghost use Rattle.tsa_tree.specs.types.Scopes.{known_in};
 ghost use Rattle.tsa_use.specs.Failures.{failing, failing_arguments};
+ghost use Rattle.tsa_use.specs.Values.{name_code, name_read, unled};
 ghost use Rattle.tsa_node.specs.Told.{view_of};
 ghost use Rattle.tsa_way.specs.LockPaths.{stable_in};
 
@@ -19,8 +21,8 @@ use tsa_node::{Body, code_if, operator_at};
 use tsa_operand::value;
 use tsa_resolve::number_type;
 use tsa_seen::{
-    Access, Failure, ProfileCode, Seen, Standing, Uses, are_some, binary_thing, called_thing,
-    prefix_thing, value_thing,
+    Accesses, Failure, Footprint, ProfileCode, Seen, Standing, Uses, are_some, binary_thing,
+    called_thing, prefix_thing, value_thing,
 };
 use tsa_tree::expr::{BinaryOp, Expr, ExprKind, UnaryOp};
 use tsa_tree::kind::{ExpressionType, Kind};
@@ -201,9 +203,27 @@ fn owner(
     }
 }
 
-/// The type of an expression whose value is used.
+/// The type of a name whose value is used: a cell that it stands for is read.
+#[tactic(auto, unfolding(crate::specs::Values::name_read, crate::specs::Values::name_code))]
+fn named_value(
+    body: Body<'_, '_>,
+    uses: &mut Uses,
+    name: &[u8],
+    span: Span,
+) -> Result<ExpressionType, NoMemory>
+    ensures value { IfOk result (λ t. t ≡ (thing_of (of_name (known_in body.entry.sight.scope.now name.now))).expression) }
+    ensures cells { OnOk result (uses.new.accesses ≡ name_read body.entry.layout.now body.entry.sight.scope.now name.now span ++ uses.old.accesses) }
+    ensures failure { OnOk result (uses.new.failure ≡ or_else (told span (name_code body.entry.is_run body.entry.layout.now body.entry.sight.scope.now name.now)) uses.old.failure) }
+{
+    let seen = body.name_value(name)?;
+    uses.tell(body.guard_code(&seen), span);
+    let seen = seen.loaded(body.sight.scope.allocator(), &mut uses.accesses, span)?;
+    Ok(seen.thing.expression)
+}
+
+/// The type of an expression whose value is used. A number reads nothing, and nothing fails in it.
 #[cycle(walking)]
-#[tactic(auto, using(crate::proofs::Walk::seen_type))]
+#[tactic(auto, using(crate::proofs::Walk::seen_type, crate::proofs::Walk::values, crate::proofs::Failures::values_fail))]
 fn value_type(
     body: Body<'_, '_>,
     uses: &mut Uses,
@@ -214,11 +234,15 @@ fn value_type(
     ensures cells { OnOk result (uses.new.accesses ≡ before body.entry.layout.now (stable_in body.entry.sight.stable.now) body.entry.sight.scope.now (cells_read body.entry.sight.scope.now (shape expr.now)) uses.old.accesses) }
     ensures failure { OnOk result (uses.new.failure ≡ failing (view_of body.entry) standing true (shape expr.now) uses.old.failure) }
 {
-    Ok(
-        operand(body, uses, as_value(standing), expr)?
-            .thing
-            .expression,
-    )
+    match &expr.kind {
+        ExprKind::Number { value, unsigned } => Ok(number_type(*value, *unsigned)),
+        ExprKind::Named(name) => named_value(body, uses, name.text, expr.span),
+        _ => Ok(
+            operand(body, uses, as_value(standing), expr)?
+                .thing
+                .expression,
+        ),
+    }
 }
 
 /// The arguments of a call, from the last to the first.
@@ -239,27 +263,46 @@ fn arguments(body: Body<'_, '_>, uses: &mut Uses, args: &[Expr<'_>]) -> Result<(
 #[tactic(auto, using(crate::proofs::Operands::before_none, crate::proofs::Failures::none_behind))]
 pub fn reads(
     body: Body<'_, '_>,
-    found: &mut Vec<Access>,
+    found: &mut Footprint,
     standing: Standing,
     expr: &Expr<'_>,
 ) -> Result<Option<Failure>, NoMemory>
-    ensures cells { OnOk result (found.new.items ≡ found.old.items ++ spec_reads body.entry.layout.now (stable_in body.entry.sight.stable.now) body.entry.sight.scope.now (shape expr.now)) }
+    ensures cells { OnOk result (found.new ≡ found.old ++ spec_reads body.entry.layout.now (stable_in body.entry.sight.stable.now) body.entry.sight.scope.now (shape expr.now)) }
     ensures failure { IfOk result (λ failure. failure ≡ first (expression (view_of body.entry) standing (shape expr.now))) }
 {
-    let mut uses = Uses::new(body.sight.scope.allocator());
+    let mut uses = Uses::within(found.take_room());
     value_type(body, &mut uses, standing, expr)?;
     let failure = uses.failure;
-    uses.accesses.move_behind(found)?;
+    found.put(uses.accesses)?;
     Ok(failure)
 }
 
-/// The accesses of a left side, and what fails there.
-fn left_side(body: Body<'_, '_>, op: Option<BinaryOp>, left: &Expr<'_>) -> Result<Uses, NoMemory>
+/// What a left side is, where it isn't asked where that leads. The cells that are read on the way to it are found, and what fails there.
+#[tactic(auto, using(crate::proofs::Walk::steps, crate::proofs::Failures::fails))]
+fn left_seen(body: Body<'_, '_>, uses: &mut Uses, left: &Expr<'_>) -> Result<Seen, NoMemory>
+    ensures seen { IfOk result (λ seen. unled seen ≡ unled (seen_of body.entry.layout.now (stable_in body.entry.sight.stable.now) body.entry.sight.scope.now false (shape left.now))) }
+    ensures cells { OnOk result (uses.new.accesses ≡ before body.entry.layout.now (stable_in body.entry.sight.stable.now) body.entry.sight.scope.now (inner_cells body.entry.sight.scope.now (shape left.now)) uses.old.accesses) }
+    ensures failure { OnOk result (uses.new.failure ≡ failing (view_of body.entry) Inside false (shape left.now) uses.old.failure) }
+{
+    match &left.kind {
+        ExprKind::Named(name) => body.name_value(name.text),
+        _ => walk(body, uses, as_place(), left),
+    }
+}
+
+/// The accesses of a left side, which are found in some room, and what fails there.
+fn left_side(
+    body: Body<'_, '_>,
+    room: Accesses,
+    op: Option<BinaryOp>,
+    left: &Expr<'_>,
+) -> Result<Uses, NoMemory>
+    requires room { room ≡ [] }
     ensures cells { IfOk result (λ uses. uses.accesses ≡ written body.entry.layout.now (stable_in body.entry.sight.stable.now) body.entry.sight.scope.now op (shape left.now)) }
     ensures failure { IfOk result (λ uses. uses.failure ≡ first (expression (view_of body.entry) Inside (shape left.now))) }
 {
-    let mut uses = Uses::new(body.sight.scope.allocator());
-    let seen = walk(body, &mut uses, as_place(), left)?;
+    let mut uses = Uses::within(room);
+    let seen = left_seen(body, &mut uses, left)?;
     uses.tell(body.guard_code(&seen), left.span);
     seen.put_write(body.sight.scope.allocator(), &mut uses.accesses, left.span)?;
     match op {
@@ -275,15 +318,15 @@ fn left_side(body: Body<'_, '_>, op: Option<BinaryOp>, left: &Expr<'_>) -> Resul
 /// old value, and those that are read on the way to it. Tells the first premise that fails there.
 pub fn writes(
     body: Body<'_, '_>,
-    found: &mut Vec<Access>,
+    found: &mut Footprint,
     op: Option<BinaryOp>,
     left: &Expr<'_>,
 ) -> Result<Option<Failure>, NoMemory>
-    ensures cells { OnOk result (found.new.items ≡ found.old.items ++ written body.entry.layout.now (stable_in body.entry.sight.stable.now) body.entry.sight.scope.now op (shape left.now)) }
+    ensures cells { OnOk result (found.new ≡ found.old ++ written body.entry.layout.now (stable_in body.entry.sight.stable.now) body.entry.sight.scope.now op (shape left.now)) }
     ensures failure { IfOk result (λ failure. failure ≡ first (expression (view_of body.entry) Inside (shape left.now))) }
 {
-    let uses = left_side(body, op, left)?;
+    let uses = left_side(body, found.take_room(), op, left)?;
     let failure = uses.failure;
-    uses.accesses.move_behind(found)?;
+    found.put(uses.accesses)?;
     Ok(failure)
 }

@@ -1,5 +1,6 @@
-use Rattle.std.proofs.Common.{◌∙◌, ◌-◌, arith, length, sym}
+use Rattle.std.proofs.Common.{◌∙◌, ◌-◌, ap, arith, length, sym}
 use Rattle.std.proofs.lemmas.List.{drop_all}
+use Rattle.tsa_use.specs.Values.{unled}
 use Rattle.tsa_use.proofs.Failures.{argument_fails_next, call_inside_fails, no_argument_fails, on_ok, operand_fails}
 use Rattle.tsa_use.proofs.Operands.{argument_next, no_argument}
 use Rattle.tsa_use.proofs.Walk.{call_inside}
@@ -33,4 +34,4 @@ walk-returns-in_ok-code-in-Call-clause-failure t c =
 pub operand-returns-clause-failure : goal.operand-returns-clause-failure
 operand-returns-clause-failure t c =
     on_ok c.loaded.result
-    (operand_fails _ _ _ c.args.expr.now c.in_ok-seen.seen _ _ _ _ c.in_ok-seen.ensures.seen c.guard_code.ensures c.in_ok-seen.ensures.failure c.tell.ensures.failure)
+    (operand_fails _ _ _ c.args.expr.now c.in_ok-seen.seen _ _ _ _ (ap unled c.in_ok-seen.ensures.seen) c.guard_code.ensures c.in_ok-seen.ensures.failure c.tell.ensures.failure)

@@ -1,6 +1,6 @@
 use Rattle.std.proofs.Common.{◌≡◌, ◌++◌, length}
 use Rattle.std.specs.Prelude.{reverse}
-use Rattle.tsa_seen.proofs.access.move_from_last.Given as goal
+use Rattle.tsa_seen.proofs.footprint.move_from_last.Given as goal
 
 abbrev pub decreases-each : goal.decreases-each
 decreases-each l = length l.from_last.items
