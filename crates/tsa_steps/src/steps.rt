@@ -243,7 +243,7 @@ pub fn body_steps<'a>(
 ) -> Result<Vec<Step<'a>>, NoMemory>
     ensures { IfOk result (λ steps. map step_shape steps.items ≡ steps_of_body (stmt_shapes body.now) close) }
 {
-    let mut steps = Vec::new(alloc);
+    let mut steps = Vec::with_capacity(alloc, body.len().saturating_add(3))?;
     put_block(&mut steps, body)?;
     put_point(&mut steps, Action::End, close)?;
     Ok(steps)

@@ -9,4 +9,4 @@ pub returns : goal.returns
 returns c =
     c.in_ok-put_point.ensures
     ∙ ap (λ xs. xs ++ does ends c.args.close ∷ [])
-    (c.in_ok-put_block.ensures ∙ ap (λ xs. map step_shape xs ++ nested (steps_of_all (stmt_shapes c.args.body.now))) c.new-steps.ensures.items)
+    (c.in_ok-put_block.ensures ∙ ap (λ xs. map step_shape xs ++ nested (steps_of_all (stmt_shapes c.args.body.now))) c.in_ok-steps.ensures.items)
