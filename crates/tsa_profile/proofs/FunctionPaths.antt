@@ -16,7 +16,7 @@ use Rattle.tsa_core.specs.Programs.{Bodied, Declared, Function, Program, attrs_o
 use Rattle.tsa_core.specs.Uses.{uses_of}
 use Rattle.tsa_deed.specs.Ways.{each_once, named_ways, present, unless_many}
 use Rattle.tsa_profile.specs.Paths.{paths_if, paths_of, points_ways}
-use Rattle.tsa_profile.specs.Units.{Unit, around, attributes_by, paths_at, points_in, unit_of}
+use Rattle.tsa_judge.specs.Units.{Unit, around, attributes_by, paths_at, points_in, unit_of}
 use Rattle.tsa_profile.proofs.AddedNames.{adds_inside}
 use Rattle.tsa_profile.proofs.BodyWays.{attributes_of, body_ways}
 use Rattle.tsa_profile.proofs.FunctionScopes.{KnowsFunctions, knows_data}

@@ -20,7 +20,7 @@ use Rattle.tsa_ask.specs.Declarations.{guard_premises, given_init, init_premises
 use Rattle.tsa_node.specs.Expressions.{own, parts}
 use Rattle.tsa_seen.specs.Premises.{Premise, premise, or_else, failure_of, first}
 use Rattle.tsa_seen.specs.declared.standing.Standing.TheVariants.{Inside}
-use Rattle.tsa_profile.specs.Units.{Unit, attributes_behind, view_in, item_premises, items_premises}
+use Rattle.tsa_judge.specs.Units.{Unit, attributes_behind, view_in, item_premises, items_premises}
 use Rattle.tsa_profile.proofs.CellsFit.{Allows}
 use Rattle.tsa_profile.proofs.ConstantPlaces.{guarded}
 use Rattle.tsa_profile.proofs.InitialisersFit.{AllowedInitialiser, AllowedItems, AllowedInit}

@@ -7,7 +7,7 @@ use Rattle.tsa_node.specs.Expressions.{parts, arguments}
 use Rattle.tsa_ask.specs.Declarations.{ways_behind, attribute_arguments, guard_premises, attribute_premises, param_premises, init_premises, item_premises}
 use Rattle.tsa_deed.specs.Bodies.{points_premises}
 use Rattle.tsa_deed.specs.Ways.{points_ways}
-use Rattle.tsa_profile.specs.Units.{member_premises, items_premises, tries_limits, paths_limits}
+use Rattle.tsa_judge.specs.Units.{member_premises, items_premises, tries_limits, paths_limits}
 use Rattle.tsa_profile.specs.Examples.{ProfilesAreAsWritten}
 
 -- to unfold this is to unfold all of it

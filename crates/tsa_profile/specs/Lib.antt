@@ -1,9 +1,6 @@
 pub mod Paths
-pub mod Units
 pub mod Attributes
 pub mod Starts
 pub mod Examples
 pub mod Running
-pub mod Judged
 pub mod Tables
-pub mod Judging

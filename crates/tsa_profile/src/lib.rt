@@ -1,21 +1,15 @@
 //! The profile of a unit: what is asked of it besides its types, so that every lock that it names has a path.
 #![tactic(auto)]
 
-mod data;
-mod functions;
-mod ground;
-mod knowledge;
 mod laws;
 mod profile;
-mod refusal;
 mod unit;
-mod view;
 
 pub use laws::{
     attributes_are_those_of_the_core, paths_are_those_of_the_core, profiles_are_as_written,
     profiles_are_runnable, start_values_have_their_kinds, starts_are_well_typed,
 };
 pub use profile::{fit, fit_with};
-pub use refusal::ProfileRefusal;
+pub use tsa_judge::ProfileRefusal;
 pub use tsa_use::{Failure, ProfileCode};
 pub use unit::Fit;

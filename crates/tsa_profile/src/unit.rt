@@ -4,7 +4,7 @@ ghost use Rattle.tsa_argument.specs.Arguments.{argument_of};
 ghost use Rattle.tsa_core.specs.Programs.{program_of};
 ghost use Rattle.tsa_place.specs.Units.{placed_in};
 ghost use Rattle.tsa_profile.specs.Paths.{paths_if};
-ghost use Rattle.tsa_profile.specs.Units.{refusal_with};
+ghost use Rattle.tsa_judge.specs.Units.{refusal_with};
 ghost use Rattle.tsa_tree.specs.expressions.Shapes.{shape};
 ghost use Rattle.tsa_tree.specs.units.Shapes.{item_shapes};
 

@@ -1,0 +1,9 @@
+pub mod AllItems
+pub mod Behind
+pub mod GlobalJudged
+pub mod HeadJudged
+pub mod ItemLists
+pub mod MemberLists
+pub mod NoOwned
+pub mod Sequences
+pub mod WholeBodies

@@ -1,0 +1,4 @@
+pub mod Units
+pub mod Tables
+pub mod Judged
+pub mod Judging
