@@ -13,3 +13,13 @@ pub mod Sheets
 pub mod WorkedSheets
 pub mod WorkedOrder
 pub mod KeptPrograms
+pub mod Places
+pub mod SetBits
+pub mod KindBits
+pub mod MarkSteps
+pub mod CaseEffects
+pub mod CaseFailures
+pub mod CasePlaces
+pub mod Members
+pub mod KeptTries
+pub mod QuietCases

@@ -18,7 +18,7 @@ use Rattle.tsa_rules.specs.Effects.{entry_by, exit_by, is_taken_by, answer_given
 use Rattle.tsa_rules.specs.StatusLaws.{StatusesStayPossible}
 use Rattle.tsa_rules.proofs.Tests.{never, right_part, some_same}
 
-both : (a b : Bool) → a ≡ true → b ≡ true → (a && b) ≡ true
+pub both : (a b : Bool) → a ≡ true → b ≡ true → (a && b) ≡ true
 both true b e f = f
 both false b e f = never (sym e)
 
@@ -26,10 +26,10 @@ pub once : (r : Bool) (tries : ℕ) → is_possible r tries (Exclusive 1) ≡ tr
 once true tries = refl
 once false tries = refl
 
-within : (n m : ℕ) → n ≤ m → nat_le n m ≡ true
+pub within : (n m : ℕ) → n ≤ m → nat_le n m ≡ true
 within n m h = grind (arith, nat_tests)
 
-from_within : (n m : ℕ) → nat_le n m ≡ true → n ≤ m
+pub from_within : (n m : ℕ) → nat_le n m ≡ true → n ≤ m
 from_within n m h = grind (arith, nat_tests)
 
 -- one hold more, and one less
@@ -55,7 +55,7 @@ given_possible r tries Lent h = refl
 given_possible r tries (Pending v) h = refl
 
 -- the try variable of a try is one of the function
-abbrev IsKept : ℕ → Attempt → Type 0
+abbrev pub IsKept : ℕ → Attempt → Type 0
 IsKept tries (answer_kept v) = nat_lt v tries ≡ true
 IsKept tries lock_taken = Unit {0}
 IsKept tries lock_missed = Unit {0}
@@ -66,7 +66,7 @@ tried_possible r tries (answer_kept v) taken s k e h = k
 tried_possible r tries lock_taken taken s k e h = e
 tried_possible r tries lock_missed taken s k e h = h
 
-called_possible : (r : Bool) (tries : ℕ) (t : Attempt) (kind : AttrKind) (s : Status) → (is_try kind ≡ true → IsKept tries t) → is_possible r tries s ≡ true
+pub called_possible : (r : Bool) (tries : ℕ) (t : Attempt) (kind : AttrKind) (s : Status) → (is_try kind ≡ true → IsKept tries t) → is_possible r tries s ≡ true
     → is_possible r tries (after_attribute r t kind s) ≡ true
 called_possible r tries t attr.Requires s k h = h
 called_possible r tries t attr.RequiresShared s k h = h
@@ -92,14 +92,14 @@ position_step n x xs false same rest e =
     let near : position_or_len (nat_eq n) xs < length xs = rest (rw same at e) in
     rw same (omega arith)
 
-position_below : (n : ℕ) (xs : List ℕ) → list_any (nat_eq n) xs ≡ true → position_or_len (nat_eq n) xs < length xs
+pub position_below : (n : ℕ) (xs : List ℕ) → list_any (nat_eq n) xs ≡ true → position_or_len (nat_eq n) xs < length xs
 position_below n [] e = never (sym e)
 position_below n (x ∷ xs) e = position_step n x xs (nat_eq n x) refl (position_below n xs) e
 
-itself : (n : ℕ) → nat_eq n n ≡ true
+pub itself : (n : ℕ) → nat_eq n n ≡ true
 itself n = grind (arith, nat_tests)
 
-or_true : (b : Bool) → (b || true) ≡ true
+pub or_true : (b : Bool) → (b || true) ≡ true
 or_true true = refl
 or_true false = refl
 
@@ -110,20 +110,20 @@ kept_behind n (Some m) xs e = rw e (or_true (nat_eq n m))
 kept_first : (n : ℕ) (o : Option ℕ) (xs : List ℕ) → o ≡ Some n → list_any (nat_eq n) (cons_option o xs) ≡ true
 kept_first n o xs e = rw (e, itself n) refl
 
-listed : (u : Program) (points : List Point) (p : ℕ) (x : Point) (n : ℕ) → slice_get points p ≡ Some x → try_variable_at u x ≡ Some n
+pub listed : (u : Program) (points : List Point) (p : ℕ) (x : Point) (n : ℕ) → slice_get points p ≡ Some x → try_variable_at u x ≡ Some n
     → list_any (nat_eq n) (filter_map (try_variable_at u) points) ≡ true
 listed u [] p x n e t = cc
 listed u (y ∷ points) zero x n e t = kept_first n (try_variable_at u y) (filter_map (try_variable_at u) points) (ap (try_variable_at u) (some_same e) ∙ t)
 listed u (y ∷ points) (suc p) x n e t = kept_behind n (try_variable_at u y) (filter_map (try_variable_at u) points) (listed u points p x n e t)
 
-begun : (u : Program) (f : Function) (p n : ℕ) (kind : Kind) (v : Term) (q : Option Point) → slice_get (points_of f) p ≡ q → is_a_try u (or_idle q).call ≡ true
+pub begun : (u : Program) (f : Function) (p n : ℕ) (kind : Kind) (v : Term) (q : Option Point) → slice_get (points_of f) p ≡ q → is_a_try u (or_idle q).call ≡ true
     → (or_idle q).action ≡ declare n kind v → list_any (nat_eq n) (try_variables u f) ≡ true
 begun u f p n kind v None e t act = cc
 begun u f p n kind v (Some x) e t act =
     let same : try_variable_at u x ≡ Some n = rw (t, act) refl in
     listed u (points_of f) p x n e same
 
-seen_kept : (tries : ℕ) (b : Bool) → IsKept tries (attempt_of b)
+pub seen_kept : (tries : ℕ) (b : Bool) → IsKept tries (attempt_of b)
 seen_kept tries true = tt
 seen_kept tries false = tt
 
@@ -153,11 +153,11 @@ found_step passes is x xs a false e rest h i =
     let behind : find passes xs ≡ Some a = rw e at h in
     rw (rest behind) (or_true (is x))
 
-found : {X : Type 0} (passes is : X → Bool) (xs : List X) (a : X) → find passes xs ≡ Some a → is a ≡ true → list_any is xs ≡ true
+pub found : {X : Type 0} (passes is : X → Bool) (xs : List X) (a : X) → find passes xs ≡ Some a → is a ≡ true → list_any is xs ≡ true
 found passes is [] a h i = cc
 found passes is (x ∷ xs) a h i = found_step passes is x xs a (passes x) refl (λ g. found passes is xs a g i) h i
 
-tries_called : (args : List (Option Way)) (attrs : List Attr) → list_any (λ a. is_try a.kind) (all_as_called args attrs) ≡ list_any (λ a. is_try a.kind) attrs
+pub tries_called : (args : List (Option Way)) (attrs : List Attr) → list_any (λ a. is_try a.kind) (all_as_called args attrs) ≡ list_any (λ a. is_try a.kind) attrs
 tries_called args [] = refl
 tries_called args (a ∷ attrs) = ap (λ b. is_try a.kind || b) (tries_called args attrs)
 
@@ -175,7 +175,7 @@ call_possible u f p c o (Some a) s e h =
     called_possible (is_reentrant u f c) (length (try_variables u f)) (attempt_at u f (point_at f p).action o a) a.kind s (claim_kept u f p c o a e) h
 
 -- What a test decides.
-taken_possible : (r : Bool) (tries : ℕ) (b : Bool) (kind : AttrKind) → is_possible r tries (if_taken b (taken_by kind)) ≡ true
+pub taken_possible : (r : Bool) (tries : ℕ) (b : Bool) (kind : AttrKind) → is_possible r tries (if_taken b (taken_by kind)) ≡ true
 taken_possible r tries false kind = refl
 taken_possible r tries true attr.TryAcquire = once r tries
 taken_possible r tries true attr.TryAcquireShared = refl
@@ -189,7 +189,7 @@ either_possible : (r : Bool) (tries : ℕ) (b : Bool) (x y : Status) → is_poss
 either_possible r tries true x y h k = h
 either_possible r tries false x y h k = k
 
-decided_possible : (r : Bool) (tries v : ℕ) (after s : Status) → is_possible r tries after ≡ true → is_possible r tries s ≡ true → is_possible r tries (after_decision v after s) ≡ true
+pub decided_possible : (r : Bool) (tries v : ℕ) (after s : Status) → is_possible r tries after ≡ true → is_possible r tries s ≡ true → is_possible r tries (after_decision v after s) ≡ true
 decided_possible r tries v after Free k h = h
 decided_possible r tries v after Shared k h = h
 decided_possible r tries v after (Exclusive n) k h = h
@@ -208,7 +208,7 @@ test_possible u f c o None s h = h
 test_possible u f c o (Some k) s h = told_possible u f c k.subject (answer_by o k) s h
 
 -- The entry and the exit.
-entry_possible : (r : Bool) (tries : ℕ) (kind : Option AttrKind) → is_possible r tries (entry_by kind) ≡ true
+pub entry_possible : (r : Bool) (tries : ℕ) (kind : Option AttrKind) → is_possible r tries (entry_by kind) ≡ true
 entry_possible r tries None = refl
 entry_possible r tries (Some attr.Requires) = once r tries
 entry_possible r tries (Some attr.Release) = once r tries
@@ -218,7 +218,7 @@ if_possible : (r : Bool) (tries : ℕ) (b : Bool) (s : Status) → is_possible r
 if_possible r tries true s h = h
 if_possible r tries false s h = refl
 
-exit_possible : (r : Bool) (tries : ℕ) (b : Bool) (kind : Option AttrKind) → is_possible r tries (exit_by b kind) ≡ true
+pub exit_possible : (r : Bool) (tries : ℕ) (b : Bool) (kind : Option AttrKind) → is_possible r tries (exit_by b kind) ≡ true
 exit_possible r tries b None = refl
 exit_possible r tries b (Some attr.Requires) = once r tries
 exit_possible r tries b (Some attr.Acquire) = once r tries

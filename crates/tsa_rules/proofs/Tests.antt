@@ -1,5 +1,5 @@
 -- Tests and what they say.
-use Rattle.std.proofs.Common.{◌≡◌, ℕ, zero, suc, ◌<◌, ◌≤◌, nat_lt, Bool, true, false, not, ◌&&◌, ◌||◌, List, [], ◌∷◌, length, All, Some, refl, sym, ap, true≢false, arith, eqb-true}
+use Rattle.std.proofs.Common.{◌≡◌, ℕ, zero, suc, ◌<◌, ◌≤◌, nat_eq, nat_lt, Bool, true, false, not, ◌&&◌, ◌||◌, List, [], ◌∷◌, length, All, Some, refl, sym, ap, true≢false, arith, eqb-true}
 use Rattle.std.proofs.lemmas.Bool.Decides.{nat_tests}
 use Rattle.std.specs.List.{list_any}
 use Rattle.tsa_rules.specs.Statuses.{Status, Free, Shared, Exclusive, Lent, Pending, is_free, is_exclusive, is_unheld, is_takable_again, same_status, deepest, IsExclusive, IsHeld, IsTakableAgain}
@@ -99,3 +99,9 @@ same (Pending v) Free e = never (sym e)
 same (Pending v) Shared e = never (sym e)
 same (Pending v) (Exclusive n) e = never (sym e)
 same (Pending v) Lent e = never (sym e)
+
+pub is_zero : (n : ℕ) → nat_eq n 0 ≡ true → n ≡ 0
+is_zero n h = eqb-true n 0 h
+
+pub zero_is : (n : ℕ) → n ≡ 0 → nat_eq n 0 ≡ true
+zero_is n e = ap (λ m. nat_eq m 0) e

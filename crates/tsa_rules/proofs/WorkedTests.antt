@@ -19,8 +19,12 @@ tests_of_calls_tell_the_answer = record {
   of_zero = refl;
   of_zero_denied = refl;
   shared = refl;
+  is_null = refl;
+  null_is_not = refl;
   succeeds = refl;
   fails = refl;
+  shared_succeeds = refl;
+  shared_fails = refl;
   of_a_reentrant_lock = refl;
 }
 

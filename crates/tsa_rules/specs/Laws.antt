@@ -1,9 +1,9 @@
 -- The tables of statuses, worked out from functions as they are written, row by row.
-use Rattle.std.specs.Prelude.{◌≡◌, ℕ, List, [], ◌∷◌, ◌++◌, map, Option, Some, codes}
+use Rattle.std.specs.Prelude.{◌≡◌, ℕ, ◌+◌, ◌-◌, ◌<◌, List, [], ◌∷◌, ◌++◌, map, Option, Some, codes}
 use Rattle.tsa_core.specs.Control.{Next}
 use Rattle.tsa_core.specs.Examples.{program}
 use Rattle.tsa_rules.specs.Statuses.{Status, Free, Shared, Exclusive, Lent, Pending}
-use Rattle.tsa_rules.specs.Effects.{entry, exit}
+use Rattle.tsa_rules.specs.Effects.{entry, exit, deeper, given_back}
 use Rattle.tsa_rules.specs.Fails.{TS03, TS04, TS05, TS06, TS07, TS08}
 use Rattle.tsa_rules.specs.Texts.{global, of_function, Judgement, fits, breaks, once, again, judgements_of}
 
@@ -87,3 +87,10 @@ pub record CallsOfReentrantLocksCountDepths : Type 0 where
       Some (breaks TS07 Free ∷ fits Free ∷ breaks TS08 Free ∷ breaks TS08 (Exclusive 1) ∷ breaks TS08 (Exclusive 5) ∷ breaks TS08 (Exclusive 6) ∷ breaks TS08 Lent ∷ breaks TS07 Free ∷ [])
   pub release_generic : call_again (codes "RELEASE_GENERIC(m)") ≡
       Some (breaks TS07 Free ∷ fits Free ∷ fits Free ∷ fits (Exclusive 1) ∷ fits (Exclusive 5) ∷ fits (Exclusive 6) ∷ breaks TS08 Lent ∷ breaks TS07 Free ∷ [])
+  pub try_into_a_variable : judgements_of (codes "reentrant mutex") (codes "TRY_ACQUIRE(1, m)") (codes "int v = g(&mu);") 0 Next again ≡
+      Some (fits (Pending 0) ∷ breaks TS06 (Pending 0) ∷ breaks TS06 (Pending 0) ∷ breaks TS06 (Pending 0) ∷ breaks TS06 (Pending 0) ∷ breaks TS06 (Pending 0) ∷ breaks TS06 (Pending 0) ∷ breaks TS06 (Pending 0) ∷ [])
+  -- the same of all depths
+  pub deeper_by_one : (n : ℕ) → n < 7 → deeper (Exclusive n) ≡ Exclusive (n + 1)
+  pub no_deeper_than_seven : deeper (Exclusive 7) ≡ Exclusive 7
+  pub less_by_one : (n : ℕ) → 1 < n → given_back (Exclusive n) ≡ Exclusive (n - 1)
+  pub free_at_last : given_back (Exclusive 1) ≡ Free

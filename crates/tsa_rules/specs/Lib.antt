@@ -1,9 +1,15 @@
 pub mod Statuses
+pub mod Sets
 pub mod Attributes
 pub mod Conditions
 pub mod Points
 pub mod Effects
 pub mod Fails
+pub mod Outcomes
+pub mod KindSets
+pub mod Marks
+pub mod Cases
+pub mod TryVariables
 pub mod Fits
 pub mod Walks
 pub mod Warnings

@@ -1,7 +1,11 @@
 -- Tries, worked out from functions as they are written: what the outcomes of a test make of what is tried and of what is pending.
-use Rattle.std.specs.Prelude.{◌≡◌, ℕ, List, [], ◌∷◌, ◌++◌, Option, Some, codes}
+use Rattle.std.specs.Prelude.{◌≡◌, ℕ, true, false, List, [], ◌∷◌, ◌++◌, Option, Some, None, codes}
+use Rattle.tsa_base.specs.declared.value.Value.TheVariants.{Pointer}
+use Rattle.tsa_tree.specs.declared.expr.BinaryOp.TheVariants as op
 use Rattle.tsa_core.specs.Control.{Next, Yes, No}
+use Rattle.tsa_core.specs.Terms.{constant, answer, joined}
 use Rattle.tsa_rules.specs.Statuses.{Status, Free, Shared, Exclusive, Lent, Pending}
+use Rattle.tsa_rules.specs.Conditions.{condition, condition_in, the_call}
 use Rattle.tsa_rules.specs.Effects.{effect}
 use Rattle.tsa_rules.specs.Fails.{TS06}
 use Rattle.tsa_rules.specs.Points.{try_variables}
@@ -40,10 +44,18 @@ pub record TestsOfCallsTellTheAnswer : Type 0 where
   pub of_zero : tries if_zero (codes "g(&mu)") ≡ Some (Free, Exclusive 1)
   pub of_zero_denied : tries if_zero (codes "!g(&mu)") ≡ Some (Exclusive 1, Free)
   pub shared : tries (codes "TRY_ACQUIRE_SHARED(1, m)") (codes "g(&mu)") ≡ Some (Shared, Free)
+  -- beside a try that gives a pointer the number 0 is null
+  pub is_null : condition_in (joined op.Equal answer (constant (Pointer None))) ≡ Some (condition false the_call)
+  pub null_is_not : condition_in (joined op.Unequal (constant (Pointer None)) answer) ≡ Some (condition true the_call)
   -- of each status, with the rules that fail: where the try succeeds, and where it fails
   pub succeeds : judgements_of (codes "mutex") if_one (codes "while (g(&mu)) ;") 0 Yes once ≡
       Some (fits (Exclusive 1) ∷ breaks TS06 (Exclusive 1) ∷ breaks TS06 (Exclusive 1) ∷ breaks TS06 (Exclusive 1) ∷ breaks TS06 (Exclusive 1) ∷ [])
   pub fails : judgements_of (codes "mutex") if_one (codes "while (g(&mu)) ;") 0 No once ≡
+      Some (fits Free ∷ breaks TS06 Shared ∷ breaks TS06 (Exclusive 1) ∷ breaks TS06 Lent ∷ breaks TS06 (Pending 4) ∷ [])
+  -- the same of a shared try
+  pub shared_succeeds : judgements_of (codes "mutex") (codes "TRY_ACQUIRE_SHARED(1, m)") (codes "while (g(&mu)) ;") 0 Yes once ≡
+      Some (fits Shared ∷ breaks TS06 Shared ∷ breaks TS06 Shared ∷ breaks TS06 Shared ∷ breaks TS06 Shared ∷ [])
+  pub shared_fails : judgements_of (codes "mutex") (codes "TRY_ACQUIRE_SHARED(1, m)") (codes "while (g(&mu)) ;") 0 No once ≡
       Some (fits Free ∷ breaks TS06 Shared ∷ breaks TS06 (Exclusive 1) ∷ breaks TS06 Lent ∷ breaks TS06 (Pending 4) ∷ [])
   -- a lock that its holder may take again isn't tried again
   pub of_a_reentrant_lock : judgements_of (codes "reentrant mutex") if_one (codes "while (g(&mu)) ;") 0 Yes (Free ∷ Exclusive 1 ∷ Exclusive 2 ∷ []) ≡

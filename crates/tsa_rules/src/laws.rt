@@ -1,15 +1,20 @@
 //! Laws of the rules.
 ghost use Rattle.tsa_rules.specs.Statuses.{SameStatusesAreEqual, NumbersTellStatuses, NumbersAreBits};
+ghost use Rattle.tsa_rules.specs.Cases.{CasesTellTheRules, QuietCases, StatusesKeepPlaces};
 ghost use Rattle.tsa_rules.specs.Fits.{WhatDoesNotFailFits};
 ghost use Rattle.tsa_rules.specs.Kept.{KeptRowsBreakNoRule, KeptProgramsHaveNoWarnings};
 ghost use Rattle.tsa_rules.specs.KeptLaws.{AcceptedFunctionsHaveSheets, ALockedWriteIsAccepted};
 ghost use Rattle.tsa_rules.specs.Laws.{EntriesAndExitsAreAsDeclared, ExitsOfTriesAreByTheAnswer, CallsAreByTheirAttribute, CallsOfReentrantLocksCountDepths};
 ghost use Rattle.tsa_rules.specs.LockLaws.{PathsLeadToTheirLocks, AttributesNameWhatArgumentsAre};
+ghost use Rattle.tsa_rules.specs.KindSets.{KindsAreSets};
+ghost use Rattle.tsa_rules.specs.Marks.{MarksAreMadeStepByStep, MarksTellKinds};
 ghost use Rattle.tsa_rules.specs.OrderLaws.{WarningsAreToldInOrder};
 ghost use Rattle.tsa_rules.specs.RuleLaws.{AccessesNeedTheirLocks, ReturnsAreAsDeclared, NamesOfCallsDiffer, DeclarationsFindFreePaths};
+ghost use Rattle.tsa_rules.specs.Sets.{SetsAreTheirStatuses, PossibleStatusesHavePlaces};
 ghost use Rattle.tsa_rules.specs.Sheets.{SheetsThatPassAreKept, ProgramsThatPassHaveNoWarnings};
 ghost use Rattle.tsa_rules.specs.StatusLaws.{StatusesStayPossible, OneStatusWhereEdgesAgree, RulesSpeakOfNamedPaths};
 ghost use Rattle.tsa_rules.specs.TestLaws.{TestsOfCallsTellTheAnswer, TestsOfVariablesTellTheAnswer, OtherTestsDecideNothing, UntriedLocksAreFree, TryVariablesAreNumbered};
+ghost use Rattle.tsa_rules.specs.TryVariables.{TryVariablesAreToldByDeclarations};
 ghost use Rattle.tsa_rules.specs.WalkLaws.{BranchesMeet, LoopsComeBack};
 
 /// Statuses that are told apart are different, and the others are equal.
@@ -21,6 +26,51 @@ pub fn same_statuses_are_equal()
 pub fn numbers_tell_statuses()
     ensures told { NumbersTellStatuses }
     ensures bits { NumbersAreBits }
+{}
+
+/// Sets with the same statuses are equal, and each status that a path can have has a place in a set.
+#[tactic(auto, using(crate::proofs::SetBits::sets_are_their_statuses, crate::proofs::Places::possible_statuses_have_places))]
+pub fn sets_are_their_statuses()
+    ensures same { SetsAreTheirStatuses }
+    ensures places { PossibleStatusesHavePlaces }
+{}
+
+/// The bits of kinds of attributes are sets of them.
+#[tactic(auto, using(crate::proofs::KindBits::kinds_are_sets))]
+pub fn kinds_are_sets()
+    ensures { KindsAreSets }
+{}
+
+/// Marks are made attribute by attribute and access by access, and tell the kinds of the attributes that name a path.
+#[tactic(auto, using(crate::proofs::MarkSteps::marks_are_made_step_by_step, crate::proofs::KindBits::marks_tell_kinds))]
+pub fn marks_are_made_step_by_step()
+    ensures steps { MarksAreMadeStepByStep }
+    ensures kinds { MarksTellKinds }
+{}
+
+/// The case of a path at a point tells all that the rules say of it there.
+#[tactic(auto, using(crate::proofs::CaseFailures::cases_tell_the_rules))]
+pub fn cases_tell_the_rules()
+    ensures { CasesTellTheRules }
+{}
+
+/// A case in which nothing claims the path and no local is tested keeps each status, and a path of which the point says nothing breaks no rule by itself
+/// unless the point leaves.
+#[tactic(auto, using(crate::proofs::QuietCases::quiet_cases))]
+pub fn quiet_cases()
+    ensures { QuietCases }
+{}
+
+/// The numbers of try variables, and the tries whose answers they keep, are told by the points that declare them.
+#[tactic(auto, using(crate::proofs::KeptTries::try_variables_are_told_by_declarations))]
+pub fn try_variables_are_told_by_declarations()
+    ensures { TryVariablesAreToldByDeclarations }
+{}
+
+/// Statuses keep their places in sets along points, and a function has no more try variables than have places.
+#[tactic(auto, using(crate::proofs::CasePlaces::statuses_keep_places))]
+pub fn statuses_keep_places()
+    ensures { StatusesKeepPlaces }
 {}
 
 /// A function begins with statuses that its paths can have, is to end with such ones, and its points make such ones of such ones.
