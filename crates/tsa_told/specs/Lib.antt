@@ -1,0 +1,5 @@
+pub mod Worths
+pub mod Told
+pub mod Duties
+pub mod Laws
+pub mod Examples
