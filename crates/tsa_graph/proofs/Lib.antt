@@ -1,0 +1,4 @@
+pub mod EntryLists
+pub mod Noted
+pub mod WaysMade
+pub mod GraphMade

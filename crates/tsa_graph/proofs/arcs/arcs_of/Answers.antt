@@ -1,0 +1,23 @@
+use Rattle.std.proofs.Common.{rules, arith, ◌≡◌, length, replicate}
+use Rattle.tsa_graph.specs.declared.arcs.Exit.TheVariants.{Nowhere}
+use Rattle.tsa_links.specs.declared.link.Link.{Link}
+use Rattle.tsa_links.specs.declared.link.Outcome.TheVariants.{Next}
+use Rattle.tsa_graph.proofs.Noted.{next_noted, none_noted}
+use Rattle.tsa_graph.proofs.arcs.arcs_of.Goals as goal
+
+-- what is read where nothing stands
+abbrev absent : Link
+absent = record { from = 0; outcome = Next; to = 0 }
+
+pub each-init : goal.each-init
+each-init c =
+    let filled : c.in_ok-outs.outs.items ≡ replicate c.args.points Nowhere = search rules in
+    let told = c.in_ok-outs.ensures.len in
+    let kept = c.in_ok-outs.outs.ok.0 in
+    let size : length c.in_ok-outs.outs.items ≡ c.args.points = omega (arith, told, kept) in
+    none_noted c.args.points c.in_ok-outs.outs.items c.in_ok-ins.ins filled size c.in_ok-ins.ensures.len c.in_ok-ins.ensures.none
+
+pub each-preserved : goal.each-preserved
+each-preserved c =
+    next_noted c.args.points c.args.links.now c.each.link-index absent c.each.outs.items c.note_exit.new.outs.items c.each.ins c.note.new.self c.each-test.true c.each.invariant
+    c.in_ok-note_exit.ensures.inside c.in_ok-note_exit.ensures.put c.in_ok-note.ensures.inside c.in_ok-note.ensures.put

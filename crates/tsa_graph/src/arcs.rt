@@ -1,0 +1,66 @@
+//! The edges of each point: whether one leaves it alone, and which lead to it.
+ghost use Rattle.std.specs.Prelude.{◌≡◌, ◌<◌, length, map, slice_set, slice_index_or, IfOk, OnOk};
+ghost use Rattle.tsa_graph.specs.Arcs.{more as spec_more, AreArcs};
+ghost use Rattle.tsa_graph.specs.declared.arcs.Exit.TheVariants.{Nowhere};
+ghost use Rattle.tsa_links.specs.Links.{edge_of};
+
+use crate::entries::{Edge, Entries};
+use std::alloc::Global;
+use tsa_base::NoMemory;
+use tsa_links::Link;
+
+/// How a point is left: by no edge, by one alone, or by more.
+#[derive(Clone, Copy)]
+pub enum Exit {
+    Nowhere,
+    To(u32),
+    Many,
+}
+
+/// How each point is left, and the edges into it.
+#[derive(Drop)]
+pub struct Arcs {
+    pub outs: Vec<Exit>,
+    pub ins: Entries,
+}
+
+/// One edge more leads from a point.
+fn more(exit: Exit, to: u32) -> Exit
+    ensures { result ≡ spec_more exit to }
+{
+    match exit {
+        Exit::Nowhere => Exit::To(to),
+        _ => Exit::Many,
+    }
+}
+
+/// A further edge from a point that is there.
+fn note_exit(outs: &mut Vec<Exit>, from: u32, to: u32) -> Result<(), NoMemory>
+    ensures inside { OnOk result (from < length outs.old.items) }
+    ensures put { OnOk result (outs.new.items ≡ slice_set outs.old.items from (spec_more (slice_index_or outs.old.items from Nowhere) to)) }
+{
+    let number = from as usize;
+    if number < outs.len() {
+        outs[number] = more(outs[number], to);
+        Ok(())
+    } else {
+        Err(NoMemory)
+    }
+}
+
+/// The edges of so many points.
+pub fn arcs_of(alloc: Global, links: &[Link], points: u32) -> Result<Arcs, NoMemory>
+    ensures { IfOk result (λ arcs. AreArcs points (map edge_of links.now) arcs.outs.items arcs.ins) }
+{
+    let mut outs = vec![in alloc; Exit::Nowhere; points as usize]?;
+    let mut ins = Entries::new(alloc, points)?;
+    'each: for link in links {
+        note_exit(&mut outs, link.from, link.to)?;
+        let edge = Edge {
+            from: link.from,
+            outcome: link.outcome,
+        };
+        ins.note(link.to, edge)?;
+    }
+    Ok(Arcs { outs, ins })
+}

@@ -1,0 +1,65 @@
+//! The graph of edges between points.
+ghost use Rattle.std.specs.Prelude.{◌≡◌, ◌+◌, map, IfOk};
+ghost use Rattle.tsa_core.specs.Control.{body_edges, count_all};
+ghost use Rattle.tsa_graph.specs.Graphs.{IsGraph};
+ghost use Rattle.tsa_graph.specs.Made.{AreMade};
+ghost use Rattle.tsa_links.specs.Links.{edge_of};
+ghost use Rattle.tsa_tree.specs.statements.Shapes.{stmt_shapes};
+
+use crate::arcs::arcs_of;
+use crate::blocks::{Block, Graph, block_of};
+use crate::entries::Entries;
+use crate::ways::{backs, nexts};
+use std::alloc::Global;
+use tsa_base::NoMemory;
+use tsa_links::{Link, body_links};
+use tsa_runs::{Runs, Ways, longest_runs};
+use tsa_scope::Scope;
+use tsa_tree::stmt::Stmt;
+
+/// A block of each run.
+fn blocks_in(alloc: Global, ins: &Entries, runs: &Runs) -> Result<Vec<Block>, NoMemory>
+    ensures { IfOk result (λ blocks. AreMade ins.now blocks.items runs.now) }
+{
+    let mut blocks = Vec::new(alloc);
+    'each: for number in 0..runs.len() {
+        blocks.push(block_of(alloc, ins, runs.at(number))?)?;
+    }
+    Ok(blocks)
+}
+
+/// The graph of edges between so many points, of which the first is where the body is entered: its blocks are longest runs.
+pub fn graph_of_links(alloc: Global, links: &[Link], points: u32) -> Result<Graph, NoMemory>
+    ensures { IfOk result (λ graph. IsGraph points (map edge_of links.now) graph) }
+{
+    let arcs = arcs_of(alloc, links, points)?;
+    let next = nexts(alloc, &arcs, points)?;
+    let back = backs(alloc, &arcs, points)?;
+    let ways = Ways {
+        next: &next,
+        back: &back,
+    };
+    let runs = longest_runs(alloc, ways, points)?;
+    let blocks = blocks_in(alloc, &arcs.ins, &runs)?;
+    Ok(Graph { blocks })
+}
+
+/// The number before another.
+fn before(number: u32) -> Result<u32, NoMemory>
+    ensures { IfOk result (λ n. n + 1 ≡ number) }
+{
+    number.checked_sub(1).ok_or(NoMemory)
+}
+
+/// The graph of a body of so many points with its end, where this is known: its edges are those of its control.
+pub fn graph_of_body<'a>(
+    scope: &Scope<'a>,
+    body: &[Stmt<'a>],
+    points: u32,
+) -> Result<Graph, NoMemory>
+    ensures { IfOk result (λ graph. IsGraph (count_all (stmt_shapes body.now) + 1) (body_edges scope.now (stmt_shapes body.now)) graph) }
+{
+    let end = before(points)?;
+    let links = body_links(scope, body, end)?;
+    graph_of_links(scope.allocator(), &links, points)
+}

@@ -1,0 +1,5 @@
+pub mod Turned
+pub mod CaseLinks
+pub mod LabelLists
+pub mod Alike
+pub mod Putting

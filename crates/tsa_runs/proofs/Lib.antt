@@ -1,0 +1,4 @@
+pub mod Lists
+pub mod Paths
+pub mod Rounds
+pub mod Whole
