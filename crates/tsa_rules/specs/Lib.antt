@@ -5,7 +5,6 @@ pub mod Conditions
 pub mod Points
 pub mod Effects
 pub mod Fails
-pub mod Outcomes
 pub mod KindSets
 pub mod Marks
 pub mod Cases

@@ -5,12 +5,12 @@ ghost use Rattle.tsa_core.specs.Programs.{Function, Program};
 ghost use Rattle.tsa_rules.specs.Cases.{after_asked, after_claim_in, after_role, answer_in, answer_told, attempt_in, case_of, effect_in, entry_in, exit_in, is_still, is_taken_in, later_in, left_by_claim, lock_of, tests_variable};
 ghost use Rattle.tsa_rules.specs.Effects.{after_attempt, after_decision as spec_after_decision, deeper as spec_deeper, effect, entry, entry_by, exit, exit_by, given_back as spec_given_back, if_taken as spec_if_taken, is_success, later, taken_by as spec_taken_by};
 ghost use Rattle.tsa_rules.specs.Marks.{claim_kind};
-ghost use Rattle.tsa_rules.specs.Outcomes.{outcome_of};
+ghost use Rattle.tsa_links.specs.Links.{outcome_of};
 
 use crate::case::{Asked, Case, Lock, Role, Test};
 use crate::mark::Claim;
-use crate::outcome::Outcome;
 use crate::status::Status;
+use tsa_links::Outcome;
 use tsa_tree::attr::AttrKind;
 
 /// The greatest depth.

@@ -9,7 +9,6 @@ mod images;
 mod kinds;
 mod laws;
 mod mark;
-mod outcome;
 mod rule;
 mod status;
 mod statuses;
@@ -32,7 +31,7 @@ pub use laws::{
     what_does_not_fail_fits,
 };
 pub use mark::{Claim, Mark};
-pub use outcome::Outcome;
 pub use rule::{Rule, rule_of};
 pub use status::Status;
 pub use statuses::Statuses;
+pub use tsa_links::Outcome;
