@@ -17,7 +17,7 @@ IsRun es (p ∷ []) (o ∷ os) = ⊥
 IsRun es (p ∷ q ∷ ps) [] = ⊥
 IsRun es (p ∷ q ∷ ps) (o ∷ os) = IsStep es p (outcome_of o) q × IsRun es (q ∷ ps) os
 
--- A block is a run that can't be longer: its last point leads alone to no point but its own first one. The other edges are those into its first
+-- A block is a run that can't go on: its last point leads alone to no point but its own first one. The other edges are those into its first
 -- point, in their order.
 pub record IsBlock (es : List control.Edge) (b : Block) : Type 0 where
   pub run : IsRun es b.points.items b.inner.items
@@ -33,7 +33,8 @@ abbrev pub points_in : List Block → List (List ℕ)
 points_in [] = []
 points_in (b ∷ bs) = b.points.items ∷ points_in bs
 
--- A graph of so many points with these edges: its blocks are longest runs, and each point stands in exactly one of them.
+-- A graph of so many points with these edges: its blocks are runs that can't go on, and each point stands in exactly one of them, so that none can
+-- begin earlier either.
 pub record IsGraph (n : ℕ) (es : List control.Edge) (g : Graph) : Type 0 where
   pub blocks : AreBlocks es g.blocks.items
   pub all : (p : ℕ) → times_in p (points_in g.blocks.items) ≡ bit (nat_lt p n)

@@ -29,7 +29,8 @@ IsChain next [] = ⊥
 IsChain next (p ∷ []) = Unit {0}
 IsChain next (p ∷ q ∷ ps) = (step next p ≡ Some q) × IsChain next (q ∷ ps)
 
--- A run can't be longer: its last point leads on nowhere, but for its own first point, and so does none to its first point but its last.
+-- A run can't go on: its last point leads nowhere but to its own first one. Where each point stands in one run, once, and none of these can go on,
+-- none can begin earlier either: what leads to its first point would stand at the end of a run that goes on.
 pub record IsLongest (next : List (Option ℕ)) (run : List ℕ) : Type 0 where
   pub chain : IsChain next run
   pub ends : (q : ℕ) → step next (last_of run) ≡ Some q → q ≡ first_of run
