@@ -8,6 +8,7 @@ mod paths;
 mod points;
 mod premises;
 
+pub use calls::function_called;
 pub use judge::{Judged, attribute_paths};
 pub use laws::calls_are_of_the_core;
-pub use points::Around;
+pub use points::{Around, Spot, calling};

@@ -29,7 +29,7 @@ use Rattle.tsa_profile.proofs.FunctionScopes.{KnowsFunctions}
 use Rattle.tsa_profile.proofs.KnownCalls.{Reaches, points_reach}
 
 -- the function that is called at a point is that of the core program's call
-abbrev number_called : Option Call → Option ℕ
+abbrev pub number_called : Option Call → Option ℕ
 number_called c = option_map (λ x. x.function) c
 
 called_init : (here : Scope) (kind : Kind) (i : Option Initialiser) → option_and_then (function_called here) (init_value i) ≡ number_called (declared here kind i).call
@@ -37,7 +37,7 @@ called_init here kind None = refl
 called_init here kind (Some (value e)) = refl
 called_init here kind (Some (list items span)) = refl
 
-called_same : (result : Kind) (here : Scope) (d : Deed) → called_at (knows here d) ≡ number_called (point_of result (knows here d)).call
+pub called_same : (result : Kind) (here : Scope) (d : Deed) → called_at (knows here d) ≡ number_called (point_of result (knows here d)).call
 called_same result here (declares d) = called_init here (thing_type here d.ctype).kind d.init
 called_same result here (evaluates e) = refl
 called_same result here (assigns left o right) = refl
@@ -52,24 +52,24 @@ called_same result here ends = refl
 
 -- A program whose first functions, in order, are those that are declared so far, with their attributes.
 module _ (p : Program) (ds more : List Declared) (function : Declared → Function) (are : p.functions ≡ map function (ds ++ more)) where
-  abbrev own_attrs : Declared → List Attr
+  abbrev pub own_attrs : Declared → List Attr
   own_attrs d = (function d).attrs
 
-  abbrev behind : List (List Attr)
+  abbrev pub behind : List (List Attr)
   behind = map own_attrs ds
 
   pub attributes_of : (n : ℕ) (d : Declared) → slice_get ds n ≡ Some d → attributes_at behind n ≡ own_attrs d
   attributes_of n d at = ap (λ o. unwrap_or o []) (map_at own_attrs ds n ∙ ap (option_map own_attrs) at)
 
-  function_at : (n : ℕ) (d : Declared) → slice_get ds n ≡ Some d → slice_get p.functions n ≡ Some (function d)
+  pub function_at : (n : ℕ) (d : Declared) → slice_get ds n ≡ Some d → slice_get p.functions n ≡ Some (function d)
   function_at n d at = ap (λ fs. slice_get fs n) are ∙ map_at function (ds ++ more) n ∙ ap (option_map function) (front_at ds more n d at)
 
-  called_ways_same : (ways : List (Option Way)) (c : Option Call) → Reaches ds c → deed.called_ways behind ways (number_called c) ≡ called p ways c
+  pub called_ways_same : (ways : List (Option Way)) (c : Option Call) → Reaches ds c → deed.called_ways behind ways (number_called c) ≡ called p ways c
   called_ways_same ways None h = refl
   called_ways_same ways (Some c) h =
       ap (substituted_ways ways) (attributes_of c.function h.0 h.1) ∙ sym (ap (called_in ways) (function_at c.function h.0 h.1))
 
-  point_ways_same : (stable : ℕ → Bool) (result : Kind) (k : Known) → Reaches ds (point_of result k).call
+  pub point_ways_same : (stable : ℕ → Bool) (result : Kind) (k : Known) → Reaches ds (point_of result k).call
       → ways_at p.layout behind stable k ≡ point_ways p (uses_of p.layout stable k) (point_of result k)
   point_ways_same stable result k h =
       let u = uses_of p.layout stable k in

@@ -53,19 +53,19 @@ map_both f g [] = refl
 map_both f g (x ∷ xs) = ap (λ ys. f (g x) ∷ ys) (map_both f g xs)
 
 -- The bodies that came, and those that come.
-abbrev or_first : Option Bodied → Option Bodied → Option Bodied
+abbrev pub or_first : Option Bodied → Option Bodied → Option Bodied
 or_first None other = other
 or_first (Some b) other = Some b
 
-or_nothing : (o : Option Bodied) → or_first o None ≡ o
+pub or_nothing : (o : Option Bodied) → or_first o None ≡ o
 or_nothing None = refl
 or_nothing (Some b) = refl
 
 -- the body of an item, and the first of a name
-abbrev own_body : Scope → Head → Statements → Bodied
+abbrev pub own_body : Scope → Head → Statements → Bodied
 own_body here head body = record { here = inside here head true; head = head; body = body }
 
-abbrev bodies_behind : Bodies → Scope → UnitItem → Bodies
+abbrev pub bodies_behind : Bodies → Scope → UnitItem → Bodies
 bodies_behind bodies here (body_item head body close) = λ name. or_first (bodies name) (program.or_body (bytes_eq name head.name.text) (own_body here head body) None)
 bodies_behind bodies here item = bodies
 
@@ -84,7 +84,7 @@ came_so_far bodies here (global_item d) name other = refl
 came_so_far bodies here (function_item head) name other = refl
 
 -- what a typed body tells of its head
-head_told : (here : Scope) (head : Head) (body : Statements) → first (body_premises here head body) ≡ None → is_another here head true (found here.names head.name.text) ≡ false
+pub head_told : (here : Scope) (head : Head) (body : Statements) → first (body_premises here head body) ≡ None → is_another here head true (found here.names head.name.text) ≡ false
 unfolding body_premises head_premises
 head_told here head body typed =
     let result = declared_premises here declaring.Result (is_another here head true (found here.names head.name.text)) head.name.span head.result in
@@ -112,7 +112,7 @@ module _ (ds : List Declared) (bodies : Bodies) (here : Scope) (h : Stands ds bo
           subst (IsMarked (behind_head here head true)) (sym ((bytes_eq-Decides name head.name.text).0 is)) (number_of here head, (told.means, told.marked))
       by same name b None before false is came = absurd cc
 
-  item_stands : (item : UnitItem) → first (item_premises here item) ≡ None → Stands (ds ++ declared_by here item) (bodies_behind bodies here item) (behind_item here item)
+  pub item_stands : (item : UnitItem) → first (item_premises here item) ≡ None → Stands (ds ++ declared_by here item) (bodies_behind bodies here item) (behind_item here item)
   item_stands (structure_item tag alias attrs members span) typed =
       stands_data ds bodies here (behind_item here (structure_item tag alias attrs members span)) (adds_structure here tag alias attrs members span) h
   item_stands (alias_item name ctype span) typed = stands_data ds bodies here (behind_item here (alias_item name ctype span)) (adds_alias here name ctype span) h
@@ -137,7 +137,7 @@ module _ (outside : List ℕ) (items : List UnitItem) where
   paths_by bodies d = paths_if p (function_of p.layout d (bodies d.head.name.text))
 
   -- What was declared and what came, beside what is still to come, is all of the unit.
-  record Reads (ds : List Declared) (bodies : Bodies) (here : Scope) (rest : List UnitItem) : Type 0 where
+  pub record Reads (ds : List Declared) (bodies : Bodies) (here : Scope) (rest : List UnitItem) : Type 0 where
     pub stands : Stands ds bodies here
     pub declared : declared_functions start items ≡ ds ++ declared_functions here rest
     pub bodied : (name : List ℕ) → or_first (bodies name) (bodied_function name here rest) ≡ bodied_function name start items
@@ -164,7 +164,7 @@ module _ (outside : List ℕ) (items : List UnitItem) where
     declared_tables h item = ap (λ ys. map (paths_by bodies) ds ++ ys) (new_ones h item) ∙ sym (map-append (paths_by bodies) ds (declared_by here item))
 
     -- what is read of a unit behind an item
-    reads_on : (item : UnitItem) (rest : List UnitItem) → Reads ds bodies here (item ∷ rest)
+    pub reads_on : (item : UnitItem) (rest : List UnitItem) → Reads ds bodies here (item ∷ rest)
         → Reads (ds ++ declared_by here item) (bodies_behind bodies here item) (behind_item here item) rest
     unfolding declared_functions bodied_function items_premises
     reads_on item rest r =
@@ -180,22 +180,22 @@ module _ (outside : List ℕ) (items : List UnitItem) where
     module _ (head : Head) (body : Statements) (close : Span) (rest : List UnitItem) (r : Reads ds bodies here (body_item head body close ∷ rest))
         (n : Reads (ds ++ first_head here head true) (bodies_behind bodies here (body_item head body close)) (behind_head here head true) rest)
         (told : TellsBody ds bodies here r.stands head) where
-      abbrev after : List Declared
+      abbrev pub after : List Declared
       after = ds ++ first_head here head true
 
-      abbrev came : Bodies
+      abbrev pub came : Bodies
       came = bodies_behind bodies here (body_item head body close)
 
-      came_own : came head.name.text ≡ Some (own_body here head body)
+      pub came_own : came head.name.text ≡ Some (own_body here head body)
       came_own =
           ap (λ o. or_first o (program.or_body (bytes_eq head.name.text head.name.text) (own_body here head body) None)) told.unknown
           ∙ ap (λ hit. program.or_body hit (own_body here head body) None) ((bytes_eq-Decides head.name.text head.name.text).1 refl)
 
-      is_first : bodied_function head.name.text start items ≡ Some (own_body here head body)
+      pub is_first : bodied_function head.name.text start items ≡ Some (own_body here head body)
       is_first = sym (n.bodied head.name.text) ∙ ap (λ o. or_first o (bodied_function head.name.text (behind_head here head true) rest)) came_own
 
       -- the function of the body's number has the body's name, and no other one has it
-      own_name : (d : Declared) → slice_get after (number_of here head) ≡ Some d → d.head.name.text ≡ head.name.text
+      pub own_name : (d : Declared) → slice_get after (number_of here head) ≡ Some d → d.head.name.text ≡ head.name.text
       own_name d at =
           let x = n.stands.named head.name.text told.means.0 (number_of here head) told.means.1.0 told.means.1.1 in
           ap (λ y. y.head.name.text) (some_same (sym at ∙ x.1.0)) ∙ x.1.1
@@ -263,7 +263,7 @@ module _ (outside : List ℕ) (items : List UnitItem) where
       ∙ all_tables after (bodies_behind bodies here item) there rest n
 
 -- before the first item
-none_came_yet : (items : List UnitItem) → Stands [] (λ name. None) (outset items)
+pub none_came_yet : (items : List UnitItem) → Stands [] (λ name. None) (outset items)
 none_came_yet items = record {
   count = refl;
   named = λ name e n is means. absurd cc;
