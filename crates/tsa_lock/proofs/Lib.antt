@@ -1,0 +1,3 @@
+pub mod Structs
+pub mod OfTheProgram
+pub mod Worked

@@ -1,0 +1,4 @@
+pub mod Kinds
+pub mod Structs
+pub mod Laws
+pub mod Examples
