@@ -1,0 +1,4 @@
+pub mod Roles
+pub mod Variables
+pub mod Told
+pub mod Laws
