@@ -1,0 +1,4 @@
+pub mod Points
+pub mod Visits
+pub mod Marking
+pub mod Notes

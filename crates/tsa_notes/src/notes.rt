@@ -1,0 +1,22 @@
+//! What is noted of the points of a body.
+
+use tsa_marks::{Marks, Numbers};
+use tsa_roles::Roles;
+use tsa_tree::kind::Kind;
+
+/// What the points of a body are to the rules, by their numbers: their roles, the functions that they call, and a row of marks for each; and the kinds of
+/// the locals that they declare, in order.
+#[derive(Drop)]
+pub struct Notes {
+    pub roles: Roles,
+    pub callees: Vec<Option<u32>>,
+    pub kinds: Vec<Kind>,
+    pub marks: Marks,
+}
+
+/// The same, with the numbers by which paths were noted.
+#[derive(Drop)]
+pub struct Noted {
+    pub notes: Notes,
+    pub numbers: Numbers,
+}
