@@ -1,0 +1,13 @@
+//! What the rules of thread safety go by in a function: the view of it, by points and by the numbers of its paths.
+#![tactic(auto)]
+
+mod build;
+mod calls;
+mod facts;
+mod new;
+mod parts;
+mod view;
+
+pub use calls::{effect, entry_status, exit_status, fails};
+pub use facts::Facts;
+pub use view::RuleView;
