@@ -26,3 +26,5 @@ mod symbols;
 mod texts;
 #[cfg(test)]
 mod uses;
+#[cfg(test)]
+mod views;
