@@ -33,8 +33,7 @@ pub fn effect(view: &RuleView<'_>, point: u32, cap: u32, status: Status, outcome
     view.case(point, cap).effect(outcome, status)
 }
 
-/// Whether the rule of a number fails at a point for a path of a status before it. No rule of another number does, and that of edges that meet isn't asked
-/// of one status.
+/// Whether the rule of a number fails at a point for a path of a status before it. That of edges that meet isn't asked of one status, and never fails here.
 pub fn fails(view: &RuleView<'_>, point: u32, rule: u32, cap: u32, status: Status) -> bool
     ensures { (u : Program) (f : Function) (paths : List Way) (c : Way) (r : Rule) → IsViewOf u f paths view.now → point < length (points_of f) → slice_get paths cap ≡ Some c → rule_number r ≡ rule → result ≡ spec_fails r u f point c status }
 {
