@@ -1,19 +1,18 @@
 -- What holds at the entry and goes along each edge holds wherever a walk leads.
-use Rattle.std.proofs.Common.{◌≡◌, ℕ, true, List, [], ◌∷◌, Some, Contains, sym, ◌∙◌, subst, ap, true≢false}
+use Rattle.std.proofs.Common.{◌≡◌, ℕ, true, List, [], ◌∷◌, Contains, sym, ◌∙◌, subst, ap, true≢false}
 use Rattle.tsa_way.specs.Ways.{Way}
-use Rattle.tsa_core.specs.Control.{Outcome}
+use Rattle.tsa_core.specs.Control.{Outcome, edge}
 use Rattle.tsa_core.specs.Programs.{Function, Program}
 use Rattle.tsa_rules.specs.Statuses.{Status}
 use Rattle.tsa_rules.specs.Effects.{effect}
 use Rattle.tsa_rules.specs.Fails.{fails}
-use Rattle.tsa_rules.specs.Walks.{Course, course_of, Edge, entry_edge, edge_from, leads_to, IsWalk, along, Reach, on_a_walk, where_edges_meet}
-use Rattle.tsa_rules.proofs.Tests.{some_same}
+use Rattle.tsa_rules.specs.Walks.{Course, course_of, Edge, entry_edge, edge_from, LeadsTo, IsWalk, along, Reach, on_a_walk, where_edges_meet}
 use Rattle.tsa_rules.specs.Kept.{Rows, AreKept, KeptRowsBreakNoRule}
 
 pub carried : (k : Course) (At : ℕ → Status → Type 0) → At 0 k.entry
-    → ((p q : ℕ) (o : Outcome) (s : Status) → k.next p o ≡ Some q → At p s → At q (k.effect p o s))
-    → (e : Edge) (before : List Edge) (q : ℕ) → IsWalk k e before → leads_to k e ≡ Some q → At q (along k e before)
-carried k At start step entry_edge [] q w leads = subst (λ p. At p k.entry) (some_same leads) start
+    → ((p q : ℕ) (o : Outcome) (s : Status) → Contains k.edges (edge p o q) → At p s → At q (k.effect p o s))
+    → (e : Edge) (before : List Edge) (q : ℕ) → IsWalk k e before → LeadsTo k e q → At q (along k e before)
+carried k At start step entry_edge [] q w leads = subst (λ p. At p k.entry) (sym leads) start
 carried k At start step entry_edge (d ∷ before) q w leads = absurd w
 carried k At start step (edge_from p o) [] q w leads = absurd w
 carried k At start step (edge_from p o) (d ∷ before) q w leads = step p q o (along k d before) leads (carried k At start step d before p w.1 w.0)
@@ -23,7 +22,7 @@ abbrev HasRow : Rows → Way → ℕ → Status → Type 0
 HasRow rows c p s = (rows.has_point p ≡ true) × (s ≡ rows.status p c)
 
 has_row : (u : Program) (f : Function) (paths : List Way) (rows : Rows) → AreKept u f paths rows → (c : Way) → Contains paths c
-    → (e : Edge) (before : List Edge) (q : ℕ) → IsWalk (course_of u f c) e before → leads_to (course_of u f c) e ≡ Some q
+    → (e : Edge) (before : List Edge) (q : ℕ) → IsWalk (course_of u f c) e before → LeadsTo (course_of u f c) e q
     → HasRow rows c q (along (course_of u f c) e before)
 has_row u f paths rows kept c among =
     carried (course_of u f c) (HasRow rows c) (kept.start, sym (kept.entry_is c among))

@@ -1,11 +1,11 @@
 -- Where edges agree, walks into a point bring one status: by the edges before the last one.
-use Rattle.std.proofs.Common.{◌≡◌, ℕ, Bool, true, false, List, [], ◌∷◌, Some, refl, sym, ◌∙◌, ap, eq-eqb}
+use Rattle.std.proofs.Common.{◌≡◌, ℕ, Bool, true, false, List, [], ◌∷◌, refl, sym, ◌∙◌, ap, eq-eqb}
 use Rattle.tsa_way.specs.Ways.{Way}
 use Rattle.tsa_core.specs.Control.{Outcome}
 use Rattle.tsa_core.specs.Programs.{Function, Program}
 use Rattle.tsa_rules.specs.Statuses.{Status, Free, Shared, Exclusive, Lent, Pending, same_status}
 use Rattle.tsa_rules.specs.Fails.{TS10}
-use Rattle.tsa_rules.specs.Walks.{Course, course_of, Edge, entry_edge, edge_from, leads_to, IsWalk, along, Reach, Fails, where_edges_meet}
+use Rattle.tsa_rules.specs.Walks.{Course, course_of, Edge, entry_edge, edge_from, LeadsTo, IsWalk, along, Reach, Fails, where_edges_meet}
 use Rattle.tsa_rules.specs.StatusLaws.{OneStatusWhereEdgesAgree}
 use Rattle.tsa_rules.proofs.Tests.{never, same}
 
@@ -32,7 +32,7 @@ through k q p o s t one (d ∷ before) w e =
     ap (k.effect q o) (one d (along k d before) (record { leads = w.0; before = before; is_walk = w.1; brings = refl })) ∙ e
 
 one : (u : Program) (f : Function) (c : Way) → ((p : ℕ) → Fails u f p c TS10 → ⊥)
-    → (e : Edge) (before : List Edge) (p : ℕ) → IsWalk (course_of u f c) e before → leads_to (course_of u f c) e ≡ Some p
+    → (e : Edge) (before : List Edge) (p : ℕ) → IsWalk (course_of u f c) e before → LeadsTo (course_of u f c) e p
     → (d : Edge) (t : Status) → Reach (course_of u f c) d p t → along (course_of u f c) e before ≡ t
 one u f c agree entry_edge [] p w leads d t r =
     settled (along (course_of u f c) entry_edge []) t (λ differ.

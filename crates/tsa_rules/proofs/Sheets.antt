@@ -1,11 +1,9 @@
 -- The rows of a sheet that passes are kept.
-use Rattle.std.proofs.Common.{◌≡◌, ℕ, zero, suc, ◌+◌, nat_eq, ℤ, pos, negsuc, Bool, true, false, not, ◌&&◌, ◌||◌, List, [], ◌∷◌, Contains, Option, Some, None, slice_get, refl, sym, ◌∙◌, ap, subst, arith, eqb-true}
-use Rattle.std.proofs.lemmas.Bool.Decides.{nat_tests}
+use Rattle.std.proofs.Common.{◌≡◌, ℕ, zero, suc, ◌+◌, Bool, true, false, not, ◌&&◌, ◌||◌, List, [], ◌∷◌, Contains, Option, Some, None, slice_get, refl, sym, subst, arith}
 use Rattle.std.proofs.lemmas.List.Sums.{AllPass-from_list_all}
-use Rattle.std.specs.Prelude.{int_le}
 use Rattle.std.specs.List.{list_all}
 use Rattle.tsa_way.specs.Ways.{Way}
-use Rattle.tsa_core.specs.Control.{Outcome, Next, Yes, No, Rest, Chosen, Edge, edge, same_outcome, leaves_by, next_point}
+use Rattle.tsa_core.specs.Control.{Outcome, edge}
 use Rattle.tsa_core.specs.Programs.{Function, Program}
 use Rattle.tsa_rules.specs.Statuses.{Status}
 use Rattle.tsa_rules.specs.Points.{edges_of, is_status}
@@ -24,41 +22,6 @@ denied false e = refl
 
 each : {X : Type 0} (test : X → Bool) (xs : List X) → list_all test xs ≡ true → (x : X) → Contains xs x → test x ≡ true
 each test xs e x h = subst (λ y. test y ≡ true) h.2 (AllPass-from_list_all test xs e h.0 x h.1)
-
-same_ints : (z w : ℤ) → (int_le z w && int_le w z) ≡ true → z ≡ w
-same_ints (pos a) (pos b) e = let same : a ≡ b = grind (arith, nat_tests, e) in ap pos same
-same_ints (negsuc a) (negsuc b) e = let same : a ≡ b = grind (arith, nat_tests, e) in ap negsuc same
-same_ints (pos a) (negsuc b) e = never (sym e)
-same_ints (negsuc a) (pos b) e = never (sym e)
-
-outcome_same : (a b : Outcome) → same_outcome a b ≡ true → a ≡ b
-outcome_same Next Next e = refl
-outcome_same Yes Yes e = refl
-outcome_same No No e = refl
-outcome_same Rest Rest e = refl
-outcome_same (Chosen z) (Chosen w) e = ap Chosen (same_ints z w e)
-outcome_same a b e = never (sym e)
-
-edge_same : (e : Edge) (p q : ℕ) (o : Outcome) → e.from ≡ p → e.outcome ≡ o → e.to ≡ q → e ≡ edge p o q
-edge_same e p q o from outcome to = ap (λ x. edge x e.outcome e.to) from ∙ (ap (λ x. edge p x e.to) outcome ∙ ap (λ x. edge p o x) to)
-
--- where all edges pass, the one to the next point does
-followed_step : (test : Edge → Bool) (e : Edge) (es : List Edge) (p q : ℕ) (o : Outcome) (b : Bool) → leaves_by p o e ≡ b
-    → (list_all test es ≡ true → next_point es p o ≡ Some q → test (edge p o q) ≡ true)
-    → list_all test (e ∷ es) ≡ true → next_point (e ∷ es) p o ≡ Some q → test (edge p o q) ≡ true
-followed_step test e es p q o true leaves rest all next =
-    let to : Some e.to ≡ Some q = rw leaves at next in
-    let target : e.to ≡ q = cc in
-    let from : e.from ≡ p = eqb-true e.from p (left_part (nat_eq e.from p) (same_outcome e.outcome o) leaves) in
-    let outcome : e.outcome ≡ o = outcome_same e.outcome o (right_part (nat_eq e.from p) (same_outcome e.outcome o) leaves) in
-    subst (λ x. test x ≡ true) (edge_same e p q o from outcome target) (left_part (test e) (list_all test es) all)
-followed_step test e es p q o false leaves rest all next =
-    let further : next_point es p o ≡ Some q = rw leaves at next in
-    rest (right_part (test e) (list_all test es) all) further
-
-followed : (test : Edge → Bool) (es : List Edge) (p q : ℕ) (o : Outcome) → list_all test es ≡ true → next_point es p o ≡ Some q → test (edge p o q) ≡ true
-followed test [] p q o all next = cc
-followed test (e ∷ es) p q o all next = followed_step test e es p q o (leaves_by p o e) refl (followed test es p q o) all next
 
 -- where all points pass, each does
 point_passed : (u : Program) (f : Function) (paths : List Way) (points : List (Option (List Status))) (at p : ℕ) (x : Option (List Status))
@@ -99,11 +62,11 @@ has_rule TS11 = (10, omega arith, refl)
 has_rule TS12 = (11, omega arith, refl)
 
 edge_kept : (u : Program) (f : Function) (x : Sheet) → list_all (edge_passes u f x.paths (rows_of x)) (edges_of f) ≡ true
-    → (p q : ℕ) (o : Outcome) → (rows_of x).has_point p ≡ true → next_point (edges_of f) p o ≡ Some q
+    → (p q : ℕ) (o : Outcome) → (rows_of x).has_point p ≡ true → Contains (edges_of f) (edge p o q)
     → ((rows_of x).has_point q && list_all (goes_by u f (rows_of x) (edge p o q)) x.paths) ≡ true
 edge_kept u f x all p q o h next =
     where_so ((rows_of x).has_point p) ((rows_of x).has_point q && list_all (goes_by u f (rows_of x) (edge p o q)) x.paths)
-    (followed (edge_passes u f x.paths (rows_of x)) (edges_of f) p q o all next) h
+    (each (edge_passes u f x.paths (rows_of x)) (edges_of f) all (edge p o q) next) h
 
 pub sheets_that_pass_are_kept : SheetsThatPassAreKept
 sheets_that_pass_are_kept u f x e =

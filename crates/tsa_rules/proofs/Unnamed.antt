@@ -13,7 +13,7 @@ use Rattle.tsa_rules.specs.Conditions.{Subject, the_call, the_local, Condition, 
 use Rattle.tsa_rules.specs.Points.{point_at, uses_at, attrs_at, local_begun, is_guarded_by, is_read_under, is_write_under, reads_under, writes_under, is_leaving}
 use Rattle.tsa_rules.specs.Effects.{entry, exit, after_claim, after_call, after_asking, after_test, effect, later}
 use Rattle.tsa_rules.specs.Fails.{Rule, TS01, TS02, TS03, TS04, TS05, TS06, TS07, TS08, TS09, TS10, TS11, TS12, breaks_attribute, wants_exclusive, wants_held, wants_free, wants_takable, wants_release, is_otherwise_held, is_mentioned, fails}
-use Rattle.tsa_rules.specs.Walks.{course_of, Edge, IsWalk, leads_to, along, Reach, on_a_walk, where_edges_meet}
+use Rattle.tsa_rules.specs.Walks.{course_of, Edge, IsWalk, LeadsTo, along, Reach, on_a_walk, where_edges_meet}
 use Rattle.tsa_rules.specs.StatusLaws.{IsUnnamed, RulesSpeakOfNamedPaths}
 use Rattle.tsa_rules.proofs.Tests.{never, neither}
 use Rattle.tsa_rules.proofs.Carried.{carried}
@@ -75,7 +75,7 @@ exit_free : (u : Program) (f : Function) (p : ℕ) (c : Way) → IsUnnamed u f c
 exit_free u f p c h = rw (unclaimed f.attrs c h.own) refl
 
 is_free_along : (u : Program) (f : Function) (c : Way) → IsUnnamed u f c → (e : Edge) (before : List Edge) (q : ℕ) → IsWalk (course_of u f c) e before
-    → leads_to (course_of u f c) e ≡ Some q → along (course_of u f c) e before ≡ Free
+    → LeadsTo (course_of u f c) e q → along (course_of u f c) e before ≡ Free
 is_free_along u f c h =
     carried (course_of u f c) (λ p s. s ≡ Free) (entry_free u f c h) (λ p q o s leads free. ap (λ t. effect u f p c o t) free ∙ stays_free u f p c o h)
 
