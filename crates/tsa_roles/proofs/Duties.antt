@@ -19,7 +19,7 @@ use Rattle.tsa_told.specs.declared.duty.Duty.{Duty}
 use Rattle.tsa_told.specs.declared.duty.Duty.TheVariants as duty
 use Rattle.tsa_told.specs.Duties.{Tells, role_with}
 use Rattle.tsa_roles.specs.Roles.{duty_in, duty_with}
-use Rattle.tsa_roles.specs.Told.{AreRoles, Grows, GrowsByCall, IsDuty}
+use Rattle.tsa_roles.specs.Told.{AreRoles, Grows, IsDuty}
 
 -- A function whose one point begins a local with what a try gives, in a program with that try: there the number of the local tells it from others.
 abbrev with_try : Program → Program
@@ -122,17 +122,6 @@ module _ (u : Program) (x : Point) where
   is_duty (duty.Leaves a) b t h = record { role = λ f. t.role u f (is_a_try u x.call); condition = t.condition; variable = none (duty.Leaves a) t refl }
   is_duty duty.Passes b t h = record { role = λ f. t.role u f (is_a_try u x.call); condition = t.condition; variable = none duty.Passes t refl }
 
-  -- the same by the call
-  of_some : (b : Bool) (o : Option ℕ) (n : ℕ) → o ≡ Some n → is_some (if b then o else None) ≡ b
-  of_some true o n e = ap is_some e
-  of_some false o n e = refl
-
-  pub is_duty_by_call : (d : Duty) (b : Bool) → Tells d x.action → is_a_try u x.call ≡ b → IsDuty u x (duty_with d b)
-  is_duty_by_call (duty.Declares n) b t h = is_duty (duty.Declares n) b t (of_some (is_a_try u x.call) (local_begun x.action) n (begun n t) ∙ h)
-  is_duty_by_call (duty.Tests told) b t h = is_duty (duty.Tests told) (is_some (try_variable_at u x)) t refl
-  is_duty_by_call (duty.Leaves a) b t h = is_duty (duty.Leaves a) (is_some (try_variable_at u x)) t refl
-  is_duty_by_call duty.Passes b t h = is_duty duty.Passes (is_some (try_variable_at u x)) t refl
-
 -- one point more
 zip_push : (u : Program) (points : List Point) (duties : List Duty) (x : Point) (d : Duty) → AllZip (IsDuty u) points duties → IsDuty u x d
     → AllZip (IsDuty u) (points ++ x ∷ []) (duties ++ d ∷ [])
@@ -148,9 +137,6 @@ more u first points x old new d e roles ordered is =
 
 pub grows : (d : Duty) (is_try : Bool) (old new : List Duty) → new ≡ old ++ duty_with d is_try ∷ [] → Grows d is_try old new
 grows d is_try old new e u first points x roles ordered tells tried = more u first points x old new (duty_with d is_try) e roles ordered (is_duty u x d is_try tells tried)
-
-pub grows_by_call : (d : Duty) (is_try : Bool) (old new : List Duty) → new ≡ old ++ duty_with d is_try ∷ [] → GrowsByCall d is_try old new
-grows_by_call d is_try old new e u first points x roles ordered tells tried = more u first points x old new (duty_with d is_try) e roles ordered (is_duty_by_call u x d is_try tells tried)
 
 pub none_yet : (u : Program) (first : ℕ) → AreRoles u first [] []
 none_yet u first = record { in_order = tt; each = tt }

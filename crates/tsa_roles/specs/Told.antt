@@ -23,11 +23,7 @@ pub record AreRoles (u : Program) (first : ℕ) (points : List Point) (duties : 
   pub in_order : AreInOrder first points
   pub each : AllZip (IsDuty u) points duties
 
--- What a point does is put behind the others, with whether it begins a local with what a try gives; or with whether its call is a try, whatever it does.
+-- What a point does is put behind the others, with whether it begins a local with what a try gives.
 abbrev pub Grows : Duty → (is_try : Bool) → (old new : List Duty) → Type 0
 Grows d is_try old new = (u : Program) (first : ℕ) (points : List Point) (x : Point) → AreRoles u first points old → AreInOrder first (points ++ x ∷ [])
     → Tells d x.action → is_some (try_variable_at u x) ≡ is_try → AreRoles u first (points ++ x ∷ []) new
-
-abbrev pub GrowsByCall : Duty → (is_try : Bool) → (old new : List Duty) → Type 0
-GrowsByCall d is_try old new = (u : Program) (first : ℕ) (points : List Point) (x : Point) → AreRoles u first points old → AreInOrder first (points ++ x ∷ [])
-    → Tells d x.action → is_a_try u x.call ≡ is_try → AreRoles u first (points ++ x ∷ []) new

@@ -3,7 +3,7 @@ ghost use Rattle.std.specs.Prelude.{◌≡◌, ◌+◌, ◌<◌, ◌++◌, ◌�
 ghost use Rattle.tsa_core.specs.Programs.{Program};
 ghost use Rattle.tsa_told.specs.declared.duty.Duty.TheVariants as duty;
 ghost use Rattle.tsa_roles.specs.Roles.{asked_in, begin_in, begin_of as spec_begin_of, duty_in, duty_with, local_in, number_in, role_in, tries_in};
-ghost use Rattle.tsa_roles.specs.Told.{AreRoles, Grows, GrowsByCall};
+ghost use Rattle.tsa_roles.specs.Told.{AreRoles, Grows};
 ghost use Rattle.tsa_roles.specs.Variables.{variable_after, variable_in};
 
 use crate::variables::{Variable, make_room, put, variable_of};
@@ -133,7 +133,6 @@ impl Roles {
     pub fn push(&mut self, duty: Duty, is_try: bool) -> Result<(), NoMemory>
         ensures put { OnOk result (self.new ≡ self.old ++ duty_with duty is_try ∷ []) }
         ensures grown { OnOk result (Grows duty is_try self.old self.new) }
-        ensures grown_by_call { OnOk result (GrowsByCall duty is_try self.old self.new) }
         ensures kept { OnErr result (self.new ≡ self.old) }
     {
         self.put(duty_for(duty, is_try))

@@ -1,14 +1,9 @@
 use Rattle.std.proofs.Common.{◌∙◌, ◌++◌, ◌∷◌, [], ap}
 use Rattle.std.proofs.lemmas.Result.{on_ok_weaker}
-use Rattle.tsa_roles.proofs.Duties.{grows, grows_by_call}
+use Rattle.tsa_roles.proofs.Duties.{grows}
 use Rattle.tsa_roles.proofs.roles.Roles.push.Goals as goal
 
 pub returns-clause-grown : goal.returns-clause-grown
 returns-clause-grown c =
     on_ok_weaker c.put.result
     (λ e. grows c.args.duty c.args.is_try c.args.self.now c.put.new.self (e ∙ ap (λ d. c.args.self.now ++ d ∷ []) c.duty_for.ensures)) c.put.ensures.put
-
-pub returns-clause-grown_by_call : goal.returns-clause-grown_by_call
-returns-clause-grown_by_call c =
-    on_ok_weaker c.put.result
-    (λ e. grows_by_call c.args.duty c.args.is_try c.args.self.now c.put.new.self (e ∙ ap (λ d. c.args.self.now ++ d ∷ []) c.duty_for.ensures)) c.put.ensures.put
