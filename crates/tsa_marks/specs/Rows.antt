@@ -3,6 +3,7 @@ use Rattle.std.specs.Prelude.{◌≡◌, ℕ, ◌-◌, ◌/◌, ◌%◌, ◌^◌
 use Rattle.std.specs.Map.{lookup}
 use Rattle.tsa_rules.specs.declared.mark.Mark.{Mark}
 use Rattle.tsa_rules.specs.Marks.{no_mark}
+use Rattle.tsa_marks.specs.declared.entries.Entry.{Entry}
 
 -- the marks that are noted, each under its row and the number of its path
 pub record Rows : Type 0 where
@@ -11,6 +12,10 @@ pub record Rows : Type 0 where
 
 abbrev pub rows_in : Rows → ℕ
 rows_in m = m.count
+
+-- a mark that is noted, as one of them
+abbrev pub entry_of : Entry → (ℕ × ℕ) × Mark
+entry_of e = ((e.row, e.number), e.mark)
 
 abbrev pub is_place : (row number : ℕ) → ℕ × ℕ → Bool
 is_place row number at = nat_eq row at.0 && nat_eq number at.1

@@ -4,10 +4,12 @@
 mod accesses;
 mod attributes;
 mod declarations;
+mod entries;
 mod marks;
 mod note;
 mod notes;
 mod numbers;
 
+pub use entries::Entry;
 pub use marks::Marks;
 pub use numbers::Numbers;

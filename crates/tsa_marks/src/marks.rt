@@ -17,7 +17,7 @@ use tsa_rules::Mark;
 #[derive(Drop)]
 pub struct Marks {
     pub(crate) alloc: Global,
-    marks: IndexMap<u64, Mark>,
+    pub(crate) marks: IndexMap<u64, Mark>,
     rows: u32,
 }
 

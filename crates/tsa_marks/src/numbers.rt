@@ -49,7 +49,7 @@ fn copy_at(alloc: Global, paths: &PathTable, number: u32) -> Result<Path, NoMemo
 
 /// The same table once more.
 #[tactic(auto, using(crate::proofs::Tables::next_taken))]
-fn copied(alloc: Global, paths: &PathTable) -> Result<PathTable, NoMemory>
+fn copy_table(alloc: Global, paths: &PathTable) -> Result<PathTable, NoMemory>
     ensures { IfOk result (λ copy. AreDifferent paths.now → copy ≡ paths.now) }
 {
     let mut copy = PathTable::new(alloc);
@@ -72,7 +72,7 @@ impl Numbers {
     pub fn copy_of(alloc: Global, paths: &PathTable) -> Result<Numbers, NoMemory>
         ensures { IfOk result (λ numbers. AreDifferent paths.now → numbers ≡ paths.now) }
     {
-        let table = copied(alloc, paths)?;
+        let table = copy_table(alloc, paths)?;
         let known = table.len();
         Ok(Numbers { table, known })
     }

@@ -1,6 +1,6 @@
 use Rattle.std.proofs.Common.{◌≡◌, take}
 use Rattle.tsa_path.specs.PathTables.{AreDifferent}
-use Rattle.tsa_marks.proofs.numbers.copied.Given as goal
+use Rattle.tsa_marks.proofs.numbers.copy_table.Given as goal
 
 -- the first paths are copied
 abbrev pub invariant-each : goal.invariant-each
