@@ -21,7 +21,7 @@ fn callee_at(scope: &Scope<'_>, action: &Action<'_>) -> Option<u32>
 }
 
 /// The locks that the functions name which are declared so far, of one that is called.
-fn called(attributes: &[NamedLocks], callee: Option<u32>) -> Option<&NamedLocks>
+fn callee_locks(attributes: &[NamedLocks], callee: Option<u32>) -> Option<&NamedLocks>
     ensures { unwrap_or (option_map (λ locks. locks.now) result) [] ≡ called_attributes attributes.now callee }
 {
     attributes.get(callee? as usize)
@@ -45,7 +45,7 @@ impl<'w, 'a> Visit<'w, 'a> {
     pub fn locks(self) -> &'w [NamedLock]
         ensures { result.now ≡ called_attributes (around_at self.entry).attributes (called_at (known_at self.entry)) }
     {
-        match called(self.spot.around.attributes, self.callee) {
+        match callee_locks(self.spot.around.attributes, self.callee) {
             Some(locks) => &locks.locks,
             None => &[],
         }
@@ -55,7 +55,7 @@ impl<'w, 'a> Visit<'w, 'a> {
     pub fn tries(self) -> bool
         ensures { result ≡ tries (called_attributes (around_at self.entry).attributes (called_at (known_at self.entry))) }
     {
-        match called(self.spot.around.attributes, self.callee) {
+        match callee_locks(self.spot.around.attributes, self.callee) {
             Some(locks) => locks.tries(),
             None => false,
         }
