@@ -1,0 +1,13 @@
+pub mod Slots
+pub mod Plain
+pub mod Changed
+pub mod Joined
+pub mod Stepped
+pub mod Turning
+pub mod Standing
+pub mod Complete
+pub mod Settling
+pub mod Begun
+pub mod Compared
+pub mod Comparing
+pub mod Meeting

@@ -1,0 +1,14 @@
+//! The statuses that walks bring to the points of a body, for one path.
+#![tactic(auto)]
+
+mod cases;
+mod edges;
+mod front;
+mod images;
+mod places;
+mod sets;
+mod stops;
+
+pub use cases::Cases;
+pub use sets::{Reached, reach};
+pub use stops::Stops;
