@@ -1,31 +1,26 @@
 -- A view that is put together of a body is that of the function for which the body stands.
-use Rattle.std.proofs.Common.{◌≡◌, ◌∙◌, ◌++◌, ℕ, List, [], None, refl, sym, ap, ap₂, subst}
+use Rattle.std.proofs.Common.{◌≡◌, ◌∙◌, ◌++◌, List, [], None, sym, ap, ap₂, subst}
 use Rattle.tsa_tree.specs.declarations.Shapes.{head_shape}
 use Rattle.tsa_tree.specs.statements.Shapes.{stmt_shapes}
 use Rattle.tsa_tree.specs.types.DeclaredTypes.{thing_type}
-use Rattle.tsa_tree.specs.units.Syntax.{UnitItem}
 use Rattle.tsa_way.specs.Ways.{Way}
-use Rattle.tsa_core.specs.Programs.{Attr, Function, program_of}
+use Rattle.tsa_core.specs.Programs.{program_of}
 use Rattle.tsa_path.specs.PathTables.{AreDifferent}
 use Rattle.tsa_points.specs.Walks.{placed_in_body, points_along, walk}
 use Rattle.tsa_points.proofs.Passing.{body_steps_are_the_points}
 use Rattle.tsa_steps.specs.Steps.{body_steps}
-use Rattle.tsa_judge.specs.Units.{unit_of}
-use Rattle.tsa_lock.specs.Kinds.{kinds_of}
 use Rattle.tsa_marks.specs.Notes.{IsRow}
 use Rattle.tsa_marks.specs.Rows.{Rows}
 use Rattle.tsa_node.specs.Expressions.{attributes_at}
 use Rattle.tsa_notes.specs.Notes.{AreNotes}
 use Rattle.tsa_site.specs.declared.find.BodySite.{BodySite}
-use Rattle.tsa_site.specs.Entering.{IsOf}
-use Rattle.tsa_site.specs.Laws.{StandsFor, result_at}
-use Rattle.tsa_site.specs.Sites.{Site, within}
+use Rattle.tsa_site.specs.Laws.{result_at}
+use Rattle.tsa_site.specs.Sites.{within}
 use Rattle.tsa_view.specs.declared.build.Unit.{Unit}
 use Rattle.tsa_view.specs.declared.build.Walked.{Walked}
-use Rattle.tsa_view.specs.declared.view.RuleView.{RuleView}
+use Rattle.tsa_view.specs.declared.content.RuleView.{RuleView}
 use Rattle.tsa_view.specs.Made.{IsMade, IsOwnRow, IsPutTogether, IsWalked, around_in, result_in}
 use Rattle.tsa_view.specs.Parts.{kinds_along, param_kinds}
-use Rattle.tsa_view.specs.Views.{IsViewOf}
 use Rattle.tsa_view.proofs.Whole.{is_view}
 
 module _ (u : Unit) (b : BodySite) (paths numbers : List Way) (own : Rows) (w : Walked) (v : RuleView) where

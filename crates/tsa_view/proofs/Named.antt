@@ -1,13 +1,12 @@
 -- What names a path at a point, and that nothing does where there is no such point.
-use Rattle.std.proofs.Common.{◌≡◌, ◌∙◌, ◌<◌, ◌≤◌, ℕ, arith, List, [], ◌∷◌, length, map, Option, Some, None, option_and_then, slice_get, refl, sym, ap, subst}
+use Rattle.std.proofs.Common.{◌≡◌, ◌<◌, ◌≤◌, ℕ, List, [], Option, Some, None, option_and_then, slice_get, refl, sym, ap, subst}
 use Rattle.std.proofs.lemmas.Option.{slice_get_past}
-use Rattle.tsa_tree.specs.declared.attr.AttrKind.{AttrKind}
 use Rattle.tsa_way.specs.Ways.{Way}
 use Rattle.tsa_core.specs.Programs.{Function, Program}
 use Rattle.tsa_marks.specs.Rows.{mark_in, rows_in}
 use Rattle.tsa_rules.specs.Attributes.{all_as_called, named}
 use Rattle.tsa_rules.specs.Points.{attrs_at, attrs_called, or_idle, points_of, uses_at}
-use Rattle.tsa_view.specs.declared.view.RuleView.{RuleView}
+use Rattle.tsa_view.specs.declared.content.RuleView.{RuleView}
 use Rattle.tsa_view.specs.Views.{IsViewOf}
 
 module _ (u : Program) (f : Function) (paths : List Way) (v : RuleView) (h : IsViewOf u f paths v) (point number : ℕ) where

@@ -1,5 +1,5 @@
 -- The view that is made of what is found is that of the program's function.
-use Rattle.std.proofs.Common.{◌≡◌, ◌∙◌, ℕ, zero, suc, nat_lt, Bool, true, false, length, List, [], ◌∷◌, map, Option, Some, None, Ok, is_some, option_and_then, slice_get, refl, sym, ap, subst, if◌then◌else◌}
+use Rattle.std.proofs.Common.{◌≡◌, ℕ, zero, suc, nat_lt, Bool, true, false, length, List, [], ◌∷◌, Option, Some, None, is_some, option_and_then, slice_get, refl, sym, subst, if◌then◌else◌}
 use Rattle.tsa_tree.specs.types.FirstFailing.{first_failing}
 use Rattle.tsa_tree.specs.units.Syntax.{UnitItem}
 use Rattle.tsa_way.specs.Ways.{Way}
@@ -17,7 +17,7 @@ use Rattle.tsa_site.specs.Finding.{IsFound}
 use Rattle.tsa_site.specs.Laws.{StandsFor}
 use Rattle.tsa_site.specs.Sites.{Site, site_of}
 use Rattle.tsa_site.proofs.SiteLaws.{sites_are_of_the_program}
-use Rattle.tsa_view.specs.declared.view.RuleView.{RuleView}
+use Rattle.tsa_view.specs.declared.content.RuleView.{RuleView}
 use Rattle.tsa_view.specs.Views.{IsViewBy, IsViewIn, IsViewOf}
 
 -- paths each once are different

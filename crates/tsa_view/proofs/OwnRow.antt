@@ -1,5 +1,5 @@
 -- The only row of a table says what the function's own attributes say.
-use Rattle.std.proofs.Common.{◌≡◌, ◌∙◌, ℕ, ◌+◌, ◌-◌, arith, List, [], None, refl, sym, ap, subst}
+use Rattle.std.proofs.Common.{◌≡◌, ◌∙◌, ◌+◌, ◌-◌, List, [], None, ap, subst}
 use Rattle.tsa_way.specs.Ways.{Way}
 use Rattle.tsa_core.specs.Programs.{Attr}
 use Rattle.tsa_path.specs.PathTables.{AreDifferent}

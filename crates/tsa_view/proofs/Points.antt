@@ -1,5 +1,5 @@
 -- The points of a body that were noted are those of the program's function.
-use Rattle.std.proofs.Common.{◌≡◌, ◌∙◌, ◌<◌, ℕ, Bool, List, [], ◌∷◌, ◌++◌, All, length, map, Option, Some, None, option_map, slice_get, get_or, refl, sym, ap, ap₂, subst}
+use Rattle.std.proofs.Common.{◌≡◌, ◌∙◌, ◌<◌, ℕ, List, [], ◌∷◌, ◌++◌, All, length, map, Option, Some, None, option_map, slice_get, get_or, refl, sym, ap, ap₂, subst}
 use Rattle.std.proofs.lemmas.List.{get_or-map}
 use Rattle.std.proofs.lemmas.Option.{get_or_from_slice_get, slice_get_within}
 use Rattle.std.specs.List.{flat_map}
@@ -11,7 +11,7 @@ use Rattle.tsa_way.specs.Ways.{Way}
 use Rattle.tsa_core.specs.Bodies.{Known, knows, known_in_body, kinds_by}
 use Rattle.tsa_core.specs.Meanings.{Call}
 use Rattle.tsa_core.specs.Programs.{Attr, Function, Program, program_of}
-use Rattle.tsa_core.specs.Uses.{Uses, uses_of}
+use Rattle.tsa_core.specs.Uses.{uses_of}
 use Rattle.tsa_core.proofs.MappedLists.{map_at, map_length}
 use Rattle.tsa_points.specs.CoreLaws.{known_of, seen_at}
 use Rattle.tsa_points.specs.Points.{PlacedPoint}
@@ -27,8 +27,7 @@ use Rattle.tsa_profile.proofs.BodyWays.{called_same}
 use Rattle.tsa_marks.specs.Rows.{Rows, mark_in}
 use Rattle.tsa_notes.proofs.Begun.{begun_is}
 use Rattle.tsa_notes.specs.Marking.{IsRowOf}
-use Rattle.tsa_notes.specs.Points.{Agrees, AllAgree, attrs_here, begun_here, called_attributes, core_at, uses_here}
-use Rattle.tsa_path.specs.PathTables.{AreDifferent}
+use Rattle.tsa_notes.specs.Points.{Agrees, AllAgree, begun_here, called_attributes, core_at, uses_here}
 use Rattle.tsa_site.specs.Laws.{StandsFor, body_at, result_at}
 use Rattle.tsa_site.specs.Laws as site
 use Rattle.tsa_site.specs.Sites.{Site, within}

@@ -1,5 +1,5 @@
 -- What is made of a body is the view of its function.
-use Rattle.std.proofs.Common.{◌≡◌, ◌∙◌, ◌<◌, ℕ, zero, suc, arith, Bool, List, [], ◌∷◌, ◌++◌, length, map, Option, Some, None, option_map, slice_get, refl, sym, ap, ap₂, subst}
+use Rattle.std.proofs.Common.{◌≡◌, ◌∙◌, ◌<◌, ℕ, zero, suc, arith, List, [], ◌∷◌, ◌++◌, length, Option, Some, None, option_map, slice_get, refl, sym, ap, ap₂, subst}
 use Rattle.tsa_base.specs.declared.token.Span.{Span}
 use Rattle.tsa_tree.specs.declared.kind.Kind.{Kind}
 use Rattle.tsa_tree.specs.units.Syntax.{UnitItem}
@@ -8,33 +8,29 @@ use Rattle.tsa_core.specs.Programs.{Function, LockKind, Program, program_of}
 use Rattle.tsa_core.proofs.MappedLists.{map_at}
 use Rattle.tsa_path.specs.PathTables.{AreDifferent}
 use Rattle.tsa_points.specs.Points.{PlacedPoint}
-use Rattle.tsa_rules.specs.declared.mark.Claim.{Claim}
-use Rattle.tsa_rules.specs.declared.mark.Mark.{Mark}
 use Rattle.tsa_rules.specs.Attributes.{lock_kind_of, local_kinds}
-use Rattle.tsa_rules.specs.Cases.{case_of, kept_of, lock_of, role_of}
-use Rattle.tsa_rules.specs.Marks.{mark_by, mark_of}
+use Rattle.tsa_rules.specs.Cases.{kept_of, lock_of}
+use Rattle.tsa_rules.specs.Marks.{mark_of}
 use Rattle.tsa_rules.specs.Points.{points_of}
 use Rattle.tsa_judge.specs.Units.{stable_of, unit_of}
 use Rattle.tsa_deed.specs.Bodies.{Around}
 use Rattle.tsa_lock.specs.declared.kind.LockKind.{LockKind as CodeKind}
 use Rattle.tsa_lock.specs.Kinds.{kind_in as kind_in_unit, kind_of, kinds_of, is_taken_again}
-use Rattle.tsa_lock.specs.Laws.{LockKindsAreOfTheProgram}
 use Rattle.tsa_lock.specs.Structs.{struct_by}
 use Rattle.tsa_lock.proofs.OfTheProgram.{lock_kinds_are_of_the_program}
 use Rattle.tsa_marks.specs.Notes.{IsRow}
-use Rattle.tsa_marks.specs.Rows.{Rows, mark_in, rows_in}
-use Rattle.tsa_roles.specs.Roles.{begin_in, role_in}
+use Rattle.tsa_marks.specs.Rows.{mark_in}
+use Rattle.tsa_roles.specs.Roles.{begin_in}
 use Rattle.tsa_roles.specs.Laws.{AreRolesOf}
 use Rattle.tsa_roles.specs.Told.{AreRoles}
 use Rattle.tsa_rules.specs.TryVariables.{AreInOrder}
 use Rattle.tsa_roles.proofs.OfPrograms.{roles_are_of_the_program}
-use Rattle.tsa_notes.specs.declared.notes.Notes.{Notes}
 use Rattle.tsa_notes.specs.Notes.{AreNotes}
 use Rattle.tsa_site.specs.Laws.{StandsFor}
 use Rattle.tsa_site.specs.Sites.{Site, within}
-use Rattle.tsa_view.specs.declared.view.RuleView.{RuleView}
+use Rattle.tsa_view.specs.declared.content.RuleView.{RuleView}
 use Rattle.tsa_view.specs.Parts.{kinds_along, param_kinds}
-use Rattle.tsa_view.specs.Views.{IsViewOf, case_in, kept_from, kind_in, lock_in, or_none}
+use Rattle.tsa_view.specs.Views.{IsViewOf, kept_from, kind_in, lock_in, or_none}
 use Rattle.tsa_view.proofs.Points.{agree, agrees_at, callees, count, kinds, mark_is, points}
 use Rattle.tsa_view.proofs.Points as body
 

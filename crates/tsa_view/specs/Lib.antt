@@ -1,3 +1,4 @@
 pub mod Parts
 pub mod Views
 pub mod Made
+pub mod Controls

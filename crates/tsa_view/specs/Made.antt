@@ -26,7 +26,7 @@ use Rattle.tsa_site.specs.Laws.{StandsFor}
 use Rattle.tsa_site.specs.Sites.{Site}
 use Rattle.tsa_view.specs.declared.build.Unit.{Unit}
 use Rattle.tsa_view.specs.declared.build.Walked.{Walked}
-use Rattle.tsa_view.specs.declared.view.RuleView.{RuleView}
+use Rattle.tsa_view.specs.declared.content.RuleView.{RuleView}
 use Rattle.tsa_view.specs.Parts.{kinds_along, param_kinds}
 use Rattle.tsa_view.specs.Views.{IsViewOf}
 

@@ -14,7 +14,7 @@ use Rattle.tsa_lock.specs.declared.kind.LockKind.{LockKind as Kind}
 use Rattle.tsa_profile.specs.Paths.{paths_if}
 use Rattle.tsa_marks.specs.Rows.{mark_in, rows_in}
 use Rattle.tsa_roles.specs.Roles.{begin_in, role_in}
-use Rattle.tsa_view.specs.declared.view.RuleView.{RuleView}
+use Rattle.tsa_view.specs.declared.content.RuleView.{RuleView}
 use Rattle.tsa_view.specs.Parts.{lock_with}
 
 -- the kind of the lock to which a path leads

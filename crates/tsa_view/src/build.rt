@@ -9,8 +9,8 @@ ghost use Rattle.tsa_node.specs.Expressions.{attributes_at};
 ghost use Rattle.tsa_view.specs.Made.{IsMade, IsPutTogether, IsWalked, around_in, result_in};
 ghost use Rattle.tsa_way.specs.LockPaths.{stable_in};
 
-use crate::parts::{kinds_of, own_marks, param_kinds};
-use crate::view::RuleView;
+use crate::content::RuleView;
+use crate::parts::{are_few, kinds_of, own_marks, param_kinds};
 use std::alloc::Global;
 use tsa_base::NoMemory;
 use tsa_deed::Around;
@@ -64,7 +64,7 @@ impl<'w, 'a> Unit<'w, 'a> {
     }
 
     /// Notes the points of a body whose function gives a kind, along its steps.
-    fn noted(
+    fn notes_of_body(
         &self,
         known: Knowledge<'a>,
         inside: &Inside<'a>,
@@ -81,7 +81,7 @@ impl<'w, 'a> Unit<'w, 'a> {
     }
 
     /// Walks along a body that is entered, by the numbers of paths.
-    fn walked(
+    fn walk_body(
         &self,
         known: Knowledge<'a>,
         inside: &Inside<'a>,
@@ -90,7 +90,7 @@ impl<'w, 'a> Unit<'w, 'a> {
         ensures { IfOk result (λ walked. IsWalked self.now known.entry inside.now numbers walked) }
     {
         let mut locals = param_kinds(&known.scope, inside.head.params)?;
-        let noted = self.noted(known, inside, numbers)?;
+        let noted = self.notes_of_body(known, inside, numbers)?;
         locals.extend_from_slice(&noted.notes.kinds)?;
         Ok(Walked { noted, locals })
     }
@@ -109,6 +109,7 @@ impl<'w, 'a> Unit<'w, 'a> {
             locals: &walked.locals,
         };
         let kinds = kinds_of(alloc, &walked.noted.numbers, leads, self.kinds)?;
+        are_few(&walked.noted.notes.roles)?;
         Ok(RuleView {
             numbers: walked.noted.numbers,
             kinds,
@@ -125,7 +126,7 @@ impl<'w, 'a> Unit<'w, 'a> {
         let mut numbers = Numbers::copy_of(alloc, paths)?;
         let named = locks_named(&site.known.attributes, site.inside.number);
         let own = own_marks(alloc, &mut numbers, named)?;
-        let walked = self.walked(site.known, &site.inside, numbers)?;
+        let walked = self.walk_body(site.known, &site.inside, numbers)?;
         self.put_together(alloc, walked, own)
     }
 }

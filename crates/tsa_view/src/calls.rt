@@ -1,5 +1,5 @@
 //! The rules by a function's view, for one status of one path at one point. No memory is taken.
-ghost use Rattle.std.specs.Prelude.{◌≡◌, ◌<◌, ℕ, List, Some, length, slice_get};
+ghost use Rattle.std.specs.Prelude.{◌≡◌, ◌<◌, ℕ, List, Some, false, length, slice_get};
 ghost use Rattle.tsa_core.specs.Programs.{Function, Program};
 ghost use Rattle.tsa_links.specs.Links.{outcome_of};
 ghost use Rattle.tsa_rules.specs.Effects.{effect as spec_effect, entry, exit};
@@ -9,7 +9,7 @@ ghost use Rattle.tsa_rules.specs.Points.{points_of};
 ghost use Rattle.tsa_view.specs.Views.{IsViewOf};
 ghost use Rattle.tsa_way.specs.Ways.{Way};
 
-use crate::view::RuleView;
+use crate::content::RuleView;
 use tsa_rules::{Outcome, Status, rule_of};
 
 /// The status of a path at the function's entry.
@@ -33,9 +33,11 @@ pub fn effect(view: &RuleView<'_>, point: u32, cap: u32, status: Status, outcome
     view.case(point, cap).effect(outcome, status)
 }
 
-/// Whether the rule of a number fails at a point for a path of a status before it. That of edges that meet isn't asked of one status, and never fails here.
+/// Whether the rule of a number fails at a point for a path of a status before it. That of edges that meet isn't asked of one status, and never fails here;
+/// neither does one that isn't there.
 pub fn fails(view: &RuleView<'_>, point: u32, rule: u32, cap: u32, status: Status) -> bool
-    ensures { (u : Program) (f : Function) (paths : List Way) (c : Way) (r : Rule) → IsViewOf u f paths view.now → point < length (points_of f) → slice_get paths cap ≡ Some c → rule_number r ≡ rule → result ≡ spec_fails r u f point c status }
+    ensures rules { (u : Program) (f : Function) (paths : List Way) (c : Way) (r : Rule) → IsViewOf u f paths view.now → point < length (points_of f) → slice_get paths cap ≡ Some c → rule_number r ≡ rule → result ≡ spec_fails r u f point c status }
+    ensures other { ((r : Rule) → rule_number r ≡ rule → ⊥) → result ≡ false }
 {
     match rule_of(rule) {
         Some(rule) => view.case(point, cap).fails(rule, status),

@@ -11,7 +11,7 @@ ghost use Rattle.tsa_tree.specs.units.Syntax.{UnitItem};
 ghost use Rattle.tsa_view.specs.Views.{IsViewIn};
 ghost use Rattle.tsa_way.specs.Ways.{Way};
 
-use crate::view::RuleView;
+use crate::content::RuleView;
 use tsa_rules::Statuses;
 use tsa_tree::item::UnitTree;
 

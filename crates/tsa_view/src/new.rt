@@ -9,7 +9,7 @@ ghost use Rattle.tsa_tree.specs.units.Shapes.{item_shapes};
 ghost use Rattle.tsa_view.specs.Views.{IsViewIn};
 
 use crate::build::Unit;
-use crate::view::RuleView;
+use crate::content::RuleView;
 use std::alloc::Global;
 use tsa_base::NoMemory;
 use tsa_function::Bodies;
@@ -21,7 +21,7 @@ use tsa_site::{BodySite, site};
 use tsa_types::Typed;
 
 /// The body of a function of a typed unit by its number, with what is known there. None where the function has none.
-fn site_in<'a>(
+pub fn site_in<'a>(
     alloc: Global,
     unit: &Typed<'a>,
     places: &Places,

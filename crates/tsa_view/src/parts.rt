@@ -1,8 +1,10 @@
 //! The parts of a view that are told by paths: the kinds of the locks to which they lead, and what the function's own attributes say of them.
-ghost use Rattle.std.specs.Prelude.{◌≡◌, None, [], IfOk};
+ghost use Rattle.std.specs.Prelude.{◌≡◌, ◌<◌, None, [], IfOk, OnOk};
 ghost use Rattle.tsa_lock.specs.Kinds.{kinds_of as spec_kinds};
 ghost use Rattle.tsa_marks.specs.Notes.{IsRow};
 ghost use Rattle.tsa_path.specs.PathTables.{AreDifferent};
+ghost use Rattle.tsa_roles.specs.Roles.{tries_in};
+ghost use Rattle.tsa_rules.specs.Sets.{pending_places};
 ghost use Rattle.tsa_tree.specs.declarations.Shapes.{param_shape, param_shapes};
 ghost use Rattle.tsa_tree.specs.types.DeclaredTypes.{thing_type};
 ghost use Rattle.tsa_view.specs.Parts.{kinds_along, param_kinds as spec_param_kinds};
@@ -12,6 +14,7 @@ use tsa_base::NoMemory;
 use tsa_layout::declared_thing;
 use tsa_lock::{Leads, LockKind, kind_at};
 use tsa_marks::{Marks, Numbers};
+use tsa_roles::Roles;
 use tsa_scope::Scope;
 use tsa_seen::NamedLock;
 use tsa_tree::item::Param;
@@ -62,4 +65,15 @@ pub fn kinds_of<'a>(
         found.push(kind_at(kinds, leads.structure(path)))?;
     }
     Ok(found)
+}
+
+/// An error where a function has more try variables than a set of statuses has places for, as none in the profile has.
+pub fn are_few(roles: &Roles) -> Result<(), NoMemory>
+    ensures { OnOk result (tries_in roles.now < pending_places) }
+{
+    if roles.tries() < 54 {
+        Ok(())
+    } else {
+        Err(NoMemory)
+    }
 }

@@ -2,29 +2,19 @@
 ghost use Rattle.std.specs.Prelude.{◌≡◌, ◌<◌, ℕ, List, None, option_map, option_and_then, length, slice_get};
 ghost use Rattle.tsa_core.specs.Programs.{Function, Program};
 ghost use Rattle.tsa_lock.specs.Kinds.{kind_of};
-ghost use Rattle.tsa_roles.specs.Roles.{begin_in};
+ghost use Rattle.tsa_roles.specs.Roles.{begin_in, role_in};
 ghost use Rattle.tsa_rules.specs.Attributes.{lock_kind_of, named as spec_named};
 ghost use Rattle.tsa_rules.specs.Points.{attrs_at, point_at, points_of};
-ghost use Rattle.tsa_rules.specs.Cases.{case_of};
+ghost use Rattle.tsa_rules.specs.Cases.{case_of, IsSmall};
 ghost use Rattle.tsa_view.specs.Views.{case_in, kept_from, kind_in, lock_in, number_called, text_of, IsViewOf};
 ghost use Rattle.tsa_way.specs.Ways.{Way};
 
+use crate::content::RuleView;
 use tsa_lock::{LockKind, is_reentrant};
-use tsa_marks::{Marks, Numbers};
-use tsa_notes::Notes;
-use tsa_rules::{Case, Claim, Lock};
+use tsa_marks::Marks;
+use tsa_rules::{Case, Claim, Lock, Role};
 use tsa_tree::attr::AttrKind;
 use tsa_way::Path;
-
-/// All that the rules go by in a function: its paths by their numbers, the kind of the lock to which each leads and what the function says of it, and what
-/// its points do and say of each path.
-#[derive(Drop)]
-pub struct RuleView<'a> {
-    pub(crate) numbers: Numbers,
-    pub(crate) kinds: Vec<Option<LockKind<'a>>>,
-    pub(crate) own: Marks,
-    pub(crate) notes: Notes,
-}
 
 impl<'a> RuleView<'a> {
     /// How many paths there are.
@@ -98,14 +88,31 @@ impl<'a> RuleView<'a> {
         self.notes.marks.mark(begun, cap).tried
     }
 
+    /// What a point does.
+    #[tactic(auto, using(crate::proofs::Small::small))]
+    pub fn role(&self, point: u32) -> Role
+        ensures is { result ≡ role_in self.now.notes.roles point }
+        ensures small { IsSmall result }
+    {
+        self.notes.roles.role(point)
+    }
+
+    /// What the points say of paths.
+    pub fn marks(&self) -> &Marks
+        ensures { result.now ≡ self.now.notes.marks }
+    {
+        &self.notes.marks
+    }
+
     /// All that the rules go by for a path at a point.
     pub fn case(&self, point: u32, cap: u32) -> Case
         ensures by { result ≡ case_in self.now point cap }
+        ensures small { IsSmall result.role }
         ensures is { (u : Program) (f : Function) (paths : List Way) (c : Way) → IsViewOf u f paths self.now → point < length (points_of f) → slice_get paths cap ≡ Some c → result ≡ case_of u f point c }
     {
         Case {
             lock: self.lock(cap),
-            role: self.notes.roles.role(point),
+            role: self.role(point),
             mark: self.notes.marks.mark(point, cap),
             kept: self.kept(point, cap),
         }

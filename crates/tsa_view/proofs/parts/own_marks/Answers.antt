@@ -1,5 +1,4 @@
-use Rattle.std.proofs.Common.{◌∙◌, [], None, ap, subst}
-use Rattle.tsa_marks.specs.Notes.{IsRow}
+use Rattle.std.proofs.Common.{ap}
 use Rattle.tsa_view.proofs.OwnRow.{row_first}
 use Rattle.tsa_view.proofs.parts.own_marks.Goals as goal
 

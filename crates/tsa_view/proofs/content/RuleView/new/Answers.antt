@@ -1,4 +1,4 @@
-use Rattle.std.proofs.Common.{◌∙◌, [], None, Some, option_map, sym, ap, subst}
+use Rattle.std.proofs.Common.{◌∙◌, [], option_map, sym, ap, subst}
 use Rattle.tsa_tree.specs.units.Shapes.{item_shapes}
 use Rattle.tsa_core.specs.Programs.{lock_kinds}
 use Rattle.tsa_judge.specs.Units.{unit_of}
@@ -7,7 +7,7 @@ use Rattle.tsa_profile.proofs.Laying.{laid}
 use Rattle.tsa_site.specs.Finding.{IsFound}
 use Rattle.tsa_site.specs.Sites.{site_of}
 use Rattle.tsa_view.proofs.NewView.{locks_are, never_none, view_there}
-use Rattle.tsa_view.proofs.view.RuleView.new.Goals as goal
+use Rattle.tsa_view.proofs.content.RuleView.new.Goals as goal
 
 pub returns-in_default-2 : goal.returns-in_default-2
 returns-in_default-2 c =

@@ -11,7 +11,7 @@ use Rattle.tsa_deed.specs.Bodies.{Around}
 use Rattle.tsa_deed.specs.Told.{around_of}
 use Rattle.tsa_view.specs.Made.{around_in, result_in}
 use Rattle.tsa_view.proofs.SameNotes.{notes_same}
-use Rattle.tsa_view.proofs.build.Unit.noted.Goals as goal
+use Rattle.tsa_view.proofs.build.Unit.notes_of_body.Goals as goal
 
 pub returns-clause-notes : goal.returns-clause-notes
 returns-clause-notes c =

@@ -1,0 +1,19 @@
+//! What a view has.
+ghost use Rattle.std.specs.Prelude.{◌<◌};
+ghost use Rattle.tsa_roles.specs.Roles.{tries_in};
+ghost use Rattle.tsa_rules.specs.Sets.{pending_places};
+
+use tsa_lock::LockKind;
+use tsa_marks::{Marks, Numbers};
+use tsa_notes::Notes;
+
+/// All that the rules go by in a function: its paths by their numbers, the kind of the lock to which each leads and what the function says of it, and what
+/// its points do and say of each path.
+#[derive(Drop)]
+pub struct RuleView<'a> {
+    pub(crate) numbers: Numbers,
+    pub(crate) kinds: Vec<Option<LockKind<'a>>>,
+    pub(crate) own: Marks,
+    pub(crate) notes: Notes,
+    pub ghost few: { tries_in notes.roles < pending_places },
+}
