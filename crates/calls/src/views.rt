@@ -9,14 +9,14 @@ use crate::texts::{put, put_number, tokens_of};
 use bumpalo::Bump;
 use std::alloc::Global;
 use std::test::Fail;
-use tsa_base::Token;
-use tsa_graph::Outcome;
+use tsa_base::{NoMemory, Token};
+use tsa_graph::{Graph, Outcome};
 use tsa_place::Places;
 use tsa_profile::{Fit, fit};
 use tsa_rules::Status;
 use tsa_types::type_check;
 use tsa_unit::parse;
-use tsa_view::{RuleView, effect, entry_status, exit_status, fails};
+use tsa_view::{RuleView, effect, entry_status, exit_status, fails, graph_of};
 
 // A lock that its holder may take again is tried, and taken once more where that succeeded.
 const UNIT: &[u8] = b"struct CAPABILITY(\"reentrant m\") m { int s; };
@@ -124,12 +124,30 @@ fn put_function(
     }
 }
 
-// What is shown of the views of a function without a body, and of one with a body.
+// How many blocks the control of a function has, or that it has none.
+fn put_control(out: &mut Vec<u8>, fit: &Fit<'_>, places: &Places, function: u32) -> Result<(), Fail>
+    requires placed { placed_in (item_shapes fit.now.typed.unit.now.items.now) ≡ Ok places.now }
+{
+    let alloc = *out.allocator();
+    match graph_of(alloc, fit.typed(), places, function)? {
+        Some(graph) => put_number(out, count_of(&graph)?),
+        None => put(out, b"none "),
+    }
+}
+
+// How many blocks a graph has.
+fn count_of(graph: &Graph) -> Result<u32, NoMemory> {
+    u32::try_from(graph.blocks.len()).ok().ok_or(NoMemory)
+}
+
+// What is shown of the views and the control of a function without a body, and of one with a body.
 fn put_views(out: &mut Vec<u8>, fit: &Fit<'_>, places: &Places) -> Result<(), Fail>
     requires placed { placed_in (item_shapes fit.now.typed.unit.now.items.now) ≡ Ok places.now }
 {
     put_function(out, fit, places, 2)?;
-    put_function(out, fit, places, 3)
+    put_control(out, fit, places, 2)?;
+    put_function(out, fit, places, 3)?;
+    put_control(out, fit, places, 3)
 }
 
 // What is shown of the views of the unit that tokens are.
@@ -161,7 +179,7 @@ fn a_view_follows_a_try_and_counts_depths(rt: HostRuntime) -> Result<(), Fail> {
     let mut out = Vec::new(alloc);
     put_unit(&mut out, alloc, &bump, &tokens)?;
     let expected: &[u8] =
-        b"none 1 reentrant m: f call 2 p0 TS1 TS2 f / x1 call 0 x2 x2 call 1 x1 call 1 f TS9 f ";
+        b"none none 1 reentrant m: f call 2 p0 TS1 TS2 f / x1 call 0 x2 x2 call 1 x1 call 1 f TS9 f 3 ";
     assert_eq!(rt; out.as_slice(), expected);
     Ok(())
 }

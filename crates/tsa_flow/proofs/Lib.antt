@@ -1,0 +1,4 @@
+pub mod AlikeCourses
+pub mod Flowing
+pub mod PathFlows
+pub mod Numbered
