@@ -1,3 +1,4 @@
 pub mod Arguments
 pub mod Examples
 pub mod Laws
+pub use Rattle.tsa_ask.specs.Declarations

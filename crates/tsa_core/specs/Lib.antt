@@ -13,3 +13,7 @@ pub mod KindLaws
 pub mod CaseLaws
 pub mod PointLoads
 pub mod Examples
+pub use Rattle.tsa_lead.specs.FillUnits
+pub use Rattle.tsa_lead.specs.Items
+pub use Rattle.tsa_lead.specs.Leading
+pub use Rattle.tsa_lead.specs.Units

@@ -4,3 +4,4 @@ pub mod Ways
 pub mod Gathering
 pub mod Judging
 pub mod Laws
+pub use Rattle.tsa_ask.specs.Declarations

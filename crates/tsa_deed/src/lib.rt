@@ -12,3 +12,4 @@ pub use calls::function_called;
 pub use judge::{Judged, attribute_paths};
 pub use laws::calls_are_of_the_core;
 pub use points::{Around, Spot, calling};
+pub use tsa_ask::{Heading, attributes_failure, given_failure, guards_failure, named_locks};

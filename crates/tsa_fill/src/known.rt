@@ -9,12 +9,11 @@ ghost use Rattle.tsa_tree.specs.expressions.Shapes.{shape};
 
 use tsa_base::{NoMemory, Value};
 use tsa_item::{or_zero, zero_of};
-use tsa_layout::{Layout, Part, Placed, Structures};
+use tsa_layout::{Layout, Part, Placed, Sight, Structures};
 use tsa_scope::Scope;
 use tsa_tree::decl::Init;
 use tsa_tree::expr::Expr;
 use tsa_tree::kind::Kind;
-use tsa_way::Sight;
 
 /// What is known by name, the structs, and the globals before this one with the first place of each and how many places they take together.
 #[derive(Clone, Copy)]

@@ -8,3 +8,4 @@ mod refusal;
 
 pub use globals::Globals;
 pub use refusal::PlaceRefusal;
+pub use tsa_item::{know_alias, know_enum, know_global};

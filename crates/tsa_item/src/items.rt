@@ -9,7 +9,7 @@ ghost use Rattle.tsa_tree.specs.units.Syntax.{alias_item};
 
 use tsa_base::NoMemory;
 use tsa_data::{a_type_name, count_on, enumerator_entry, int_value};
-use tsa_layout::{Part, declared_thing, part_of, whole};
+use tsa_layout::{Part, Sight, declared_thing, part_of, whole};
 use tsa_operand::single;
 use tsa_scope::Scope;
 use tsa_tree::decl::Decl;
@@ -17,7 +17,6 @@ use tsa_tree::expr::Expr;
 use tsa_tree::item::{AliasDef, EnumDef, Enumerator};
 use tsa_tree::kind::Kind;
 use tsa_tree::meaning::{Entry, Meaning};
-use tsa_way::Sight;
 
 /// The value of an enumerator after the last one, where it has one.
 fn written(

@@ -5,3 +5,5 @@ pub mod Parts
 pub mod Standing
 pub mod Tables
 pub mod Stores
+pub use Rattle.tsa_way.specs.LockPaths
+pub use Rattle.tsa_way.specs.Ways

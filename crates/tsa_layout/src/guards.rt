@@ -5,10 +5,9 @@ ghost use Rattle.tsa_tree.specs.attributes.Syntax.{attr_shapes};
 ghost use Rattle.tsa_tree.specs.expressions.Shapes.{shapes};
 
 use tsa_base::NoMemory;
-use tsa_scope::Scope;
 use tsa_tree::attr::{Attr, AttrKind};
 use tsa_tree::expr::Expr;
-use tsa_way::{Path, Sight};
+use tsa_way::{Path, Scope, Sight};
 
 /// Whether an attribute is `guarded_by`.
 fn is_guard(kind: AttrKind) -> bool

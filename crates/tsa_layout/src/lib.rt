@@ -18,3 +18,4 @@ pub use layout::Layout;
 pub use parts::{Part, declared_thing, part_of, whole};
 pub use place::{Guard, Holder, PlaceKind, Placed};
 pub use structures::Structures;
+pub use tsa_way::{Path, Sight};

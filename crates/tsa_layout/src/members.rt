@@ -7,9 +7,9 @@ ghost use Rattle.tsa_tree.specs.types.Scopes.{with_owned};
 
 use crate::parts::{Part, declared_thing, part_of, whole};
 use tsa_base::NoMemory;
-use tsa_scope::{Names, Scope};
 use tsa_tree::decl::Decl;
 use tsa_tree::kind::ThingType;
+use tsa_way::{Names, Scope};
 
 /// A member of a type, with its guards.
 fn guarded<'a>(

@@ -7,11 +7,9 @@ ghost use Rattle.tsa_tree.specs.types.DeclaredTypes.{thing_type};
 use crate::guards::guard_paths;
 use std::marker::Model;
 use tsa_base::{NoMemory, Span};
-use tsa_resolve::View;
-use tsa_scope::{Scope, Symbols};
 use tsa_tree::decl::{CType, Decl};
 use tsa_tree::kind::{Kind, ThingType};
-use tsa_way::Path;
+use tsa_way::{Path, Scope, Symbols, View};
 
 /// A member or a global: its name, its type, the paths of its guards in order, of which some may have none, and where its declarator stands.
 #[derive(Drop)]

@@ -15,8 +15,8 @@ use Rattle.tsa_layout.specs.Parts.{structure_in}
 use Rattle.tsa_lead.specs.Leading.{HasPlaces}
 use Rattle.tsa_layout.specs.Places.{Given, Values, places_of, thing_places, places_inside}
 use Rattle.tsa_layout.specs.Standing.{StandsAt, IsWithin, AllBelow, IsOrdered}
-use Rattle.tsa_item.specs.Items.{known_global, global_part, behind_data}
-use Rattle.tsa_fill.specs.Units.{values_in, given_by, with_structure, with_part, no_places}
+use Rattle.tsa_place.specs.Items.{known_global, global_part, behind_data}
+use Rattle.tsa_place.specs.FillUnits.{values_in, given_by, with_structure, with_part, no_places}
 use Rattle.tsa_place.specs.Units.{data_placed, too_many_at, or_behind, placed_behind}
 use Rattle.tsa_lead.proofs.Asking.{none_is_none}
 use Rattle.tsa_layout.proofs.Below.{parts_below, part_within}

@@ -4,3 +4,4 @@ pub mod Tables
 pub mod Saying
 pub mod Steps
 pub mod Mentions
+pub mod Apart

@@ -1,6 +1,7 @@
 //! The marks that are noted, one by one.
-ghost use Rattle.std.specs.Prelude.{◌≡◌, length, option_map, slice_get};
+ghost use Rattle.std.specs.Prelude.{◌≡◌, ℕ, Some, length, option_map, slice_get, IfSome};
 ghost use Rattle.tsa_marks.specs.Rows.{entry_of, place_of};
+ghost use Rattle.tsa_rules.specs.declared.mark.Mark.{Mark as NotedMark};
 
 use crate::marks::Marks;
 use tsa_rules::Mark;
@@ -32,11 +33,12 @@ impl Marks {
         self.marks.len()
     }
 
-    /// A mark that is noted, by its number in the order in which the first of each row and path was.
+    /// A mark that is noted, by its number in the order in which the first of each row and path was. No other one is of its row and path.
     pub fn entry(&self, at: usize) -> Option<Entry>
-        ensures { option_map entry_of result ≡ slice_get self.now.marks at }
+        ensures is { option_map entry_of result ≡ slice_get self.now.marks at }
+        ensures only { IfSome result (λ e. (i : ℕ) (m : NotedMark) → slice_get self.now.marks i ≡ Some ((e.row, e.number), m) → i ≡ at) }
     {
-        let (key, mark) = self.marks.get_index(at)?;
+        let (key, mark) = self.marks.as_slice().get_index(at)?;
         Some(entry_at(*key, *mark))
     }
 }

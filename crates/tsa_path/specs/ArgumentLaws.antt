@@ -9,7 +9,7 @@ use Rattle.tsa_tree.specs.types.Expressions.{type_of, types_of, all_typed, argum
 use Rattle.tsa_tree.specs.types.Scopes.{Scope, context_of}
 use Rattle.tsa_tree.specs.units.Syntax.{UnitItem}
 use Rattle.tsa_way.specs.Ways.{Way}
-use Rattle.tsa_lead.specs.Leading.{HasPlaces}
+use Rattle.tsa_core.specs.Leading.{HasPlaces}
 use Rattle.tsa_layout.specs.declared.place.Placed.{Placed}
 use Rattle.tsa_layout.specs.Calls.{Layout, is_structure}
 use Rattle.tsa_layout.specs.Stores.{Store, is_value_of, IsWellTyped}

@@ -9,3 +9,8 @@ pub mod Written
 pub mod Values
 pub mod ValueExamples
 pub mod ArgumentLaws
+pub use Rattle.tsa_core.specs.Cells
+pub use Rattle.tsa_core.specs.Meanings
+pub use Rattle.tsa_core.specs.Programs
+pub use Rattle.tsa_core.specs.Terms
+pub use Rattle.tsa_core.specs.Uses

@@ -10,10 +10,9 @@ use std::alloc::Global;
 use std::marker::Model;
 use tsa_base::{NoMemory, Span, Value};
 use tsa_fill::{Globals, PlaceRefusal};
-use tsa_layout::{Guard, Layout, PlaceKind, Placed};
+use tsa_layout::{Guard, Layout, Path, PlaceKind, Placed};
 use tsa_tree::item::UnitTree;
 use tsa_tree::kind::Kind;
-use tsa_way::Path;
 
 /// The cells and struct objects of a unit's globals, by numbers from 0 on. Contracts see a layout.
 #[derive(Drop)]

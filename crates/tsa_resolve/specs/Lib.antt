@@ -5,3 +5,4 @@ pub mod Judging
 pub mod Locks
 pub mod Parts
 pub mod Verdicts
+pub use Rattle.tsa_scope.specs.Lookups

@@ -15,5 +15,7 @@ pub use declared::{Length, Written, tag_failure, typed_failure};
 pub use expressions::View;
 pub use found::{Constant, Found, entry_type, number_type, result_type};
 pub use refusal::{TypeRefusal, judged, refused};
+pub use tsa_operand::{is_integer_kind, single};
+pub use tsa_scope::{Names, Scope, Symbols};
 pub use values::value_of;
 pub use verdicts::{at, thing_of};

@@ -3,3 +3,7 @@ pub mod Seen
 pub mod Locks
 pub mod Premises
 pub mod Standing
+pub use Rattle.tsa_path.specs.Cells
+pub use Rattle.tsa_path.specs.Meanings
+pub use Rattle.tsa_path.specs.Programs
+pub use Rattle.tsa_path.specs.Uses

@@ -1,6 +1,6 @@
 //! The paths of guards as a body has them: that of a struct object stands before those of its members' guards.
 ghost use Rattle.std.specs.Prelude.{◌≡◌, ◌++◌, option_map, option_and_then, IfOk, OnOk};
-ghost use Rattle.tsa_core.specs.Uses.{guards_owned, owned_by};
+ghost use Rattle.tsa_path.specs.Uses.{guards_owned, owned_by};
 
 use std::alloc::Global;
 use tsa_base::NoMemory;

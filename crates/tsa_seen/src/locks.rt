@@ -19,7 +19,7 @@ pub struct NamedLock {
 }
 
 impl Model for NamedLock {
-    ghost use Rattle.tsa_core.specs.Programs.{Attr};
+    ghost use Rattle.tsa_path.specs.Programs.{Attr};
 
     ghost Value = { Attr };
 
@@ -34,7 +34,7 @@ pub struct NamedLocks {
 
 impl Model for NamedLocks {
     ghost use Rattle.std.specs.Prelude.{List};
-    ghost use Rattle.tsa_core.specs.Programs.{Attr};
+    ghost use Rattle.tsa_path.specs.Programs.{Attr};
 
     ghost Value = { List Attr };
 

@@ -1,6 +1,6 @@
 //! What expressions are: their types, and whether they stand for places.
 ghost use Rattle.std.specs.Prelude.{◌≡◌, ◌&&◌};
-ghost use Rattle.tsa_core.specs.Meanings.{is_cell as spec_is_cell, of_call, of_name, of_prefix, to_member};
+ghost use Rattle.tsa_path.specs.Meanings.{is_cell as spec_is_cell, of_call, of_name, of_prefix, to_member};
 ghost use Rattle.tsa_tree.specs.types.Operands.{binary_type as spec_binary_type};
 ghost use Rattle.tsa_tree.specs.declared.kind.Kind.TheVariants as type;
 ghost use Rattle.tsa_tree.specs.types.Types.{value as spec_value};

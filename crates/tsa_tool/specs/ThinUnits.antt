@@ -13,7 +13,7 @@ use Rattle.tsa_tool.specs.declared.check.Refusal.TheVariants.{Lex, Syntax, Types
 use Rattle.tsa_layout.specs.Calls.{Layout}
 use Rattle.tsa_place.specs.Units.{placed_in}
 use Rattle.tsa_seen.specs.declared.premise.Failure.{Failure as Misfit}
-use Rattle.tsa_judge.specs.Units.{refusal_of_profile}
+use Rattle.tsa_profile.specs.Units.{refusal_of_profile}
 use Rattle.tsa_tool.specs.Items.{Item}
 use Rattle.tsa_tool.specs.Names.{fits}
 use Rattle.tsa_tool.specs.Program.{bodies_of}

@@ -8,7 +8,7 @@ ghost use Rattle.tsa_tree.specs.tokens.Texts.{AreOfText};
 ghost use Rattle.tsa_tree.specs.units.Shapes.{item_shapes};
 ghost use Rattle.tsa_unit.specs.Parsing.{unit_of};
 ghost use Rattle.tsa_place.specs.Units.{placed_in};
-ghost use Rattle.tsa_judge.specs.Units.{refusal_of_profile};
+ghost use Rattle.tsa_profile.specs.Units.{refusal_of_profile};
 ghost use Rattle.tsa_tool.specs.Checks.{lexed, byte_of, refusal_of, placed, tree_in, typed_in, or_too_many, or_misfit, fit_in, items_in, judged_items, warned_in};
 ghost use Rattle.tsa_tool.specs.Reports.{printed_report};
 ghost use Rattle.tsa_tool.specs.Warned.{warned_of};
