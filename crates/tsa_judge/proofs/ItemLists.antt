@@ -9,12 +9,11 @@ use Rattle.tsa_tree.specs.units.Shapes.{item_shape, item_shapes}
 use Rattle.tsa_core.proofs.NoFailure.{none_of_both}
 use Rattle.tsa_seen.specs.declared.premise.Failure.{Failure}
 use Rattle.tsa_seen.specs.Premises.{or_else, first}
-use Rattle.tsa_use.proofs.Failures.{first_append}
-use Rattle.tsa_judge.specs.Judged.{Judges}
-use Rattle.tsa_judge.specs.Judging.{Knowledge, behind, behind_all}
-use Rattle.tsa_judge.specs.Units.{Unit, attributes_behind, item_premises, items_premises}
-use Rattle.tsa_judge.specs.declared.refusal.ProfileRefusal.{ProfileRefusal}
-use Rattle.tsa_judge.proofs.Sequences.{judges_some}
+use Rattle.tsa_ground.specs.Judged.{Judges}
+use Rattle.tsa_ground.specs.Judging.{Knowledge, behind, behind_all}
+use Rattle.tsa_ground.specs.Units.{Unit, attributes_behind, item_premises, items_premises}
+use Rattle.tsa_ground.specs.declared.refusal.ProfileRefusal.{ProfileRefusal}
+use Rattle.tsa_ground.proofs.Sequences.{first_append, judges_some}
 
 plus_one : (n : ℕ) → suc n ≡ n + 1
 plus_one n = omega arith

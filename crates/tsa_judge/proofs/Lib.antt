@@ -1,9 +1,5 @@
 pub mod AllItems
 pub mod Behind
-pub mod GlobalJudged
-pub mod HeadJudged
 pub mod ItemLists
-pub mod MemberLists
 pub mod NoOwned
-pub mod Sequences
 pub mod WholeBodies

@@ -22,3 +22,4 @@ pub mod TableLists
 pub mod UnitsRun
 pub mod Worked
 pub mod Laying
+pub use Rattle.tsa_judge.proofs.ItemLists

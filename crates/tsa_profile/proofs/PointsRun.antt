@@ -29,8 +29,8 @@ use Rattle.tsa_seen.specs.declared.premise.ProfileCode.TheVariants.{PF4, PF7}
 use Rattle.tsa_seen.specs.Premises.{first}
 use Rattle.tsa_seen.specs.declared.standing.Standing.TheVariants.{Whole, Inside}
 use Rattle.tsa_node.specs.Expressions.{expression}
-use Rattle.tsa_deed.specs.Bodies.{Around, view_at, begins_a_try, standing_of, value_misfits, point_premises, points_premises}
-use Rattle.tsa_deed.specs.Bodies as profile
+use Rattle.tsa_judge.specs.Bodies.{Around, view_at, begins_a_try, standing_of, value_misfits, point_premises, points_premises}
+use Rattle.tsa_judge.specs.Bodies as profile
 use Rattle.tsa_use.proofs.NoneFails.{none_of_both, none_of_two, none_of_first}
 use Rattle.tsa_profile.proofs.CallsStand.{inside_free, whole_stands, begun_stands, test_stands}
 

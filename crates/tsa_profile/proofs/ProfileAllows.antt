@@ -15,8 +15,8 @@ use Rattle.tsa_core.proofs.KindTests.{and_true}
 use Rattle.tsa_seen.specs.declared.premise.Failure.{Failure}
 use Rattle.tsa_seen.specs.declared.premise.ProfileCode.{ProfileCode}
 use Rattle.tsa_seen.specs.declared.premise.ProfileCode.TheVariants.{PF3}
-use Rattle.tsa_ask.specs.Declarations as profile
-use Rattle.tsa_ask.specs.Declarations.{guard_premises, given_init, init_premises}
+use Rattle.tsa_argument.specs.Declarations as profile
+use Rattle.tsa_argument.specs.Declarations.{guard_premises, given_init, init_premises}
 use Rattle.tsa_node.specs.Expressions.{own, parts}
 use Rattle.tsa_seen.specs.Premises.{Premise, premise, or_else, failure_of, first}
 use Rattle.tsa_seen.specs.declared.standing.Standing.TheVariants.{Inside}

@@ -11,7 +11,7 @@ use crate::unit::Fit;
 use std::alloc::Global;
 use tsa_base::NoMemory;
 use tsa_function::Bodies;
-use tsa_judge::{Ground, ProfileRefusal};
+use tsa_judge::{Ground, ProfileRefusal, judge};
 use tsa_path::PathTable;
 use tsa_place::Places;
 use tsa_types::Typed;
@@ -43,7 +43,7 @@ fn tables(
         bodies: &bodies,
         outside,
     };
-    ground.judge(alloc)
+    judge(alloc, &ground)
 }
 
 /// A typed unit that is in the profile, or its first failing node with the smallest code that fails there, or the first function that passes a limit. The

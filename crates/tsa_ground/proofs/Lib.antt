@@ -1,0 +1,4 @@
+pub mod GlobalJudged
+pub mod HeadJudged
+pub mod MemberLists
+pub mod Sequences

@@ -1,0 +1,15 @@
+//! What the items of a typed unit are judged with, what is known in front of each, and what the profile asks of data and of the heads of functions.
+#![tactic(auto)]
+
+mod data;
+mod ground;
+mod heads;
+mod knowledge;
+mod refusal;
+mod view;
+
+pub use ground::Ground;
+pub use knowledge::{Knowledge, or_else, put_scope, take_scope};
+pub use refusal::{ProfileRefusal, answer_of};
+pub use tsa_deed::{Around, Judged, attribute_paths};
+pub use tsa_path::PathTable;
