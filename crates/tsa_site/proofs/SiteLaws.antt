@@ -14,7 +14,7 @@ use Rattle.tsa_core.proofs.BodiesAgree.{bodies_agree}
 use Rattle.tsa_core.proofs.MappedLists.{map_at, map_length}
 use Rattle.tsa_core.proofs.TypedTerms.{some_same}
 use Rattle.tsa_node.specs.Expressions.{attributes_at}
-use Rattle.tsa_judge.specs.Units.{attributes_by}
+use Rattle.tsa_profile.specs.Units.{attributes_by}
 use Rattle.tsa_rules.specs.Points.{attrs_called, or_no_function, points_of}
 use Rattle.tsa_rules.proofs.KeptTries.{try_variables_are_told_by_declarations}
 use Rattle.tsa_profile.proofs.AddedNames.{adds_inside}
@@ -25,7 +25,7 @@ use Rattle.tsa_profile.proofs.KnownCalls.{Reaches, points_reach}
 use Rattle.tsa_profile.proofs.PathTables.{Reads, none_came_yet, own_body}
 use Rattle.tsa_site.specs.Laws.{StandsFor, SitesAreOfTheProgram, called_attributes, result_at}
 use Rattle.tsa_site.specs.Sites.{Site, site_of, within}
-use Rattle.tsa_site.proofs.Places.{Stood, comes, stood, u}
+use Rattle.tsa_site.proofs.FirstBodies.{Stood, comes, stood, u}
 use Rattle.tsa_site.proofs.Standing.{Own, after, all, next, own, own_first}
 
 module _ (items : List UnitItem) (n : ℕ) where

@@ -3,3 +3,7 @@ pub mod Knowing
 pub mod Entering
 pub mod Finding
 pub mod Laws
+pub use Rattle.tsa_profile.specs.Paths
+pub use Rattle.tsa_profile.specs.Units
+pub use Rattle.tsa_node.specs.Expressions
+pub use Rattle.tsa_profile.specs.Judging

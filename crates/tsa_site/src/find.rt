@@ -1,10 +1,12 @@
 //! The body of a function by its number.
-ghost use Rattle.std.specs.Prelude.{◌≡◌, None, Some, option_map, IfOk};
-ghost use Rattle.tsa_judge.specs.Judging.{unit_at};
+ghost use Rattle.std.specs.Prelude.{◌≡◌, [], None, Ok, Some, option_map, IfOk};
+ghost use Rattle.tsa_place.specs.Units.{placed_in};
+ghost use Rattle.tsa_profile.specs.Judging.{unit_at};
 ghost use Rattle.tsa_site.specs.Entering.{IsAt, Seeks};
 ghost use Rattle.tsa_site.specs.Finding.{IsFound};
 ghost use Rattle.tsa_site.specs.Knowing.{outset_of};
 ghost use Rattle.tsa_site.specs.Sites.{site_of};
+ghost use Rattle.tsa_site.specs.Units.{unit_of};
 ghost use Rattle.tsa_tree.specs.types.Premises as types;
 ghost use Rattle.tsa_tree.specs.types.Units as typed;
 ghost use Rattle.tsa_tree.specs.units.Shapes.{item_shape, item_shapes};
@@ -13,8 +15,11 @@ use crate::inside::{Inside, enter_item, leave_body};
 use crate::knowledge::{Knowledge, outset};
 use std::alloc::Global;
 use tsa_base::NoMemory;
-use tsa_judge::Ground;
+use tsa_function::Bodies;
+use tsa_place::Places;
+use tsa_profile::Ground;
 use tsa_tree::item::Item;
+use tsa_types::Typed;
 
 /// The body of a function, with what is known where its statements begin.
 #[derive(Drop)]
@@ -62,7 +67,7 @@ fn seek<'a>(
     Ok(None)
 }
 
-/// The body of a function of a typed unit by its number, with what is known there. None where the function has no body in the unit.
+/// The body of a function by its number on the ground of a typed unit, with what is known there. None where the function has no body in the unit.
 pub fn site<'a>(
     alloc: Global,
     ground: &Ground<'_, 'a>,
@@ -75,4 +80,26 @@ pub fn site<'a>(
         Some(inside) => Ok(Some(BodySite { known, inside })),
         None => Ok(None),
     }
+}
+
+/// The body of a function of a typed unit by its number, with what is known there. None where the function has none. The places are those of the unit.
+pub fn site_in<'a>(
+    alloc: Global,
+    unit: &Typed<'a>,
+    places: &Places,
+    function: u32,
+) -> Result<Option<BodySite<'a>>, NoMemory>
+    requires placed { placed_in (item_shapes unit.now.unit.now.items.now) ≡ Ok places.now }
+    ensures { IfOk result (λ found. IsFound (unit_of [] (item_shapes unit.now.unit.now.items.now)) function (site_of (item_shapes unit.now.unit.now.items.now) function) found) }
+{
+    let items = unit.unit().items;
+    let layout = places.layout();
+    let bodies = Bodies::new(alloc, items)?;
+    let ground = Ground {
+        items,
+        layout: &layout,
+        bodies: &bodies,
+        outside: &[],
+    };
+    site(alloc, &ground, function)
 }

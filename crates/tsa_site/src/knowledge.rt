@@ -2,8 +2,9 @@
 ghost use Rattle.std.specs.Prelude.{◌≡◌, None, is_some, IfOk, OnOk};
 ghost use Rattle.tsa_core.specs.Programs.{attrs_of};
 ghost use Rattle.tsa_function.specs.Functions.{outside_of};
-ghost use Rattle.tsa_judge.specs.Judging.{unit_at};
-ghost use Rattle.tsa_judge.specs.Units.{Unit as Given, stable_of};
+ghost use Rattle.tsa_node.specs.Expressions.{attributes_at};
+ghost use Rattle.tsa_profile.specs.Judging.{unit_at};
+ghost use Rattle.tsa_profile.specs.Units.{Unit as Given, stable_of};
 ghost use Rattle.tsa_site.specs.Knowing.{behind, entered, outset_of, with_function};
 ghost use Rattle.tsa_tree.specs.declarations.Shapes.{head_shape};
 ghost use Rattle.tsa_tree.specs.types.Heads as heads;
@@ -17,10 +18,10 @@ use std::marker::Model;
 use tsa_ask::named_locks;
 use tsa_base::NoMemory;
 use tsa_function::{Outside, enter, know_item, leave};
-use tsa_judge::Ground;
+use tsa_profile::Ground;
 use tsa_scope::Scope;
 use tsa_tree::item::{FnTree, Item};
-use tsa_use::NamedLocks;
+use tsa_use::{NamedLock, NamedLocks};
 use tsa_way::Sight;
 
 /// What is known by name, and the locks that the declared functions name, by their numbers.
@@ -36,6 +37,18 @@ impl<'a> Model for Knowledge<'a> {
     ghost Value = { Knowledge };
 
     ghost view = { λ k. record { here = k.scope; attributes = k.attributes.items } };
+}
+
+impl<'a> Knowledge<'a> {
+    /// The locks that a function names, by its number.
+    pub fn locks_of(&self, function: u32) -> &[NamedLock]
+        ensures { result.now ≡ attributes_at self.now.attributes function }
+    {
+        match self.attributes.get(function as usize) {
+            Some(locks) => &locks.locks,
+            None => &[],
+        }
+    }
 }
 
 /// What is known in front of the first item of a unit.

@@ -6,7 +6,11 @@ mod inside;
 mod knowledge;
 mod laws;
 
-pub use find::{BodySite, site};
+pub use find::{BodySite, site, site_in};
 pub use inside::{Inside, enter_body, enter_item, leave_body};
 pub use knowledge::{Knowledge, outset, pass};
 pub use laws::sites_are_of_the_program;
+pub use tsa_place::Places;
+pub use tsa_profile::{Fit, Ground};
+pub use tsa_types::Typed;
+pub use tsa_use::{NamedLock, NamedLocks};

@@ -6,6 +6,7 @@ pub mod SameNotes
 pub mod Made
 pub mod Named
 pub mod NewView
-pub mod Controlled
 pub mod Ruled
 pub mod Small
+pub mod Leaving
+pub mod Handed

@@ -1,4 +1,7 @@
 pub mod Parts
 pub mod Views
 pub mod Made
-pub mod Controls
+pub use Rattle.tsa_control.specs.Controls
+pub use Rattle.tsa_control.specs.Graphs
+pub use Rattle.tsa_control.specs.Paths
+pub use Rattle.tsa_marks.specs.Rows

@@ -1,28 +1,33 @@
 //! The view of a body that is entered.
-ghost use Rattle.std.specs.Prelude.{◌≡◌, [], false, IfOk};
-ghost use Rattle.tsa_notes.specs.Notes.{AreNotes};
-ghost use Rattle.tsa_points.specs.Walks.{points_along, walk};
-ghost use Rattle.tsa_steps.specs.Steps.{body_steps as spec_steps};
-ghost use Rattle.tsa_tree.specs.statements.Shapes.{stmt_shapes};
+ghost use Rattle.std.specs.Prelude.{◌≡◌, ◌<◌, ◌++◌, [], None, false, map, IfOk, OnOk};
+ghost use Rattle.tsa_control.specs.Expressions.{attributes_at};
 ghost use Rattle.tsa_deed.specs.Told.{around_of};
-ghost use Rattle.tsa_node.specs.Expressions.{attributes_at};
-ghost use Rattle.tsa_view.specs.Made.{IsMade, IsPutTogether, IsWalked, around_in, result_in};
+ghost use Rattle.tsa_lock.specs.Kinds.{kinds_of as spec_kinds};
+ghost use Rattle.tsa_marks.specs.Notes.{IsRow};
+ghost use Rattle.tsa_path.specs.PathTables.{AreDifferent};
+ghost use Rattle.tsa_points.specs.Walks.{points_along, walk, walk_behind};
+ghost use Rattle.tsa_roles.specs.Roles.{tries_in};
+ghost use Rattle.tsa_rules.specs.Sets.{pending_places};
+ghost use Rattle.tsa_steps.specs.Steps.{step_shape};
+ghost use Rattle.tsa_tree.specs.declarations.Shapes.{head_shape};
+ghost use Rattle.tsa_tree.specs.types.Scopes.{with_locals};
+ghost use Rattle.tsa_view.specs.Made.{AreNoted, IsMade, IsNoted, IsWhole};
+ghost use Rattle.tsa_view.specs.Parts.{kinds_along, param_kinds as spec_param_kinds};
 ghost use Rattle.tsa_way.specs.LockPaths.{stable_in};
 
 use crate::content::RuleView;
 use crate::parts::{are_few, kinds_of, own_marks, param_kinds};
-use std::alloc::Global;
+use crate::walks::{begin_walk, end_walk};
 use tsa_base::NoMemory;
+use tsa_control::{Inside, Knowledge, NamedLocks};
 use tsa_deed::Around;
 use tsa_layout::{Layout, declared_thing};
 use tsa_lock::{Leads, LockKind};
 use tsa_marks::{Marks, Numbers};
 use tsa_notes::{Frame, Noted, notes_of};
 use tsa_path::PathTable;
-use tsa_points::{Walk, body_steps};
-use tsa_seen::{NamedLock, NamedLocks};
-use tsa_site::{BodySite, Inside, Knowledge};
-use tsa_tree::kind::Kind;
+use tsa_points::{Step, body_steps};
+use tsa_scope::Scope;
 
 /// The layout of a typed unit, and the kinds of locks that its structs are.
 #[derive(Clone, Copy)]
@@ -31,21 +36,42 @@ pub struct Unit<'w, 'a> {
     pub kinds: &'w [Option<LockKind<'a>>],
 }
 
-/// The locks that a function names, by its number.
-fn locks_named(attributes: &[NamedLocks], number: u32) -> &[NamedLock]
-    ensures { result.now ≡ attributes_at attributes.now number }
-{
-    match attributes.get(number as usize) {
-        Some(locks) => &locks.locks,
-        None => &[],
-    }
+/// What a view has beside the notes of points: the kinds of the locks to which paths lead, and what the function says of them.
+#[derive(Drop)]
+pub(crate) struct Sides<'a> {
+    kinds: Vec<Option<LockKind<'a>>>,
+    own: Marks,
 }
 
-/// What the points of a body are to the rules, with the kinds of its locals, parameters first.
-#[derive(Drop)]
-pub(crate) struct Walked {
-    noted: Noted,
-    locals: Vec<Kind>,
+/// Notes points along steps, by the paths of a table. What is known stays as it is.
+fn notes_along<'a>(
+    scope: &mut Scope<'a>,
+    frame: Frame<'_>,
+    steps: &[Step<'a>],
+    paths: &PathTable,
+) -> Result<Noted, NoMemory>
+    ensures noted { IfOk result (λ noted. AreDifferent paths.now → AreNoted (around_of frame.entry.around) frame.entry.kind paths.now (points_along (walk scope.old []) (map step_shape steps.now)) noted) }
+    ensures scope { OnOk result (scope.new ≡ with_locals scope.old.locals (walk_behind (walk scope.old []) (map step_shape steps.now)).here) }
+{
+    let locals = scope.next_local();
+    let numbers = Numbers::copy_of(scope.allocator(), paths)?;
+    let mut walk = begin_walk(scope)?;
+    let noted = notes_of(frame, &mut walk, steps, numbers);
+    end_walk(scope, walk, locals);
+    noted
+}
+
+/// What the attributes of the function whose body is entered say of its paths, in one row.
+fn own_row(
+    known: &Knowledge<'_>,
+    inside: &Inside<'_>,
+    numbers: &mut Numbers,
+) -> Result<Marks, NoMemory>
+    ensures row { IfOk result (λ own. AreDifferent numbers.old → IsRow numbers.old own 0 (attributes_at known.now.attributes inside.now.number) [] [] None) }
+    ensures numbers { numbers.new ≡ numbers.old }
+{
+    let own = known.locks_of(inside.number);
+    own_marks(known.scope.allocator(), numbers, own)
 }
 
 impl<'w, 'a> Unit<'w, 'a> {
@@ -63,70 +89,88 @@ impl<'w, 'a> Unit<'w, 'a> {
         }
     }
 
-    /// Notes the points of a body whose function gives a kind, along its steps.
-    fn notes_of_body(
+    /// Notes the points of a body that is entered, by the paths of its function. What is known there stays as it is.
+    fn noted(
         &self,
-        known: Knowledge<'a>,
+        known: &mut Knowledge<'a>,
         inside: &Inside<'a>,
-        numbers: Numbers,
+        paths: &PathTable,
     ) -> Result<Noted, NoMemory>
-        ensures notes { IfOk result (λ noted. AreNotes (around_in self.now known.entry inside.now) (result_in known.entry inside.now) numbers (points_along (walk known.entry.here []) (spec_steps (stmt_shapes inside.now.body.now) inside.now.head.now.name.span)) noted.notes) }
-        ensures numbers { IfOk result (λ noted. noted.numbers ≡ numbers) }
+        ensures noted { IfOk result (λ noted. AreDifferent paths.now → IsNoted self.now known.old inside.now paths.now noted) }
+        ensures known { OnOk result (known.new ≡ known.old) }
     {
         let kind = declared_thing(&known.scope, &inside.head.result)?.kind;
         let steps = body_steps(known.scope.allocator(), inside.body, inside.head.name.span)?;
-        let mut walk = Walk::new(known.scope);
         let around = self.around(&known.attributes, &inside.stable);
-        notes_of(Frame { around, kind }, &mut walk, &steps, numbers)
+        notes_along(&mut known.scope, Frame { around, kind }, &steps, paths)
     }
 
-    /// Walks along a body that is entered, by the numbers of paths.
-    fn walk_body(
+    /// The kinds of the locks to which the paths of a body lead whose points are noted.
+    fn path_kinds(
         &self,
-        known: Knowledge<'a>,
+        known: &Knowledge<'a>,
         inside: &Inside<'a>,
-        numbers: Numbers,
-    ) -> Result<Walked, NoMemory>
-        ensures { IfOk result (λ walked. IsWalked self.now known.entry inside.now numbers walked) }
+        noted: &Noted,
+    ) -> Result<Vec<Option<LockKind<'a>>>, NoMemory>
+        ensures { IfOk result (λ kinds. spec_kinds kinds.items ≡ kinds_along (spec_kinds self.now.kinds.now) self.now.layout.now (spec_param_kinds known.now.here (head_shape inside.now.head.now).params ++ noted.now.notes.kinds.items) noted.now.numbers) }
     {
         let mut locals = param_kinds(&known.scope, inside.head.params)?;
-        let noted = self.notes_of_body(known, inside, numbers)?;
         locals.extend_from_slice(&noted.notes.kinds)?;
-        Ok(Walked { noted, locals })
-    }
-
-    /// The view of a body that was walked along, by what the function's own attributes say of its paths.
-    fn put_together(
-        &self,
-        alloc: Global,
-        walked: Walked,
-        own: Marks,
-    ) -> Result<RuleView<'a>, NoMemory>
-        ensures { IfOk result (λ view. IsPutTogether self.now walked own view) }
-    {
         let leads = Leads {
             layout: self.layout,
-            locals: &walked.locals,
+            locals: &locals,
         };
-        let kinds = kinds_of(alloc, &walked.noted.numbers, leads, self.kinds)?;
-        are_few(&walked.noted.notes.roles)?;
+        kinds_of(known.scope.allocator(), &noted.numbers, leads, self.kinds)
+    }
+
+    /// What a view has beside the notes of points, where few of these begin tries.
+    fn sides(
+        &self,
+        known: &Knowledge<'a>,
+        inside: &Inside<'a>,
+        noted: &mut Noted,
+    ) -> Result<Sides<'a>, NoMemory>
+        ensures kinds { IfOk result (λ sides. spec_kinds sides.kinds.items ≡ kinds_along (spec_kinds self.now.kinds.now) self.now.layout.now (spec_param_kinds known.now.here (head_shape inside.now.head.now).params ++ noted.old.notes.kinds.items) noted.old.numbers) }
+        ensures own { IfOk result (λ sides. AreDifferent noted.old.numbers → IsRow noted.old.numbers sides.own 0 (attributes_at known.now.attributes inside.now.number) [] [] None) }
+        ensures few { OnOk result (tries_in noted.old.notes.roles < pending_places) }
+        ensures noted { noted.new ≡ noted.old }
+    {
+        are_few(&noted.notes.roles)?;
+        let kinds = self.path_kinds(known, inside, noted)?;
+        let own = own_row(known, inside, &mut noted.numbers)?;
+        Ok(Sides { kinds, own })
+    }
+
+    /// The view of a body whose points are noted.
+    fn whole(
+        &self,
+        known: &Knowledge<'a>,
+        inside: &Inside<'a>,
+        noted: Noted,
+    ) -> Result<RuleView<'a>, NoMemory>
+        ensures { IfOk result (λ view. IsWhole self.now known.now inside.now noted view) }
+    {
+        let mut noted = noted;
+        let sides = self.sides(known, inside, &mut noted)?;
         Ok(RuleView {
-            numbers: walked.noted.numbers,
-            kinds,
-            own,
-            notes: walked.noted.notes,
+            numbers: noted.numbers,
+            kinds: sides.kinds,
+            own: sides.own,
+            notes: noted.notes,
         })
     }
 
-    /// The view of a body that is entered, by the paths of its function.
-    pub fn view(&self, site: BodySite<'a>, paths: &PathTable) -> Result<RuleView<'a>, NoMemory>
-        ensures { IfOk result (λ view. IsMade self.now site.entry paths.now view) }
+    /// The view of a body that is entered, by the paths of its function. What is known there stays as it is.
+    pub fn view(
+        &self,
+        known: &mut Knowledge<'a>,
+        inside: &Inside<'a>,
+        paths: &PathTable,
+    ) -> Result<RuleView<'a>, NoMemory>
+        ensures view { IfOk result (λ view. IsMade self.now known.old inside.now paths.now view) }
+        ensures known { OnOk result (known.new ≡ known.old) }
     {
-        let alloc = site.known.scope.allocator();
-        let mut numbers = Numbers::copy_of(alloc, paths)?;
-        let named = locks_named(&site.known.attributes, site.inside.number);
-        let own = own_marks(alloc, &mut numbers, named)?;
-        let walked = self.walk_body(site.known, &site.inside, numbers)?;
-        self.put_together(alloc, walked, own)
+        let noted = self.noted(known, inside, paths)?;
+        self.whole(known, inside, noted)
     }
 }

@@ -4,13 +4,14 @@
 mod build;
 mod calls;
 mod content;
-mod control;
 mod facts;
 mod new;
 mod parts;
 mod view;
+mod walks;
 
+pub use build::Unit;
 pub use calls::{effect, entry_status, exit_status, fails};
 pub use content::RuleView;
-pub use control::graph_of;
 pub use facts::Facts;
+pub use tsa_control::{Fit, Graph, Places, graph_of};

@@ -1,45 +1,28 @@
-//! The views of the functions of units in the profile, and their control.
-ghost use Rattle.std.specs.Prelude.{◌≡◌, [], Ok, slice_get, IfOk};
-ghost use Rattle.tsa_judge.specs.Units.{unit_of};
-ghost use Rattle.tsa_site.specs.Finding.{IsFound};
-ghost use Rattle.tsa_site.specs.Sites.{site_of};
+//! The views of the functions of units in the profile.
+ghost use Rattle.std.specs.Prelude.{◌≡◌, Ok, slice_get, IfOk};
 ghost use Rattle.tsa_core.specs.Programs.{program_of};
-ghost use Rattle.tsa_place.specs.Units.{placed_in};
+ghost use Rattle.tsa_core.specs.Units.{placed_in};
 ghost use Rattle.tsa_tree.specs.units.Shapes.{item_shapes};
+ghost use Rattle.tsa_view.specs.Made.{IsMade};
 ghost use Rattle.tsa_view.specs.Views.{IsViewIn};
 
 use crate::build::Unit;
 use crate::content::RuleView;
 use std::alloc::Global;
 use tsa_base::NoMemory;
-use tsa_function::Bodies;
-use tsa_judge::Ground;
+use tsa_control::{BodySite, Fit, Places, site_in};
 use tsa_lock::lock_kinds;
-use tsa_place::Places;
-use tsa_profile::Fit;
-use tsa_site::{BodySite, site};
-use tsa_types::Typed;
+use tsa_path::PathTable;
 
-/// The body of a function of a typed unit by its number, with what is known there. None where the function has none.
-pub fn site_in<'a>(
-    alloc: Global,
-    unit: &Typed<'a>,
-    places: &Places,
-    function: u32,
-) -> Result<Option<BodySite<'a>>, NoMemory>
-    requires placed { placed_in (item_shapes unit.now.unit.now.items.now) ≡ Ok places.now }
-    ensures { IfOk result (λ found. IsFound (unit_of [] (item_shapes unit.now.unit.now.items.now)) function (site_of (item_shapes unit.now.unit.now.items.now) function) found) }
-{
-    let items = unit.unit().items;
-    let layout = places.layout();
-    let bodies = Bodies::new(alloc, items)?;
-    let ground = Ground {
-        items,
-        layout: &layout,
-        bodies: &bodies,
-        outside: &[],
-    };
-    site(alloc, &ground, function)
+impl<'w, 'a> Unit<'w, 'a> {
+    /// The view of the body of a site, by the paths of its function.
+    fn view_at(&self, site: BodySite<'a>, paths: &PathTable) -> Result<RuleView<'a>, NoMemory>
+        ensures { IfOk result (λ view. IsMade self.now site.entry.known site.entry.inside paths.now view) }
+    {
+        let inside = site.inside;
+        let mut known = site.known;
+        self.view(&mut known, &inside, paths)
+    }
 }
 
 impl<'a> RuleView<'a> {
@@ -57,15 +40,15 @@ impl<'a> RuleView<'a> {
         let Some(paths) = unit.paths(function) else {
             return Ok(None);
         };
-        let Some(site) = site_in(alloc, unit.typed(), places, function)? else {
-            return Ok(None);
-        };
         let layout = places.layout();
         let kinds = lock_kinds(alloc, unit.unit().items)?;
         let made = Unit {
             layout: &layout,
             kinds: &kinds,
         };
-        Ok(Some(made.view(site, paths)?))
+        match site_in(alloc, unit.typed(), places, function)? {
+            Some(site) => made.view_at(site, paths).map(Some),
+            None => Ok(None),
+        }
     }
 }

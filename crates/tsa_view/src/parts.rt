@@ -11,14 +11,14 @@ ghost use Rattle.tsa_view.specs.Parts.{kinds_along, param_kinds as spec_param_ki
 
 use std::alloc::Global;
 use tsa_base::NoMemory;
+use tsa_control::NamedLock;
 use tsa_layout::declared_thing;
 use tsa_lock::{Leads, LockKind, kind_at};
 use tsa_marks::{Marks, Numbers};
 use tsa_roles::Roles;
-use tsa_scope::Scope;
-use tsa_seen::NamedLock;
 use tsa_tree::item::Param;
 use tsa_tree::kind::Kind;
+use tsa_way::Scope;
 
 /// The kind of a parameter.
 fn param_kind(scope: &Scope<'_>, param: &Param<'_>) -> Result<Kind, NoMemory>

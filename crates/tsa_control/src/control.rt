@@ -1,28 +1,25 @@
-//! The control of the functions of typed units, by their numbers.
+//! The control of a body that is entered, and of functions by their numbers.
 ghost use Rattle.std.specs.Prelude.{◌≡◌, ◌+◌, Ok, slice_get, IfOk};
+ghost use Rattle.tsa_control.specs.Controls.{IsGraphIn};
 ghost use Rattle.tsa_core.specs.Control.{body_edges, count_all};
 ghost use Rattle.tsa_core.specs.Programs.{program_of};
+ghost use Rattle.tsa_core.specs.Units.{placed_in};
 ghost use Rattle.tsa_graph.specs.Graphs.{IsGraph};
-ghost use Rattle.tsa_place.specs.Units.{placed_in};
 ghost use Rattle.tsa_tree.specs.statements.Shapes.{stmt_shapes};
 ghost use Rattle.tsa_tree.specs.units.Shapes.{item_shapes};
-ghost use Rattle.tsa_view.specs.Controls.{IsGraphIn};
 
-use crate::new::site_in;
 use std::alloc::Global;
 use tsa_base::NoMemory;
 use tsa_graph::{Graph, graph_of_body};
-use tsa_place::Places;
-use tsa_site::BodySite;
-use tsa_types::Typed;
+use tsa_site::{Inside, Knowledge, Places, Typed, site_in};
 
 /// The control of a body that is entered, as a graph with longest blocks.
-fn control_of(site: &BodySite<'_>) -> Result<Graph, NoMemory>
-    ensures { IfOk result (λ graph. IsGraph (count_all (stmt_shapes site.now.inside.body.now) + 1) (body_edges site.now.known.here (stmt_shapes site.now.inside.body.now)) graph) }
+pub fn control_of<'a>(known: &Knowledge<'a>, inside: &Inside<'a>) -> Result<Graph, NoMemory>
+    ensures { IfOk result (λ graph. IsGraph (count_all (stmt_shapes inside.now.body.now) + 1) (body_edges known.now.here (stmt_shapes inside.now.body.now)) graph) }
 {
-    let points = site.inside.head.points;
+    let points = inside.head.points;
     let count = u32::try_from(points.len()).ok().ok_or(NoMemory)?;
-    graph_of_body(&site.known.scope, site.inside.body, count)
+    graph_of_body(&known.scope, inside.body, count)
 }
 
 /// The control of a function of a typed unit by its number, as a graph with longest blocks. None exactly where it has no body, or where
@@ -37,7 +34,7 @@ pub fn graph_of(
     ensures { IfOk result (λ graph. IsGraphIn (slice_get (program_of (item_shapes unit.now.unit.now.items.now)).functions function) graph) }
 {
     match site_in(alloc, unit, places, function)? {
-        Some(site) => Ok(Some(control_of(&site)?)),
+        Some(site) => Ok(Some(control_of(&site.known, &site.inside)?)),
         None => Ok(None),
     }
 }

@@ -1,11 +1,11 @@
 use Rattle.std.proofs.Common.{[], refl, slice_get, subst}
 use Rattle.tsa_tree.specs.units.Shapes.{item_shapes}
 use Rattle.tsa_core.specs.Programs.{program_of}
-use Rattle.tsa_judge.specs.Units.{unit_of}
+use Rattle.tsa_site.specs.Units.{unit_of}
 use Rattle.tsa_site.specs.Finding.{IsFound}
 use Rattle.tsa_site.specs.Sites.{site_of}
-use Rattle.tsa_view.proofs.Controlled.{graph_nowhere, graph_there}
-use Rattle.tsa_view.proofs.control.graph_of.Goals as goal
+use Rattle.tsa_control.proofs.Controlled.{graph_nowhere, graph_there}
+use Rattle.tsa_control.proofs.control.graph_of.Goals as goal
 
 pub returns-in_ok-control_of-in-Some : goal.returns-in_ok-control_of-in-Some
 returns-in_ok-control_of-in-Some c =

@@ -4,7 +4,7 @@ use Rattle.tsa_tree.specs.types.Units.{refusal_of_types}
 use Rattle.tsa_tree.specs.units.Shapes.{item_shapes}
 use Rattle.tsa_core.specs.Programs.{program_of}
 use Rattle.tsa_profile.proofs.Laying.{laid}
-use Rattle.tsa_view.proofs.new.site_in.Goals as goal
+use Rattle.tsa_site.proofs.find.site_in.Goals as goal
 
 pub new-requires : goal.new-requires
 new-requires c = record {
