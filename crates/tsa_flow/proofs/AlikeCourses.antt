@@ -2,6 +2,7 @@
 use Rattle.std.proofs.Common.{◌≡◌, ℕ, ◌↔◌, List, [], ◌∷◌, Contains, sym, ◌∙◌, ap, subst}
 use Rattle.tsa_core.specs.Control.{Outcome, edge}
 use Rattle.tsa_rules.specs.declared.status.Status.{Status}
+use Rattle.tsa_reach.specs.Disagreeing.{Disagree}
 use Rattle.tsa_rules.specs.Walks.{Agree, Course, Edge, edge_from, entry_edge, IsReached, IsWalk, LeadsTo, Reach, ReachAt, along}
 
 pub record Alike (k l : Course) : Type 0 where
@@ -50,6 +51,16 @@ module _ (k l : Course) (a : Alike k l) where
 module _ (k l : Course) (a : Alike k l) where
   agree_on : (q : ℕ) → Agree k q → Agree l q
   agree_on q h d e s r x = reach_on k l a e q s (h d e s (reach_on l k (turned k l a) d q s r) (reached_on l k (turned k l a) e q x))
+
+  pub disagree_on : (q : ℕ) → Disagree k q → Disagree l q
+  disagree_on q h = record {
+    one = h.one;
+    other = h.other;
+    status = h.status;
+    brings = reach_on k l a h.one q h.status h.brings;
+    reached = reached_on k l a h.other q h.reached;
+    lacks = λ x. h.lacks (reach_on l k (turned k l a) h.other q h.status x);
+  }
 
   pub same_statuses : (q : ℕ) (s : Status) → ReachAt k q s ↔ ReachAt l q s
   same_statuses q s = (at_on k l a q s, at_on l k (turned k l a) q s)

@@ -1,7 +1,7 @@
 -- What is worked out of a path by its view is of the function's course.
-use Rattle.std.proofs.Common.{◌≡◌, ◌∙◌, ℕ, ◌<◌, ◌↔◌, List, Contains, get_or, length, Some, slice_get, refl, sym, ap, subst}
+use Rattle.std.proofs.Common.{◌≡◌, ◌∙◌, ℕ, ◌<◌, ◌↔◌, List, Contains, length, Some, None, slice_get, refl, sym, ap, subst}
 use Rattle.std.proofs.lemmas.List.Elements.{All-contains}
-use Rattle.std.proofs.lemmas.Option.{get_or_from_slice_get, slice_get_within}
+use Rattle.std.proofs.lemmas.Option.{slice_get_within}
 use Rattle.tsa_way.specs.Ways.{Way}
 use Rattle.tsa_core.specs.Control.{Edge, edge}
 use Rattle.tsa_core.specs.Programs.{Function, Program}
@@ -12,11 +12,12 @@ use Rattle.tsa_rules.specs.Cases.{effect_in, entry_in}
 use Rattle.tsa_rules.specs.Points.{edges_of, points_of}
 use Rattle.tsa_rules.specs.Walks.{course_of}
 use Rattle.tsa_reach.specs.Courses.{course_by}
+use Rattle.tsa_reach.specs.declared.sets.Reached.{Reached}
+use Rattle.tsa_reach.specs.Reaching.{AreReached}
 use Rattle.tsa_view.specs.declared.content.RuleView.{RuleView}
 use Rattle.tsa_view.specs.Views.{case_in, lock_in, IsViewOf}
 use Rattle.tsa_flow.specs.declared.function.FunctionFlow.{FunctionFlow}
-use Rattle.tsa_flow.specs.declared.function.PathFlow.{PathFlow}
-use Rattle.tsa_flow.specs.Flows.{IsFlowOf, IsPathFlow}
+use Rattle.tsa_flow.specs.Flows.{flow_at, HasPathFlow, IsFlowOf}
 use Rattle.tsa_flow.proofs.AlikeCourses.{Alike}
 
 -- edges leave points of the body
@@ -41,16 +42,22 @@ module _ (u : Program) (f : Function) (paths : List Way) (v : RuleView) (r : Blo
   numbered = subst (λ ways. number < length ways) (sym is.numbered) (slice_get_within paths number c there)
 
 -- the flow that stands under the number of a path is the path's
-module _ (u : Program) (f : Function) (paths : List Way) (w : FunctionFlow) (is : IsFlowOf u f paths w) (number : ℕ) (c : Way) (there : slice_get paths number ≡ Some c) where
-  pub within : number < length w.paths.items
-  within = slice_get_within w.paths.items number (is.flows number (numbered u f paths w.view w.blocks is.view is.blocks number c there)).flow
-      (is.flows number (numbered u f paths w.view w.blocks is.view is.blocks number c there)).is_there
+same_flow : {A : Type 0} {x y : A} → Some x ≡ Some y → x ≡ y
+same_flow e = cc
 
-  pub flow_is : (flow : PathFlow) → flow ≡ get_or w.paths.items number flow → IsPathFlow (edges_of f) (entry_in (lock_in w.view number)) (λ p. case_in w.view p number) w.blocks flow
+no_flow : {A : Type 0} {x : A} → Some x ≡ None → ⊥
+no_flow e = cc
+
+module _ (u : Program) (f : Function) (paths : List Way) (w : FunctionFlow) (is : IsFlowOf u f paths w) (number : ℕ) (c : Way) (there : slice_get paths number ≡ Some c) where
+  has_flow : HasPathFlow (edges_of f) w.view w.blocks w.paths number
+  has_flow = is.flows number (numbered u f paths w.view w.blocks is.view is.blocks number c there)
+
+  pub never_none : flow_at w.paths number ≡ None → ⊥
+  never_none none = no_flow (sym has_flow.is_there ∙ none)
+
+  pub flow_is : (flow : Reached) → flow_at w.paths number ≡ Some flow → AreReached (edges_of f) (entry_in (lock_in w.view number)) (λ p. case_in w.view p number) w.blocks flow
   flow_is flow at =
-      let h = is.flows number (numbered u f paths w.view w.blocks is.view is.blocks number c there) in
-      subst (IsPathFlow (edges_of f) (entry_in (lock_in w.view number)) (λ p. case_in w.view p number) w.blocks)
-      (sym (at ∙ get_or_from_slice_get w.paths.items number h.flow flow h.is_there)) h.is_flow
+      subst (AreReached (edges_of f) (entry_in (lock_in w.view number)) (λ p. case_in w.view p number) w.blocks) (same_flow (sym has_flow.is_there ∙ at)) has_flow.is_flow
 
   pub alike_there : Alike (course_by (edges_of f) (entry_in (lock_in w.view number)) (λ p. case_in w.view p number)) (course_of u f c)
   alike_there = alike u f paths w.view w.blocks is.view is.blocks number c there

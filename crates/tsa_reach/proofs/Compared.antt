@@ -4,10 +4,10 @@ use Rattle.std.proofs.Math.Decide.{ℕ_discrete}
 use Rattle.tsa_rules.specs.declared.status.Status.{Status}
 use Rattle.tsa_rules.specs.declared.statuses.Statuses.{Statuses}
 use Rattle.tsa_rules.specs.Sets.{Has}
-use Rattle.tsa_rules.proofs.SetBits.{sets_are_their_statuses}
-use Rattle.tsa_reach.specs.Agreeing.{Agrees, AreCompared, Differs, IsAlike, IsApart}
+use Rattle.tsa_reach.specs.Agreeing.{Agrees, AreCompared, Differs, IsAlike, IsApart, Lacks}
+use Rattle.tsa_reach.proofs.Lacking.{one_lacking, one_member}
 use Rattle.tsa_reach.specs.Fronts.{set_at}
-use Rattle.tsa_reach.specs.Reaching.{flag_at}
+use Rattle.tsa_reach.specs.Joining.{flag_at}
 
 abbrev pub Same : (Status → Type 0) → (Status → Type 0) → Type 0
 Same A B = (s : Status) → A s ↔ B s
@@ -15,8 +15,11 @@ Same A B = (s : Status) → A s ↔ B s
 agrees_as : (row : Statuses) (A B : Status → Type 0) → Same A B → Agrees row B → Agrees row A
 agrees_as row A B same h t s x y = (same s).1 (h t s ((same t).0 x) y)
 
+lacks_as : (row : Statuses) (A B : Status → Type 0) → Same A B → Lacks row A → Lacks row B
+lacks_as row A B same h = record { brought = h.brought; brings = (same h.brought).0 h.brings; lacked = h.lacked; has = h.has; lacks = λ x. h.lacks ((same h.lacked).1 x) }
+
 differs_as : (row : Statuses) (A B : Status → Type 0) → Same A B → Differs row A → Differs row B
-differs_as row A B same h inside agrees = h (λ t x. inside t ((same t).0 x)) (agrees_as row A B same agrees)
+differs_as row A B same h inside = lacks_as row A B same (h (λ t x. inside t ((same t).0 x)))
 
 -- no flag changes
 pub none_compared : (E : Type 0) (leads : E → ℕ → Type 0) (brings : E → Status → Type 0) (rows : List Statuses) (flags : List Bool)
@@ -50,7 +53,10 @@ module _ (rows : List Statuses) (block : ℕ) (more : Statuses) (flags : List Bo
   }
     where
       differs : Differs (set_at rows block) (Has more)
-      differs inside agrees = apart.0 (λ t x. apart.1 (sets_are_their_statuses more (set_at rows block) fits fits' (λ s. (inside s, agrees t s x))))
+      differs inside =
+          let some = one_member more apart.0 in
+          let other = one_lacking more (set_at rows block) fits fits' inside apart.1 in
+          record { brought = some.0; brings = some.1; lacked = other.0; has = other.1.0; lacks = other.1.1 }
 
 -- some edges, and then some more
 pub and_then : (E F G : Type 0) (leads : E → ℕ → Type 0) (brings : E → Status → Type 0) (leads' : F → ℕ → Type 0) (brings' : F → Status → Type 0) (leads'' : G → ℕ → Type 0) (brings'' : G → Status → Type 0)

@@ -19,7 +19,7 @@ use Rattle.tsa_reach.specs.Agreeing.{Agrees, AreArrivalsCompared, AreExitsCompar
 use Rattle.tsa_reach.specs.Changes.{effect_by, IsLeft}
 use Rattle.tsa_reach.specs.Courses.{Carried, Leaves, leaving}
 use Rattle.tsa_reach.specs.Fronts.{set_at}
-use Rattle.tsa_reach.specs.Reaching.{IsInPlace}
+use Rattle.tsa_reach.specs.Joining.{IsInPlace}
 use Rattle.tsa_reach.specs.Stops.{AreStopsFrom}
 use Rattle.tsa_reach.proofs.Changed.{makes}
 use Rattle.tsa_reach.proofs.Compared.{and_then, as_others, none_compared, Same}

@@ -16,7 +16,7 @@ use Rattle.tsa_rules.specs.declared.status.Status.{Status}
 use Rattle.tsa_rules.specs.Walks.{ReachAt}
 use Rattle.tsa_reach.specs.Courses.{Carried, leaving}
 use Rattle.tsa_reach.specs.Fronts.{set_at}
-use Rattle.tsa_reach.specs.Reaching.{IsInPlace}
+use Rattle.tsa_reach.specs.Joining.{IsInPlace}
 use Rattle.tsa_reach.specs.Turns.{AreClosed, AreOpen, AreSound, HaveBegun, IsClosedBy}
 use Rattle.tsa_reach.proofs.Slots.{one_there}
 use Rattle.tsa_reach.proofs.Standing.{at_place, is_passed}

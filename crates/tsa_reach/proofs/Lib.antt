@@ -1,5 +1,8 @@
 pub mod Slots
+pub mod Lacking
 pub mod Plain
+pub mod Passing
+pub mod Picking
 pub mod Changed
 pub mod Joined
 pub mod Stepped

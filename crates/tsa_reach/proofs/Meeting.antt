@@ -15,11 +15,12 @@ use Rattle.tsa_rules.specs.declared.status.Status.{Status}
 use Rattle.tsa_rules.specs.declared.statuses.Statuses.{Statuses}
 use Rattle.tsa_rules.specs.Sets.{Has}
 use Rattle.tsa_rules.specs.Walks.{Agree, along, Edge, edge_from, entry_edge, IsReached, IsWalk, Reach, ReachAt}
-use Rattle.tsa_reach.specs.declared.sets.Reached.{Reached}
+use Rattle.tsa_reach.specs.declared.joins.Joins.{Joins}
 use Rattle.tsa_reach.specs.Agreeing.{Agrees, AreArrivalsCompared, Arrival, at_entry, brings_by, by_exit, Differs, leads_by}
 use Rattle.tsa_reach.specs.Courses.{Carried, Leaves}
+use Rattle.tsa_reach.specs.Disagreeing.{Disagree}
 use Rattle.tsa_reach.specs.Fronts.{set_at}
-use Rattle.tsa_reach.specs.Reaching.{AreReached, flag_at, IsInPlace}
+use Rattle.tsa_reach.specs.Joining.{AreJoined, flag_at, IsInPlace}
 use Rattle.tsa_reach.proofs.Slots.{all_there, one_there}
 use Rattle.tsa_reach.proofs.Standing.{at_place, exact_along, first_stands, not_entered, only_from, is_passed, same_block, same_index}
 use Rattle.tsa_reach.proofs.Stepped.{at_start, walks}
@@ -56,16 +57,28 @@ module _ (n : ℕ) (es : List control.Edge) (entry : Status) (cases : ℕ → Ca
       let e : at.index ≡ at.index - 1 + 1 = omega (arith, some) in
       agrees_inner at.block (at.index - 1) x.block x.is_there p (hp ∙ ap (λ i. Some (place at.block i)) e)
 
-  -- at the first point of a block they agree as its flag says
-  pub agrees_here : (flags : List Bool) → ((c : ℕ) (b : Block) → IsInPlace r c b → (flag_at flags c ≡ true) ↔ Agree (walks es entry cases) (point_in b 0))
-      → (p : ℕ) (at : Place) → slice_get r.places.items p ≡ Some at → at.index ≤ 0 → (flag_at flags at.block ≡ true) ↔ Agree (walks es entry cases) p
-  agrees_here flags told p at hp none =
+  -- a point that stands first in its block
+  first_here : (p : ℕ) (at : Place) (hp : slice_get r.places.items p ≡ Some at) → at.index ≤ 0 → IsInPlace r at.block (are.stands p at hp).block × (point_in (are.stands p at hp).block 0 ≡ p)
+  first_here p at hp none =
       let x = are.stands p at hp in
       let e : at.index ≡ 0 = omega (arith, none) in
       let first : point_in x.block 0 ≡ p = ap (point_in x.block) (sym e) ∙ x.point_is in
       let stands : slice_get r.places.items p ≡ Some (place at.block 0) = hp ∙ ap (λ i. Some (place at.block i)) e in
-      let here = told at.block x.block (record { is_there = x.is_there; stands = subst (λ q. slice_get r.places.items q ≡ Some (place at.block 0)) (sym first) stands }) in
-      subst (λ q. (flag_at flags at.block ≡ true) ↔ Agree (walks es entry cases) q) first here
+      (record { is_there = x.is_there; stands = subst (λ q. slice_get r.places.items q ≡ Some (place at.block 0)) (sym first) stands }, first)
+
+  -- there edges agree as its flag says
+  pub agrees_here : (flags : List Bool) → ((c : ℕ) (b : Block) → IsInPlace r c b → (flag_at flags c ≡ true) ↔ Agree (walks es entry cases) (point_in b 0))
+      → (p : ℕ) (at : Place) → slice_get r.places.items p ≡ Some at → at.index ≤ 0 → (flag_at flags at.block ≡ true) ↔ Agree (walks es entry cases) p
+  agrees_here flags told p at hp none =
+      let here = first_here p at hp none in
+      subst (λ q. (flag_at flags at.block ≡ true) ↔ Agree (walks es entry cases) q) here.1 (told at.block (are.stands p at hp).block here.0)
+
+  -- and disagree as it says
+  pub disagrees_here : (flags : List Bool) → ((c : ℕ) (b : Block) → IsInPlace r c b → flag_at flags c ≡ false → Disagree (walks es entry cases) (point_in b 0))
+      → (p : ℕ) (at : Place) → slice_get r.places.items p ≡ Some at → at.index ≤ 0 → flag_at flags at.block ≡ false → Disagree (walks es entry cases) p
+  disagrees_here flags told p at hp none lost =
+      let here = first_here p at hp none in
+      subst (Disagree (walks es entry cases)) here.1 (told at.block (are.stands p at hp).block here.0 lost)
 
   -- each point has a place
   pub no_point : (p : ℕ) → p < n → slice_get r.places.items p ≡ None → ⊥
@@ -135,19 +148,24 @@ module _ (n : ℕ) (es : List control.Edge) (entry : Status) (cases : ℕ → Ca
           record { leads = y.leads; before = []; is_walk = tt; brings = sym (agrees (at_entry (place c 0)) (at, refl) entry s refl x) }
       brought agrees s x (edge_from q o) y = across_exit agrees s x q o y (is_passed n es r are q p o y.leads)
 
-      -- where edges agree, no arrival differs
-      differs_not : Agree (walks es entry cases) p → (a : Arrival) → leads_by r upto a c → Differs (set_at rows c) (brings_by entry cases rows a) → ⊥
-      differs_not agree (at_entry at) (hp, hc) differs = differs within whole
+      -- an arrival that differs is an edge that lacks what another brings
+      lacking : (e : Edge) (s : Status) → Has (set_at rows c) s → IsReached (walks es entry cases) e p → (Reach (walks es entry cases) e p s → ⊥) → Disagree (walks es entry cases) p
+      lacking e s has reached lacks = let y = (exact c b h s).0 has in record { one = y.0; other = e; status = s; brings = y.1; reached = reached; lacks = lacks }
+
+      disagree_at : (a : Arrival) → leads_by r upto a c → Differs (set_at rows c) (brings_by entry cases rows a) → Disagree (walks es entry cases) p
+      disagree_at (at_entry at) (hp, hc) differs =
+          let lack = differs within in
+          lacking entry_edge lack.lacked lack.has (record { leads = start; before = []; is_walk = tt }) (λ x. lack.lacks (sym x.brings))
         where
           start : point_in b 0 ≡ 0
           start = ap (point_in b) (sym (are.start at hp)) ∙ (at_place n es r are 0 at b hp (subst (λ i. slice_get r.blocks.items i ≡ Some b) (sym hc) h.is_there)).1
 
           within : (t : Status) → t ≡ entry → Has (set_at rows c) t
           within t e = subst (Has (set_at rows c)) (sym e) ((exact c b h entry).1 (subst (λ q. ReachAt (walks es entry cases) q entry) (sym start) (at_start es entry cases)))
-
-          whole : (t s : Status) → t ≡ entry → Has (set_at rows c) s → s ≡ entry
-          whole t s e x = let y = (exact c b h s).0 x in sym (agree y.0 entry_edge s y.1 (record { leads = start; before = []; is_walk = tt })).brings
-      differs_not agree (by_exit number d z) (l, (stands, (among, to_c))) differs = differs within whole
+      disagree_at (by_exit number d z) (l, (stands, (among, to_c))) differs =
+          let lack = differs within in
+          lacking (edge_from (point_in d (last_in d)) (outcome_of z.outcome)) lack.lacked lack.has
+          (is_reached (edge_from (point_in d (last_in d)) (outcome_of z.outcome)) p lack.brought ((exit lack.brought).1 lack.brings)) (λ x. lack.lacks ((exit lack.lacked).0 x))
         where
           on : LeadsOn es r.blocks.items d z
           on = All-contains (LeadsOn es r.blocks.items d) d.exits.items z (all_there (λ y. All (LeadsOn es r.blocks.items y) y.exits.items) r.blocks.items number d are.exits stands.is_there) among
@@ -162,10 +180,13 @@ module _ (n : ℕ) (es : List control.Edge) (entry : Status) (cases : ℕ → Ca
           within : (t : Status) → Leaves cases d (set_at rows number) (outcome_of z.outcome) t → Has (set_at rows c) t
           within t x = (exact c b h t).1 (edge_from (point_in d (last_in d)) (outcome_of z.outcome), (exit t).1 x)
 
-          whole : (t s : Status) → Leaves cases d (set_at rows number) (outcome_of z.outcome) t → Has (set_at rows c) s → Leaves cases d (set_at rows number) (outcome_of z.outcome) s
-          whole t s x y =
-              let w = (exact c b h s).0 y in
-              (exit s).0 (agree w.0 (edge_from (point_in d (last_in d)) (outcome_of z.outcome)) s w.1 (is_reached (edge_from (point_in d (last_in d)) (outcome_of z.outcome)) p t ((exit t).1 x)))
+      -- a flag that is lost says that edges disagree
+      pub disagrees_first : (first flags : List Bool) → ((i : ℕ) → flag_at first i ≡ true) → AreArrivalsCompared entry cases r upto rows first flags
+          → flag_at flags c ≡ false → Disagree (walks es entry cases) p
+      disagrees_first first flags begun compared is = elim (compared.lost c is) [
+        | inl was ↦ absurd (true≢false (sym (begun c) ∙ was))
+        | inr y ↦ disagree_at y.0 y.1.0 y.1.1
+      ]
 
       -- a flag that is kept says that edges agree
       pub agrees_first : (first flags : List Bool) → ((i : ℕ) → flag_at first i ≡ true) → AreArrivalsCompared entry cases r upto rows first flags
@@ -177,15 +198,15 @@ module _ (n : ℕ) (es : List control.Edge) (entry : Status) (cases : ℕ → Ca
 
           by : Agree (walks es entry cases) p → (f : Bool) → flag_at flags c ≡ f → flag_at flags c ≡ true
           by agree true is = is
-          by agree false is = elim (compared.lost c is) [
-            | inl was ↦ absurd (true≢false (sym (begun c) ∙ was))
-            | inr y ↦ absurd (differs_not agree y.0 y.1.0 y.1.1)
-          ]
+          by agree false is =
+              let x = disagrees_first first flags begun compared is in
+              absurd (x.lacks (agree x.one x.other x.status x.brings x.reached))
 
     -- what is worked out is what walks bring
-    pub all_reached : (reached : Reached) (first : List Bool) → reached.rows.items ≡ rows → ((i : ℕ) → flag_at first i ≡ true)
-        → AreArrivalsCompared entry cases r (length r.blocks.items) rows first reached.agreeing.items → AreReached (walks es entry cases) r reached
-    all_reached reached first same begun compared = record {
+    pub all_joined : (joins : Joins) (first : List Bool) → joins.rows.items ≡ rows → ((i : ℕ) → flag_at first i ≡ true)
+        → AreArrivalsCompared entry cases r (length r.blocks.items) rows first joins.agreeing.items → AreJoined (walks es entry cases) r joins
+    all_joined joins first same begun compared = record {
       sets = λ c b h s. subst (λ ys. Has (set_at ys c) s ↔ ReachAt (walks es entry cases) (point_in b 0) s) (sym same) (exact c b h s);
-      agrees = λ c b h. agrees_first (length r.blocks.items) (omega arith) c b h first reached.agreeing.items begun compared;
+      agrees = λ c b h. agrees_first (length r.blocks.items) (omega arith) c b h first joins.agreeing.items begun compared;
+      disagrees = λ c b h. disagrees_first (length r.blocks.items) (omega arith) c b h first joins.agreeing.items begun compared;
     }

@@ -24,14 +24,14 @@ still cases b i l h o s = quiet_cases.still (cases (point_in b i)) o s (neither 
 
 module _ (cases : ℕ → Case) (b : Block) (set : Statuses) where
   -- plain points keep all statuses
-  plain_on : (i j : ℕ) → i ≤ j → j ≤ last_in b → ((k : ℕ) → i ≤ k → k < j → IsPlain cases b k) → (s : Status) → Carried cases b set i s → Carried cases b set j s
+  pub plain_on : (i j : ℕ) → i ≤ j → j ≤ last_in b → ((k : ℕ) → i ≤ k → k < j → IsPlain cases b k) → (s : Status) → Carried cases b set i s → Carried cases b set j s
   plain_on i zero l m h s x = let e : i ≡ 0 = omega arith in subst (λ k. Carried cases b set k s) e x
   plain_on i (suc j) l m h s x = elim (ℕ_discrete i (suc j)) [
     | yes e ↦ subst (λ k. Carried cases b set k s) e x
     | no n ↦ (s, (plain_on i j (omega arith) (omega arith) (λ k a d. h k a (omega arith)) s x, still cases b j (omega arith) (h j (omega arith) (omega arith)) (outcome_in b j) s))
   ]
 
-  plain_back : (i j : ℕ) → i ≤ j → j ≤ last_in b → ((k : ℕ) → i ≤ k → k < j → IsPlain cases b k) → (s : Status) → Carried cases b set j s → Carried cases b set i s
+  pub plain_back : (i j : ℕ) → i ≤ j → j ≤ last_in b → ((k : ℕ) → i ≤ k → k < j → IsPlain cases b k) → (s : Status) → Carried cases b set j s → Carried cases b set i s
   plain_back i zero l m h s x = let e : 0 ≡ i = omega arith in subst (λ k. Carried cases b set k s) e x
   plain_back i (suc j) l m h s x = elim (ℕ_discrete i (suc j)) [
     | yes e ↦ subst (λ k. Carried cases b set k s) (sym e) x
@@ -76,6 +76,16 @@ module _ (cases : ℕ → Case) (b : Block) (stop : ℕ) (rest : List ℕ) (stre
 
       plain : (k : ℕ) → gone.upto ≤ k → k < stretch.to → IsPlain cases b k
       plain k a d = gone.stops.1.1.0 k (omega (arith, gone.upto_is, a, d)) (omega (arith, l, d))
+
+  -- how far that is
+  pub on_it_upto : (new : Statuses) (l : stop < stretch.to) (image : (t : Status) → Has new t ↔ IsImage (effect_in (cases (point_in b stop)) (outcome_in b stop)) out t)
+      → (on_it new l image).upto ≡ stop + 1
+  unfolding on_it
+  on_it_upto new l image = refl
+
+  pub behind_it_upto : (l : stretch.to ≤ stop) → (behind_it l).upto ≡ stretch.to
+  unfolding behind_it
+  behind_it_upto l = refl
 
 -- the next stop, and the end of the list
 pub next_stop : (cases : ℕ → Case) (b : Block) (stops : List ℕ) (i : ℕ) (stretch : Stretch) (out : Statuses) → i < length stops → GoneOn cases b (drop i stops) stretch out

@@ -14,7 +14,7 @@ use Rattle.tsa_rules.specs.declared.status.Status.{Status}
 use Rattle.tsa_rules.specs.Walks.{ReachAt}
 use Rattle.tsa_reach.specs.Courses.{Carried}
 use Rattle.tsa_reach.specs.Fronts.{set_at}
-use Rattle.tsa_reach.specs.Reaching.{IsInPlace}
+use Rattle.tsa_reach.specs.Joining.{IsInPlace}
 use Rattle.tsa_reach.specs.Stops.{AreStops, AreStopsFrom}
 use Rattle.tsa_reach.proofs.Slots.{all_there, one_there, stops_at}
 use Rattle.tsa_reach.proofs.Stepped.{at_entry, by_edge, LastEdge, last_edge, carried_sound, walks}

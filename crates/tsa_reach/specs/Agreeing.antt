@@ -12,15 +12,23 @@ use Rattle.tsa_rules.specs.declared.statuses.Statuses.{Statuses}
 use Rattle.tsa_rules.specs.Sets.{Has, IsEmpty, IsImage}
 use Rattle.tsa_reach.specs.Courses.{Leaves}
 use Rattle.tsa_reach.specs.Fronts.{set_at}
-use Rattle.tsa_reach.specs.Reaching.{flag_at, IsInPlace}
+use Rattle.tsa_reach.specs.Joining.{flag_at, IsInPlace}
 
 -- an edge that brings some status brings all of a set
 abbrev pub Agrees : Statuses → (Status → Type 0) → Type 0
 Agrees set Brings = (t s : Status) → Brings t → Has set s → Brings s
 
--- one that brings statuses of the set alone doesn't
+-- one that doesn't: it brings some status, and the set has one that it doesn't bring
+pub record Lacks (set : Statuses) (Brings : Status → Type 0) : Type 0 where
+  pub brought : Status
+  pub brings : Brings brought
+  pub lacked : Status
+  pub has : Has set lacked
+  pub lacks : Brings lacked → ⊥
+
+-- so is one that brings statuses of the set alone, but not all
 abbrev pub Differs : Statuses → (Status → Type 0) → Type 0
-Differs set Brings = ((t : Status) → Brings t → Has set t) → Agrees set Brings → ⊥
+Differs set Brings = ((t : Status) → Brings t → Has set t) → Lacks set Brings
 
 -- A set has statuses and is not all that is brought; or it has none, or is all of it.
 abbrev pub IsApart : (set brought : Statuses) → Type 0

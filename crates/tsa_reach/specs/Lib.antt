@@ -1,7 +1,10 @@
 pub mod Courses
 pub mod Stops
+pub mod Behind
 pub mod Changes
 pub mod Fronts
 pub mod Turns
+pub mod Disagreeing
+pub mod Joining
 pub mod Reaching
 pub mod Agreeing

@@ -1,23 +1,17 @@
--- What is worked out of a body is what walks bring to the first points of its blocks, and whether edges agree there.
-use Rattle.std.specs.Prelude.{ℕ, ◌≡◌, ◌↔◌, Bool, true, List, Some, slice_get, slice_index_or}
-use Rattle.tsa_blocks.specs.declared.blocks.Block.{Block}
+-- What is worked out of a body for one path is what walks bring to its points.
+use Rattle.std.specs.Prelude.{ℕ, List}
+use Rattle.tsa_core.specs.Control.{Edge}
 use Rattle.tsa_blocks.specs.declared.blocks.Blocks.{Blocks}
-use Rattle.tsa_blocks.specs.Rows.{place, point_in}
-use Rattle.tsa_rules.specs.Sets.{Has}
+use Rattle.tsa_rules.specs.declared.case.Case.{Case}
 use Rattle.tsa_rules.specs.declared.status.Status.{Status}
-use Rattle.tsa_rules.specs.Walks.{Agree, Course, ReachAt}
 use Rattle.tsa_reach.specs.declared.sets.Reached.{Reached}
-use Rattle.tsa_reach.specs.Fronts.{set_at}
+use Rattle.tsa_reach.specs.Behind.{AreAllBehind}
+use Rattle.tsa_reach.specs.Courses.{course_by}
+use Rattle.tsa_reach.specs.Joining.{AreJoined}
+use Rattle.tsa_reach.specs.Stops.{AreStops}
 
--- a block of the body: its first point stands at its beginning
-pub record IsInPlace (blocks : Blocks) (c : ℕ) (b : Block) : Type 0 where
-  pub is_there : slice_get blocks.blocks.items c ≡ Some b
-  pub stands : slice_get blocks.places.items (point_in b 0) ≡ Some (place c 0)
-
--- whether no edges disagree at a block
-abbrev pub flag_at : List Bool → (block : ℕ) → Bool
-flag_at flags c = slice_index_or flags c true
-
-pub record AreReached (k : Course) (blocks : Blocks) (reached : Reached) : Type 0 where
-  pub sets : (c : ℕ) (b : Block) → IsInPlace blocks c b → (s : Status) → Has (set_at reached.rows.items c) s ↔ ReachAt k (point_in b 0) s
-  pub agrees : (c : ℕ) (b : Block) → IsInPlace blocks c b → (flag_at reached.agreeing.items c ≡ true) ↔ Agree k (point_in b 0)
+-- by the edges of the body, the status of the path at the entry, and what each point is to the rules for the path
+pub record AreReached (es : List Edge) (entry : Status) (cases : ℕ → Case) (blocks : Blocks) (reached : Reached) : Type 0 where
+  pub stops : AreStops cases blocks.blocks.items reached.stops
+  pub joins : AreJoined (course_by es entry cases) blocks reached.joins
+  pub behind : AreAllBehind cases blocks.blocks.items reached.joins.rows.items reached.stops reached.behind

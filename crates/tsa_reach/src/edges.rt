@@ -2,15 +2,15 @@
 ghost use Rattle.std.specs.Prelude.{◌≡◌, ◌<◌, ℕ, All, length, IfOk, IsFalse, IsTrue};
 ghost use Rattle.tsa_reach.specs.Agreeing.{AreArrivalsCompared, AreExitsCompared, IsAlike, IsApart, IsBlockCompared, IsOneCompared};
 ghost use Rattle.tsa_reach.specs.Changes.{effect_by, IsSmallChange};
-ghost use Rattle.tsa_reach.specs.Reaching.{flag_at};
+ghost use Rattle.tsa_reach.specs.Joining.{flag_at};
 ghost use Rattle.tsa_reach.specs.Stops.{AreStops};
 ghost use Rattle.tsa_rules.specs.Sets.{HasPlace};
 ghost use Rattle.tsa_rules.specs.declared.case.Case.{Case as PointCase};
 
 use crate::cases::Cases;
 use crate::images::{Left, leave};
+use crate::joins::Joins;
 use crate::places::{is_in_place, place_of};
-use crate::sets::Reached;
 use crate::stops::Stops;
 use std::alloc::Global;
 use tsa_base::NoMemory;
@@ -34,14 +34,14 @@ pub(crate) fn all_agreeing(alloc: Global, blocks: &Blocks) -> Result<Vec<bool>, 
     Ok(flags)
 }
 
-impl Reached {
+impl Joins {
     /// Compares the statuses that an edge brings to a block with all that are brought there.
     fn compare(&mut self, block: u32, set: Statuses)
         requires { block < length self.old.agreeing.items }
         ensures rows { self.new.rows.items ≡ self.old.rows.items }
         ensures flags { IsOneCompared block set self.old.rows.items self.old.agreeing.items self.new.agreeing.items }
     {
-        if differs(set, self.row(block)) {
+        if differs(set, self.row(block as usize)) {
             self.agreeing[block as usize] = false;
         }
     }

@@ -28,7 +28,7 @@ pub struct Left {
 }
 
 /// What a point inside a block makes of statuses on the way to the next one.
-fn step<C: Cases>(cases: &C, block: &Block, index: usize, set: Statuses) -> Statuses
+pub(crate) fn step<C: Cases>(cases: &C, block: &Block, index: usize, set: Statuses) -> Statuses
     requires inside { index < last_in block.now }
     requires long { length block.now.points.items ≡ length block.now.inner.items + 1 }
     ensures { (t : _) → Has result t ↔ IsImage (effect_in (C.cases cases.now (point_in block.now index)) (outcome_in block.now index)) set t }

@@ -1,5 +1,5 @@
 -- All points at which something claims a path are in its list.
-use Rattle.std.proofs.Common.{◌≡◌, ℕ, zero, suc, ◌+◌, ◌<◌, ◌≤◌, nat_eq, Bool, true, false, ◌&&◌, List, [], ◌∷◌, ◌++◌, Contains, add-one, inl, inr, drop, length, length-set, get_or-set_same, get_or-set_other, replicate, Option, Some, None, is_some, slice_get, slice_index_or, slice_set, unwrap_or, if◌then◌else◌, refl, sym, ◌∙◌, ap, ap₂, subst, arith, eqb-true}
+use Rattle.std.proofs.Common.{◌≡◌, ℕ, zero, suc, ◌+◌, ◌<◌, ◌≤◌, nat_eq, Bool, true, false, ◌&&◌, ◌||◌, List, [], ◌∷◌, ◌++◌, Contains, add-one, inl, inr, drop, length, length-set, get_or-set_same, get_or-set_other, replicate, Option, Some, None, is_some, slice_get, slice_index_or, slice_set, unwrap_or, if◌then◌else◌, refl, sym, ◌∙◌, ap, ap₂, subst, arith, eqb-true}
 use Rattle.std.proofs.Math.Decide.{dec_lt, ℕ_discrete}
 use Rattle.std.proofs.lemmas.List.{length-replicate, set_past}
 use Rattle.std.proofs.lemmas.List.Elements.{Contains-append_left, Contains-append_cases, Contains-push}
@@ -8,7 +8,7 @@ use Rattle.std.specs.Map.{lookup}
 use Rattle.tsa_marks.specs.Rows.{Rows, is_place, mark_in}
 use Rattle.tsa_rules.specs.declared.mark.Mark.{Mark}
 use Rattle.tsa_rules.specs.Marks.{no_mark}
-use Rattle.tsa_stops.specs.Claims.{noted, with_entry, with_found}
+use Rattle.tsa_stops.specs.Claims.{is_noted, noted, with_entry, with_found}
 
 abbrev At : Type 0
 At = (ℕ × ℕ) × Mark
@@ -44,7 +44,7 @@ put_kept lists n p m q inside h = elim (ℕ_discrete m n) [
 ]
 
 -- so it is of a mark
-marked : (lists : List (List ℕ)) (e : At) (b : Bool) → is_some e.1.claim ≡ b → e.0.1 < length lists → (m q : ℕ) → Contains (list_of lists m) q
+marked : (lists : List (List ℕ)) (e : At) (b : Bool) → is_noted e.1 ≡ b → e.0.1 < length lists → (m q : ℕ) → Contains (list_of lists m) q
     → Contains (list_of (if b then put lists e.0.1 e.0.0 else lists) m) q
 marked lists e true is inside m q h = put_kept lists e.0.1 e.0.0 m q inside h
 marked lists e false is inside m q h = h
@@ -60,11 +60,11 @@ long lists e false = refl
 
 with_kept : (lists : List (List ℕ)) (e : At) (m q : ℕ) → Contains (list_of lists m) q → Contains (list_of (with_entry lists e) m) q
 with_kept lists e m q h = elim (dec_lt e.0.1 (length lists)) [
-  | yes inside ↦ marked lists e (is_some e.1.claim) refl inside m q h
-  | no beyond ↦ subst (λ ls. Contains (list_of ls m) q) (sym (past lists e (is_some e.1.claim) (omega (arith, beyond)))) h
+  | yes inside ↦ marked lists e (is_noted e.1) refl inside m q h
+  | no beyond ↦ subst (λ ls. Contains (list_of ls m) q) (sym (past lists e (is_noted e.1) (omega (arith, beyond)))) h
 ]
 
-with_noted : (lists : List (List ℕ)) (e : At) → e.0.1 < length lists → is_some e.1.claim ≡ true → Contains (list_of (with_entry lists e) e.0.1) e.0.0
+with_noted : (lists : List (List ℕ)) (e : At) → e.0.1 < length lists → is_noted e.1 ≡ true → Contains (list_of (with_entry lists e) e.0.1) e.0.0
 with_noted lists e inside claims = rw claims (put_there lists e.0.1 e.0.0 inside)
 
 -- and of some marks
@@ -76,15 +76,15 @@ noted_kept (e ∷ es) lists m q h = noted_kept es (with_entry lists e) m q (with
 noted_long : (es : List At) (lists : List (List ℕ)) → length (noted es lists) ≡ length lists
 unfolding noted
 noted_long [] lists = refl
-noted_long (e ∷ es) lists = noted_long es (with_entry lists e) ∙ long lists e (is_some e.1.claim)
+noted_long (e ∷ es) lists = noted_long es (with_entry lists e) ∙ long lists e (is_noted e.1)
 
-all_noted : (es : List At) (lists : List (List ℕ)) (x : At) → x.0.1 < length lists → is_some x.1.claim ≡ true → Contains es x → Contains (list_of (noted es lists) x.0.1) x.0.0
+all_noted : (es : List At) (lists : List (List ℕ)) (x : At) → x.0.1 < length lists → is_noted x.1 ≡ true → Contains es x → Contains (list_of (noted es lists) x.0.1) x.0.0
 unfolding noted
 all_noted [] lists x inside claims h = absurd (omega (arith, h.1))
 all_noted (e ∷ es) lists x inside claims h = elim (Contains-append_cases (e ∷ []) es x h) [
   | inl first ↦ noted_kept es (with_entry lists e) x.0.1 x.0.0
       (subst (λ y. Contains (list_of (with_entry lists y) x.0.1) x.0.0) (sym (only e x first)) (with_noted lists x inside claims))
-  | inr later ↦ all_noted es (with_entry lists e) x (subst (λ n. x.0.1 < n) (sym (long lists e (is_some e.1.claim))) inside) claims later
+  | inr later ↦ all_noted es (with_entry lists e) x (subst (λ n. x.0.1 < n) (sym (long lists e (is_noted e.1))) inside) claims later
 ]
 
 -- what a row says of a path is noted where it claims it
@@ -92,16 +92,49 @@ same_place : (a b : ℕ × ℕ) → is_place a.0 a.1 b ≡ true → a ≡ b
 same_place a b e =
     ap₂ (λ m n. (m, n)) (eqb-true a.0 b.0 (left_part (nat_eq a.0 b.0) (nat_eq a.1 b.1) e)) (eqb-true a.1 b.1 (right_part (nat_eq a.0 b.0) (nat_eq a.1 b.1) e))
 
-found : (m : Rows) (point number : ℕ) (o : Option Mark) → lookup (is_place point number) m.marks ≡ o → is_some (unwrap_or o no_mark).claim ≡ true
-    → (x : Mark) × (Contains m.marks ((point, number), x) × (is_some x.claim ≡ true))
+found : (m : Rows) (point number : ℕ) (o : Option Mark) → lookup (is_place point number) m.marks ≡ o → is_noted (unwrap_or o no_mark) ≡ true
+    → (x : Mark) × (Contains m.marks ((point, number), x) × (is_noted x ≡ true))
 found m point number None is claims = cc
 found m point number (Some x) is claims = (x, (Contains-from_lookup {eq = λ a b. is_place a.0 a.1 b} same_place (point, number) x m.marks is, claims))
+
+pub all_marks : (m : Rows) (paths point number : ℕ) → number < paths → is_noted (mark_in m point number) ≡ true
+    → Contains (slice_index_or (noted m.marks (replicate paths [])) number []) point
+all_marks m paths point number inside claims =
+    let x = found m point number (lookup (is_place point number) m.marks) refl claims in
+    all_noted m.marks (replicate paths []) ((point, number), x.0) (subst (λ n. number < n) (sym (length-replicate paths [])) inside) x.1.1 x.1.0
+
+one_of : (a b : Bool) → a ≡ true → (a || b) ≡ true
+one_of true b e = refl
+one_of false b e = cc
+
+other_of : (a b : Bool) → b ≡ true → (a || b) ≡ true
+other_of true b e = refl
+other_of false b e = e
 
 pub all_claims : (m : Rows) (paths point number : ℕ) → number < paths → is_some (mark_in m point number).claim ≡ true
     → Contains (slice_index_or (noted m.marks (replicate paths [])) number []) point
 all_claims m paths point number inside claims =
-    let x = found m point number (lookup (is_place point number) m.marks) refl claims in
-    all_noted m.marks (replicate paths []) ((point, number), x.0) (subst (λ n. number < n) (sym (length-replicate paths [])) inside) x.1.1 x.1.0
+    all_marks m paths point number inside (one_of (is_some (mark_in m point number).claim) (is_some (mark_in m point number).tried) claims)
+
+-- a path of which no point is listed is neither claimed nor tried
+no_member : {A : Type 0} (x : A) → Contains [] x → ⊥
+no_member x (k, inside, is) = absurd (omega (arith, inside))
+
+is_none : {A : Type 0} (o : Option A) → (is_some o ≡ true → ⊥) → o ≡ None
+is_none None h = refl
+is_none (Some x) h = absurd (h refl)
+
+module _ (m : Rows) (paths number : ℕ) (inside : number < paths) (none : slice_index_or (noted m.marks (replicate paths [])) number [] ≡ []) (point : ℕ) where
+  unlisted : is_noted (mark_in m point number) ≡ true → ⊥
+  unlisted e = no_member point (subst (λ xs. Contains xs point) none (all_marks m paths point number inside e))
+
+  pub never_claimed : (mark_in m point number).claim ≡ None
+  never_claimed =
+      is_none (mark_in m point number).claim (λ e. unlisted (one_of (is_some (mark_in m point number).claim) (is_some (mark_in m point number).tried) e))
+
+  pub never_tried : (mark_in m point number).tried ≡ None
+  never_tried =
+      is_none (mark_in m point number).tried (λ e. unlisted (other_of (is_some (mark_in m point number).claim) (is_some (mark_in m point number).tried) e))
 
 -- one mark more is noted
 noted_suc : (es : List At) (lists : List (List ℕ)) (i : ℕ) → i < length es → noted (drop (suc i) es) (with_found lists (slice_get es i)) ≡ noted (drop i es) lists

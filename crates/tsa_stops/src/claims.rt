@@ -1,12 +1,13 @@
-//! The points of a function at which something claims a path, path by path.
+//! The points of a function at which something claims or tries a path, path by path.
 ghost use Rattle.std.specs.Prelude.{◌≡◌, ◌++◌, ◌∷◌, [], replicate, slice_get, slice_index_or, slice_set, IfOk, OnOk};
-ghost use Rattle.tsa_stops.specs.Claims.{noted, with_entry, with_found};
+ghost use Rattle.tsa_stops.specs.Claims.{is_noted as spec_is_noted, noted, with_entry, with_found};
 ghost use Rattle.tsa_marks.specs.Rows.{entry_of};
 
 use std::alloc::Global;
 use std::marker::Model;
 use tsa_base::NoMemory;
 use tsa_marks::{Entry, Marks};
+use tsa_rules::Mark;
 
 /// Lists of points, by the numbers of paths. Contracts see the lists.
 #[derive(Drop)]
@@ -30,6 +31,13 @@ fn put(list: &mut Vec<u32>, point: u32) -> Result<(), NoMemory>
     Ok(())
 }
 
+/// Whether a mark is that of a path which is claimed or tried.
+fn is_noted(mark: Mark) -> bool
+    ensures { result ≡ spec_is_noted mark }
+{
+    mark.claim.is_some() || mark.tried.is_some()
+}
+
 impl Claims {
     /// No paths. No memory is taken.
     fn empty(alloc: Global) -> Claims
@@ -40,7 +48,7 @@ impl Claims {
         }
     }
 
-    /// One path more, which nothing claims.
+    /// One path more, which nothing claims or tries.
     fn add(&mut self, list: Vec<u32>) -> Result<(), NoMemory>
         ensures { OnOk result (self.new ≡ self.old ++ list.items ∷ []) }
     {
@@ -48,7 +56,7 @@ impl Claims {
         Ok(())
     }
 
-    /// So many paths, which nothing claims.
+    /// So many paths, which nothing claims or tries.
     fn new(alloc: Global, paths: u32) -> Result<Claims, NoMemory>
         ensures { IfOk result (λ claims. claims ≡ replicate paths []) }
     {
@@ -59,7 +67,7 @@ impl Claims {
         Ok(claims)
     }
 
-    /// A point at which something claims the path of a number; nothing changes where there is no such path.
+    /// A point at which something claims or tries the path of a number; nothing changes where there is no such path.
     fn note(&mut self, number: u32, point: u32) -> Result<(), NoMemory>
         ensures { OnOk result (self.new ≡ slice_set self.old number (slice_index_or self.old number [] ++ point ∷ [])) }
     {
@@ -69,18 +77,18 @@ impl Claims {
         }
     }
 
-    /// The point and the path of a mark, where that is claimed there.
+    /// The point and the path of a mark, where that is claimed or tried there.
     fn note_entry(&mut self, entry: Entry) -> Result<(), NoMemory>
         ensures { OnOk result (self.new ≡ with_entry self.old (entry_of entry)) }
     {
-        if entry.mark.claim.is_some() {
+        if is_noted(entry.mark) {
             self.note(entry.number, entry.row)
         } else {
             Ok(())
         }
     }
 
-    /// The point and the path of a mark that is noted, by its number, where something claims the path there.
+    /// The point and the path of a mark that is noted, by its number, where something claims or tries the path there.
     fn note_at(&mut self, marks: &Marks, at: usize) -> Result<(), NoMemory>
         ensures { OnOk result (self.new ≡ with_found self.old (slice_get marks.now.marks at)) }
     {
@@ -90,7 +98,7 @@ impl Claims {
         }
     }
 
-    /// The points at which something claims the path of a number; none of one that isn't there.
+    /// The points at which something claims or tries the path of a number; none of one that isn't there.
     pub fn at(&self, number: u32) -> &[u32]
         ensures { result.now ≡ slice_index_or self.now number [] }
     {
@@ -101,7 +109,7 @@ impl Claims {
     }
 }
 
-/// The points at which something claims each of so many paths, by what points say of them.
+/// The points at which something claims or tries each of so many paths, by what points say of them.
 pub fn claims_of(alloc: Global, marks: &Marks, paths: u32) -> Result<Claims, NoMemory>
     ensures { IfOk result (λ claims. claims ≡ noted marks.now.marks (replicate paths [])) }
 {

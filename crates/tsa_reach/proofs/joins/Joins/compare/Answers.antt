@@ -2,7 +2,7 @@ use Rattle.std.proofs.Common.{◌<◌, arith, subst}
 use Rattle.tsa_rules.specs.declared.statuses.Statuses.{Statuses}
 use Rattle.tsa_reach.specs.Agreeing.{IsApart}
 use Rattle.tsa_reach.proofs.Compared.{one_differs}
-use Rattle.tsa_reach.proofs.sets.Reached.compare.Goals as goal
+use Rattle.tsa_reach.proofs.joins.Joins.compare.Goals as goal
 
 pub returns-then-differs-clause-flags : goal.returns-then-differs-clause-flags
 returns-then-differs-clause-flags c =

@@ -4,7 +4,7 @@ use Rattle.tsa_links.specs.declared.link.Outcome.TheVariants.{Next}
 use Rattle.tsa_reach.specs.Agreeing.{IsOneCompared}
 use Rattle.tsa_reach.specs.Changes.{effect_by}
 use Rattle.tsa_reach.proofs.Comparing.{exit_compared}
-use Rattle.tsa_reach.proofs.sets.Reached.compare_exits.Goals as goal
+use Rattle.tsa_reach.proofs.joins.Joins.compare_exits.Goals as goal
 
 -- what is read where nothing stands
 abbrev absent : Exit

@@ -1,6 +1,6 @@
 use Rattle.std.proofs.Common.{sym}
 use Rattle.tsa_reach.proofs.Comparing.{entered_at}
-use Rattle.tsa_reach.proofs.sets.Reached.compare_entry.Goals as goal
+use Rattle.tsa_reach.proofs.joins.Joins.compare_entry.Goals as goal
 
 pub returns-in-Some-clause-flags : goal.returns-in-Some-clause-flags
 returns-in-Some-clause-flags c cases =

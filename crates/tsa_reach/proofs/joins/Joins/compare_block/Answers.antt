@@ -7,7 +7,7 @@ use Rattle.tsa_reach.specs.Fronts.{no_statuses}
 use Rattle.tsa_reach.specs.Stops.{AreStopsFrom}
 use Rattle.tsa_reach.proofs.Comparing.{block_compared, none_of_it}
 use Rattle.tsa_reach.proofs.Slots.{stops_at}
-use Rattle.tsa_reach.proofs.sets.Reached.compare_block.Goals as goal
+use Rattle.tsa_reach.proofs.joins.Joins.compare_block.Goals as goal
 
 pub returns-then-is_in_place-clause-flags : goal.returns-then-is_in_place-clause-flags
 returns-then-is_in_place-clause-flags g c stops =

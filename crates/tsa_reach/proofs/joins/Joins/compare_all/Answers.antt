@@ -2,7 +2,7 @@ use Rattle.std.proofs.Common.{◌≡◌, ◌∙◌, List, length, arith, subst}
 use Rattle.tsa_rules.specs.declared.statuses.Statuses.{Statuses}
 use Rattle.tsa_reach.specs.Agreeing.{AreArrivalsCompared, IsBlockCompared}
 use Rattle.tsa_reach.proofs.Comparing.{one_block_more}
-use Rattle.tsa_reach.proofs.sets.Reached.compare_all.Goals as goal
+use Rattle.tsa_reach.proofs.joins.Joins.compare_all.Goals as goal
 
 pub each-init : goal.each-init
 each-init g c =

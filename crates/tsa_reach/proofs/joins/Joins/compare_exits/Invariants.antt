@@ -1,7 +1,7 @@
 use Rattle.std.proofs.Common.{◌≡◌, take}
 use Rattle.tsa_reach.specs.Agreeing.{AreExitsCompared}
 use Rattle.tsa_reach.specs.Changes.{effect_by}
-use Rattle.tsa_reach.proofs.sets.Reached.compare_exits.Given as goal
+use Rattle.tsa_reach.proofs.joins.Joins.compare_exits.Given as goal
 
 abbrev pub invariant-exits : goal.invariant-exits
 invariant-exits l = record {

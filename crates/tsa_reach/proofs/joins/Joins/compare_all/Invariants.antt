@@ -1,7 +1,7 @@
 use Rattle.std.proofs.Common.{◌≡◌, length}
 use Rattle.tsa_reach.specs.Agreeing.{AreArrivalsCompared}
 use Rattle.tsa_reach.specs.Stops.{AreStops}
-use Rattle.tsa_reach.proofs.sets.Reached.compare_all.Given as goal
+use Rattle.tsa_reach.proofs.joins.Joins.compare_all.Given as goal
 
 abbrev pub invariant-each : goal.invariant-each
 invariant-each g l = record {
