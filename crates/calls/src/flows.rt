@@ -1,4 +1,4 @@
-//! What walks bring to the points of a function: the statuses of its only path, and whether edges agree.
+//! What walks bring to the points of a function: the statuses of its first path, and whether edges agree; and the rules that fail there.
 ghost use Rattle.std.specs.Prelude.{◌≡◌, Ok};
 ghost use Rattle.tsa_place.specs.Units.{placed_in};
 ghost use Rattle.tsa_tree.specs.tokens.Signs.{lexemes};
@@ -10,17 +10,20 @@ use bumpalo::Bump;
 use std::alloc::Global;
 use std::test::Fail;
 use tsa_base::{NoMemory, Token};
+use tsa_failures::failures_of;
 use tsa_flow::{FunctionFlow, flow_of};
 use tsa_place::Places;
 use tsa_profile::{Fit, fit};
 use tsa_types::type_check;
 use tsa_unit::parse;
 
-// A loop that takes a lock and doesn't give it back, and a point behind its return.
+// A loop that takes a lock and doesn't give it back, what another lock guards, and a point behind its return.
 const UNIT: &[u8] = b"struct CAPABILITY(\"m\") m { int s; };
 struct m a;
+struct m b;
+int g GUARDED_BY(b);
 void lock(struct m *x) ACQUIRE(x);
-void f(int c) { while (c) lock(&a); return; c = 1; }
+void f(int c) { while (c) lock(&a); g = 1; return; c = 1; }
 ";
 
 // The statuses of the first path before a point, as a number, and whether edges into it agree.
@@ -43,6 +46,25 @@ fn put_points(out: &mut Vec<u8>, flow: &FunctionFlow<'_>) -> Result<(), Fail> {
     Ok(())
 }
 
+// The rules that fail, in order: the point, the number of the rule, and that of the path.
+fn put_failures(out: &mut Vec<u8>, flow: &FunctionFlow<'_>) -> Result<(), Fail> {
+    let mut found = failures_of(*out.allocator(), flow)?;
+    found.sort_unstable_by_key(|x| (x.point, x.rule.number(), x.cap));
+    'each: for failure in &found {
+        put_number(out, failure.point)?;
+        put(out, b"TS")?;
+        put_number(out, failure.rule.number())?;
+        put_number(out, failure.cap)?;
+    }
+    Ok(())
+}
+
+// Both.
+fn put_flow(out: &mut Vec<u8>, flow: &FunctionFlow<'_>) -> Result<(), Fail> {
+    put_points(out, flow)?;
+    put_failures(out, flow)
+}
+
 // What is shown of a function, or that it has nothing to show.
 fn put_function(
     out: &mut Vec<u8>,
@@ -54,7 +76,7 @@ fn put_function(
 {
     let alloc = *out.allocator();
     match flow_of(alloc, fit, places, function)? {
-        Some(flow) => put_points(out, &flow),
+        Some(flow) => put_flow(out, &flow),
         None => put(out, b"none "),
     }
 }
@@ -88,7 +110,8 @@ fn put_unit<'a>(
     }
 }
 
-// Free is 1 and owned alone is 4, so both are 5; no walk comes behind the return.
+// Free is 1 and owned alone is 4, so both are 5; no walk comes behind the return. Edges disagree at the test (TS10), the lock is taken again (TS06), the other
+// one isn't owned where it guards what is written (TS02), and the return may own the first one (TS09).
 #[test]
 fn a_loop_brings_what_it_takes_back_to_its_test(rt: HostRuntime) -> Result<(), Fail> {
     let alloc = rt.alloc();
@@ -96,7 +119,8 @@ fn a_loop_brings_what_it_takes_back_to_its_test(rt: HostRuntime) -> Result<(), F
     let tokens = tokens_of(alloc, UNIT)?;
     let mut out = Vec::new(alloc);
     put_unit(&mut out, alloc, &bump, &tokens)?;
-    let expected: &[u8] = b"none 1 5 differ 5 agree 5 agree 0 agree 0 agree ";
+    let expected: &[u8] =
+        b"none 2 5 differ 5 agree 5 agree 5 agree 0 agree 0 TS10 0 1 TS6 0 2 TS2 1 3 TS9 0 ";
     assert_eq!(rt; out.as_slice(), expected);
     Ok(())
 }

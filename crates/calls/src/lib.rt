@@ -18,6 +18,8 @@ mod lines;
 #[cfg(test)]
 mod nodes;
 #[cfg(test)]
+mod orders;
+#[cfg(test)]
 mod paths;
 #[cfg(test)]
 mod places;

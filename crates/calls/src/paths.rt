@@ -9,11 +9,11 @@ use tsa_path::{
     Named, Path, PathNames, PathStep, PathTable, Root, constant_path, path_text, substitute,
 };
 
-// The names of a caller: of globals and locals by their numbers, and of the members of one struct.
-struct Caller {
-    globals: &'static [Named<'static>],
-    locals: &'static [Named<'static>],
-    members: &'static [Named<'static>],
+/// The names of a caller: of globals and locals by their numbers, and of the members of one struct.
+pub struct Caller {
+    pub globals: &'static [Named<'static>],
+    pub locals: &'static [Named<'static>],
+    pub members: &'static [Named<'static>],
 }
 
 impl PathNames for Caller {
@@ -60,8 +60,8 @@ const CALLER: Caller = Caller {
     }],
 };
 
-// The path of a root with some steps.
-fn path_of(alloc: Global, root: Root, steps: &[PathStep]) -> Result<Path, Fail> {
+/// The path of a root with some steps.
+pub fn path_of(alloc: Global, root: Root, steps: &[PathStep]) -> Result<Path, Fail> {
     let mut path = Path::new(alloc, root);
     for step in steps {
         path = path.onward(*step)?;

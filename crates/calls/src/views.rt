@@ -10,13 +10,13 @@ use bumpalo::Bump;
 use std::alloc::Global;
 use std::test::Fail;
 use tsa_base::{NoMemory, Token};
+use tsa_flow::{RuleView, effect, entry_status, exit_status, fails, graph_of};
 use tsa_graph::{Graph, Outcome};
 use tsa_place::Places;
 use tsa_profile::{Fit, fit};
 use tsa_rules::Status;
 use tsa_types::type_check;
 use tsa_unit::parse;
-use tsa_view::{RuleView, effect, entry_status, exit_status, fails, graph_of};
 
 // A lock that its holder may take again is tried, and taken once more where that succeeded.
 const UNIT: &[u8] = b"struct CAPABILITY(\"reentrant m\") m { int s; };

@@ -1,0 +1,5 @@
+pub mod Adding
+pub mod Failures
+pub mod Spots
+pub mod Passes
+pub mod Laws
