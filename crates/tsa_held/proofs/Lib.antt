@@ -1,0 +1,3 @@
+pub mod Passing
+pub mod Room
+pub mod Telling

@@ -1,0 +1,35 @@
+use Rattle.std.proofs.Common.{◌∙◌, sym, ap}
+use Rattle.tsa_tree.proofs.types.UnitNodes.{premises_tell_it}
+use Rattle.tsa_tree.specs.types.Units.{refusal_of_types}
+use Rattle.tsa_tree.specs.units.Shapes.{item_shapes}
+use Rattle.tsa_core.specs.Programs.{program_of}
+use Rattle.tsa_lock.specs.Kinds.{kinds_of}
+use Rattle.tsa_profile.proofs.Laying.{laid}
+use Rattle.tsa_flow.proofs.NewView.{locks_are}
+use Rattle.tsa_held.proofs.flowed.flows_of.Goals as goal
+
+pub new-requires : goal.new-requires
+new-requires c = record {
+  typed =
+      ap (λ t. refusal_of_types (item_shapes t.now.items.now)) c.unit.ensures
+      ∙ sym (premises_tell_it (item_shapes c.args.unit.now.typed.unit.now.items.now))
+      ∙ c.args.unit.now.typed.typed;
+}
+
+pub invariant_of-ground-clause-laid : goal.invariant_of-ground-clause-laid
+invariant_of-ground-clause-laid c =
+    c.layout-layout.ensures
+    ∙ laid (item_shapes c.args.unit.now.typed.unit.now.items.now) c.args.places.now c.requires.placed
+    ∙ sym (ap (λ t. (program_of (item_shapes t.now.items.now)).layout) c.unit.ensures)
+
+pub invariant_of-pass-clause-fits : goal.invariant_of-pass-clause-fits
+invariant_of-pass-clause-fits c = sym (ap (λ t. t.now.items) c.unit.ensures)
+
+pub invariant_of-pass-clause-laid : goal.invariant_of-pass-clause-laid
+invariant_of-pass-clause-laid c =
+    c.layout-layout.ensures
+    ∙ laid (item_shapes c.args.unit.now.typed.unit.now.items.now) c.args.places.now c.requires.placed
+    ∙ sym (ap (λ t. (program_of (item_shapes t.now.items.now)).layout) c.unit.ensures)
+
+pub invariant_of-pass-clause-kinds : goal.invariant_of-pass-clause-kinds
+invariant_of-pass-clause-kinds c = ap kinds_of c.deref.ensures.value ∙ c.in_ok-kinds.ensures ∙ locks_are (item_shapes c.unit.result.now.items.now)

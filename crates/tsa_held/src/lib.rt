@@ -1,0 +1,7 @@
+//! The held sets of a unit: what walks bring to the points of all its functions, in one walk along its items.
+#![tactic(auto)]
+
+mod flowed;
+mod pass;
+
+pub use flowed::{Flowed, flow};
