@@ -1,0 +1,2 @@
+pub mod SetMembers
+pub mod HeldWords
