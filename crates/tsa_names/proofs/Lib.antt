@@ -1,0 +1,2 @@
+pub mod DeclaredLabels
+pub mod Ends
