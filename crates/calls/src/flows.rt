@@ -5,17 +5,22 @@ ghost use Rattle.tsa_tree.specs.tokens.Signs.{lexemes};
 ghost use Rattle.tsa_tree.specs.tokens.Texts.{AreOfText};
 ghost use Rattle.tsa_tree.specs.units.Shapes.{item_shapes};
 
+use crate::paths::Caller;
 use crate::texts::{put, put_number, tokens_of};
 use bumpalo::Bump;
 use std::alloc::Global;
 use std::test::Fail;
 use tsa_base::{NoMemory, Token};
-use tsa_failures::failures_of;
 use tsa_flow::{FunctionFlow, flow_of};
+use tsa_held::flow;
+use tsa_marks::Numbers;
+use tsa_path::{Named, PathTable};
 use tsa_place::Places;
 use tsa_profile::{Fit, fit};
+use tsa_texts::PathTexts;
 use tsa_types::type_check;
 use tsa_unit::parse;
+use tsa_warn::warnings_of;
 
 // A loop that takes a lock and doesn't give it back, what another lock guards, and a point behind its return.
 const UNIT: &[u8] = b"struct CAPABILITY(\"m\") m { int s; };
@@ -25,6 +30,22 @@ int g GUARDED_BY(b);
 void lock(struct m *x) ACQUIRE(x);
 void f(int c) { while (c) lock(&a); g = 1; return; c = 1; }
 ";
+
+// What the unit's functions see of it.
+const NAMES: Caller = Caller {
+    globals: &[
+        Named {
+            name: b"a",
+            structure: Some(0),
+        },
+        Named {
+            name: b"b",
+            structure: Some(0),
+        },
+    ],
+    locals: &[],
+    members: &[],
+};
 
 // The statuses of the first path before a point, as a number, and whether edges into it agree.
 fn put_point(out: &mut Vec<u8>, flow: &FunctionFlow<'_>, point: u32) -> Result<(), Fail> {
@@ -47,9 +68,8 @@ fn put_points(out: &mut Vec<u8>, flow: &FunctionFlow<'_>) -> Result<(), Fail> {
 }
 
 // The rules that fail, in order: the point, the number of the rule, and that of the path.
-fn put_failures(out: &mut Vec<u8>, flow: &FunctionFlow<'_>) -> Result<(), Fail> {
-    let mut found = failures_of(*out.allocator(), flow)?;
-    found.sort_unstable_by_key(|x| (x.point, x.rule.number(), x.cap));
+fn put_failures(out: &mut Vec<u8>, flow: &FunctionFlow<'_>, texts: &PathTexts) -> Result<(), Fail> {
+    let found = warnings_of(*out.allocator(), flow, texts)?;
     'each: for failure in &found {
         put_number(out, failure.point)?;
         put(out, b"TS")?;
@@ -59,10 +79,24 @@ fn put_failures(out: &mut Vec<u8>, flow: &FunctionFlow<'_>) -> Result<(), Fail> 
     Ok(())
 }
 
-// Both.
-fn put_flow(out: &mut Vec<u8>, flow: &FunctionFlow<'_>) -> Result<(), Fail> {
+// The texts of some paths.
+fn texts_of(alloc: Global, table: &PathTable) -> Result<PathTexts, Fail> {
+    let numbers = Numbers::copy_of(alloc, table)?;
+    Ok(PathTexts::new(alloc, &NAMES, &numbers)?)
+}
+
+// Both, of a function with some paths.
+fn put_flow(
+    out: &mut Vec<u8>,
+    flow: &FunctionFlow<'_>,
+    paths: Option<&PathTable>,
+) -> Result<(), Fail> {
+    let Some(table) = paths else {
+        return put(out, b"no paths ");
+    };
     put_points(out, flow)?;
-    put_failures(out, flow)
+    let texts = texts_of(*out.allocator(), table)?;
+    put_failures(out, flow, &texts)
 }
 
 // What is shown of a function, or that it has nothing to show.
@@ -76,7 +110,7 @@ fn put_function(
 {
     let alloc = *out.allocator();
     match flow_of(alloc, fit, places, function)? {
-        Some(flow) => put_flow(out, &flow),
+        Some(flow) => put_flow(out, &flow, fit.paths(function)),
         None => put(out, b"none "),
     }
 }
@@ -87,6 +121,25 @@ fn put_functions(out: &mut Vec<u8>, fit: &Fit<'_>, places: &Places) -> Result<()
 {
     put_function(out, fit, places, 0)?;
     put_function(out, fit, places, 1)
+}
+
+// The points of a function with a body, by what is told of all functions of the unit.
+fn put_flowed(out: &mut Vec<u8>, fit: Fit<'_>, places: &Places) -> Result<(), Fail>
+    requires placed { placed_in (item_shapes fit.typed.unit.now.items.now) ≡ Ok places.now }
+{
+    let flowed = flow(*out.allocator(), fit, places)?;
+    match flowed.function(1) {
+        Some(flow) => put_points(out, flow),
+        None => put(out, b"none "),
+    }
+}
+
+// Both, of a unit in the profile.
+fn put_fit(out: &mut Vec<u8>, fit: Fit<'_>, places: &Places) -> Result<(), Fail>
+    requires placed { placed_in (item_shapes fit.typed.unit.now.items.now) ≡ Ok places.now }
+{
+    put_functions(out, &fit, places)?;
+    put_flowed(out, fit, places)
 }
 
 // What is shown of the functions of the unit that tokens are.
@@ -105,7 +158,7 @@ fn put_unit<'a>(
         return put(out, b"too many");
     };
     match fit(alloc, typed, &places) {
-        Ok(fit) => put_functions(out, &fit, &places),
+        Ok(fit) => put_fit(out, fit, &places),
         Err(_) => put(out, b"not in the profile"),
     }
 }
@@ -120,7 +173,7 @@ fn a_loop_brings_what_it_takes_back_to_its_test(rt: HostRuntime) -> Result<(), F
     let mut out = Vec::new(alloc);
     put_unit(&mut out, alloc, &bump, &tokens)?;
     let expected: &[u8] =
-        b"none 2 5 differ 5 agree 5 agree 5 agree 0 agree 0 TS10 0 1 TS6 0 2 TS2 1 3 TS9 0 ";
+        b"none 2 5 differ 5 agree 5 agree 5 agree 0 agree 0 TS10 0 1 TS6 0 2 TS2 1 3 TS9 0 2 5 differ 5 agree 5 agree 5 agree 0 agree ";
     assert_eq!(rt; out.as_slice(), expected);
     Ok(())
 }

@@ -1,8 +1,6 @@
-//! Each public call of the libraries once with ample memory, ends that fail in mid-stream, and what no command shows: the
-//! tokens of a text, where the nodes of a tree stand in it, what the names of a unit mean, its places, paths, what bodies use, the control
-//! of bodies, what a unit in the profile tells, what walks bring to the points of its functions, and what the lines of warnings
-//! say.
-//! What commands show stands in the data of the program `rows`.
+//! Calls that no command makes, each once with ample memory, and ends that fail in mid-stream: the tokens of a text, the places of a unit, paths with
+//! their texts and their order, names, the control of bodies, what a unit in the profile tells, what walks bring to the points of its functions, the rules
+//! that fail there, and what the lines of warnings and of held sets say. What commands show stands in the data of the program `rows`.
 #![tactic(auto)]
 
 #[cfg(test)]
@@ -12,11 +10,7 @@ mod flows;
 #[cfg(test)]
 mod graphs;
 #[cfg(test)]
-mod items;
-#[cfg(test)]
 mod lines;
-#[cfg(test)]
-mod nodes;
 #[cfg(test)]
 mod orders;
 #[cfg(test)]
@@ -26,12 +20,6 @@ mod places;
 #[cfg(test)]
 mod profile;
 #[cfg(test)]
-mod statements;
-#[cfg(test)]
-mod symbols;
-#[cfg(test)]
 mod texts;
-#[cfg(test)]
-mod uses;
 #[cfg(test)]
 mod views;

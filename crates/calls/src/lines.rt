@@ -1,9 +1,9 @@
-//! The lines of warnings: what each rule says.
+//! The lines of warnings and of held sets: what each rule says, and what a set has.
 
 use crate::texts::put;
 use std::test::Fail;
-use tsa_lines::{Subject, push_warning};
-use tsa_rules::rule_of;
+use tsa_lines::{Held, Subject, push_held, push_warning};
+use tsa_rules::{Statuses, rule_of};
 
 // What the rule of a number says of a lock `m 'a'` in a function `f`.
 fn put_rule(out: &mut Vec<u8>, number: u32) -> Result<(), Fail> {
@@ -39,6 +39,21 @@ TS10 in f: paths that meet here disagree on m 'a'
 TS11 in f: two names of the call are m 'a'
 TS12 in f: a name in m 'a' is declared again while it is not free
 ";
+    assert_eq!(rt; out.as_slice(), expected);
+    Ok(())
+}
+
+#[test]
+fn a_set_is_told_word_by_word(rt: HostRuntime) -> Result<(), Fail> {
+    let mut out = Vec::new(rt.alloc());
+    let held = Held {
+        function: b"f",
+        path: b"p->m",
+        set: Statuses { bits: 3855 },
+    };
+    push_held(&mut out, held, &[b"ok", b"b"])?;
+    let expected: &[u8] =
+        b"in f: p->m free|shared|exclusive|exclusive 2|exclusive 7|lent|pending ok|pending b";
     assert_eq!(rt; out.as_slice(), expected);
     Ok(())
 }

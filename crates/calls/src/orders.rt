@@ -60,8 +60,8 @@ const PATHS: [(Root, &[PathStep]); 7] = [
 // Those paths by the numbers of their places there.
 fn numbers_of(alloc: Global) -> Result<Numbers, Fail> {
     let mut table = PathTable::new(alloc);
-    for (root, steps) in PATHS {
-        if table.intern(path_of(alloc, root, steps)?).is_err() {
+    for (root, steps) in &PATHS {
+        if table.intern(path_of(alloc, *root, steps)?).is_err() {
             return Err(Fail::new("a path has no number"));
         }
     }

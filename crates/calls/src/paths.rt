@@ -114,28 +114,42 @@ fn put_call(
     Ok(())
 }
 
-// The paths of the calls `f(&bank[2], 5)`, `f(q, k)` and `f(&bank[5], x + 1)`, and what a table tells that is full of others.
-fn show_paths(alloc: Global) -> Result<Vec<u8>, Fail> {
-    let mut out = Vec::new(alloc);
-    let mut table = PathTable::new(alloc);
-    let second = path_of(alloc, Root::Global(0), &[PathStep::Constant(2)])?;
-    let fifth = path_of(alloc, Root::Global(0), &[PathStep::Constant(5)])?;
+// The path of an element of the bank.
+fn element(alloc: Global, number: u32) -> Result<Option<Path>, Fail> {
+    let path = path_of(alloc, Root::Global(0), &[PathStep::Constant(number)])?;
+    Ok(Some(path))
+}
+
+// The paths of the calls `f(&bank[2], 5)`, `f(q, k)` and `f(&bank[5], x + 1)`.
+fn put_calls(out: &mut Vec<u8>, alloc: Global, table: &mut PathTable) -> Result<(), Fail> {
     let pointer = Path::new(alloc, Root::Local(0));
     let index = Path::new(alloc, Root::Local(1));
     let five = constant_path(alloc, 5)?;
-    put_call(&mut out, alloc, &mut table, &[Some(second), Some(five)])?;
-    put_call(&mut out, alloc, &mut table, &[Some(pointer), Some(index)])?;
-    put_call(&mut out, alloc, &mut table, &[Some(fifth), None])?;
-    for number in 0..248 {
-        put_numbered(
-            &mut Vec::new(alloc),
-            &mut table,
-            Path::new(alloc, Root::Global(number)),
-        )?;
+    put_call(out, alloc, table, &[element(alloc, 2)?, Some(five)])?;
+    put_call(out, alloc, table, &[Some(pointer), Some(index)])?;
+    put_call(out, alloc, table, &[element(alloc, 5)?, None])
+}
+
+// Numbers the paths of globals.
+fn put_globals(
+    out: &mut Vec<u8>,
+    table: &mut PathTable,
+    numbers: std::ops::Range<u32>,
+) -> Result<(), Fail> {
+    let alloc = *out.allocator();
+    for number in numbers {
+        put_numbered(out, table, Path::new(alloc, Root::Global(number)))?;
     }
-    for number in 247..250 {
-        put_numbered(&mut out, &mut table, Path::new(alloc, Root::Global(number)))?;
-    }
+    Ok(())
+}
+
+// The paths of those calls, and what a table tells that is full of others.
+fn show_paths(alloc: Global) -> Result<Vec<u8>, Fail> {
+    let mut out = Vec::new(alloc);
+    let mut table = PathTable::new(alloc);
+    put_calls(&mut out, alloc, &mut table)?;
+    put_globals(&mut Vec::new(alloc), &mut table, 0..248)?;
+    put_globals(&mut out, &mut table, 247..250)?;
     put_number(&mut out, table.len())?;
     Ok(out)
 }

@@ -102,8 +102,8 @@ const TOKENS: [(&[u8], &[u8]); 17] = [
 
 #[test]
 fn a_text_has_its_tokens(rt: HostRuntime) -> Result<(), Fail> {
-    for (text, expected) in TOKENS {
-        assert_eq!(rt; show_tokens(rt.alloc(), text)?.as_slice(), expected);
+    for (text, expected) in &TOKENS {
+        assert_eq!(rt; show_tokens(rt.alloc(), text)?.as_slice(), *expected);
     }
     Ok(())
 }
