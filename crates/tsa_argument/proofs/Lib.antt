@@ -5,3 +5,4 @@ pub mod EndingScopes
 pub mod Items
 pub mod Parameters
 pub mod Worked
+pub use Rattle.tsa_ask.proofs.NoneFails

@@ -7,7 +7,7 @@ ghost use Rattle.tsa_tree.specs.declarations.Syntax.{value};
 ghost use Rattle.tsa_tree.specs.expressions.Shapes.{shape};
 
 use crate::typing::is_typed;
-use tsa_ask::init_failure;
+use tsa_ask::{Body, init_failure};
 use tsa_base::{NoMemory, Value};
 use tsa_item::or_zero;
 use tsa_layout::Layout;
@@ -15,7 +15,6 @@ use tsa_scope::Scope;
 use tsa_tree::decl::Init;
 use tsa_tree::expr::Expr;
 use tsa_tree::kind::{Kind, ThingType};
-use tsa_use::Body;
 use tsa_way::Sight;
 
 /// What is known behind all items of a unit, and the unit's layout.

@@ -5,13 +5,13 @@ ghost use Rattle.tsa_ask.specs.Tries.{misfits_beside, tries_among, with_attribut
 ghost use Rattle.tsa_tree.specs.attributes.Syntax.{attr_shape, attr_shapes};
 ghost use Rattle.tsa_seen.specs.declared.premise.ProfileCode.TheVariants.{PF7};
 ghost use Rattle.tsa_seen.specs.Premises.{first, premise};
-ghost use Rattle.tsa_node.specs.Told.{view_of};
+ghost use Rattle.tsa_use.specs.Told.{view_of};
 
 use crate::argument::arguments;
 use crate::tries::Tries;
 use std::alloc::Global;
 use tsa_base::NoMemory;
-use tsa_path::PathSet;
+use tsa_seen::PathSet;
 use tsa_tree::attr::Attr;
 use tsa_tree::kind::Kind;
 use tsa_use::{Body, Failure, ProfileCode};

@@ -8,12 +8,12 @@ ghost use Rattle.tsa_tree.specs.expressions.Shapes.{name_shape, shape, shapes};
 ghost use Rattle.tsa_tree.specs.types.Runnable.{bare, gives as spec_gives, change_of, gives_number as spec_gives_number, is_environment as spec_is_environment, is_integer_kind, is_lock_function as spec_is_lock_function, is_named as spec_is_named, is_scalar_kind as spec_is_scalar_kind, is_small as spec_is_small, leaves_all as spec_leaves_all, names_alone as spec_names_alone, parameter_named as spec_parameter_named, points_to_lock as spec_points_to_lock, takes_integers as spec_takes_integers};
 
 use tsa_base::NoMemory;
-use tsa_layout::declared_thing;
 use tsa_scope::Scope;
 use tsa_tree::attr::{Attr, AttrKind};
 use tsa_tree::expr::{Expr, ExprKind, Name, UnaryOp};
 use tsa_tree::item::{FnTree, Param};
 use tsa_tree::kind::{Kind, ThingType};
+use tsa_use::declared_thing;
 
 /// Whether a kind is that of a number or of a pointer.
 fn is_scalar_kind(kind: Kind) -> bool

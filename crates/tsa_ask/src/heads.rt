@@ -9,10 +9,9 @@ ghost use Rattle.tsa_seen.specs.Premises.{first, premise};
 
 use crate::functions::{is_environment, is_lock_function, is_small};
 use tsa_base::NoMemory;
-use tsa_layout::declared_thing;
 use tsa_scope::Scope;
 use tsa_tree::item::{FnTree, Param};
-use tsa_use::{Failure, ProfileCode};
+use tsa_use::{Failure, ProfileCode, declared_thing};
 
 /// What fails first at parameters: each is a number or a pointer.
 fn params_failure(scope: &Scope<'_>, params: &[Param<'_>]) -> Result<Option<Failure>, NoMemory>

@@ -1,6 +1,6 @@
 //! The locks that the attributes of a function name.
 ghost use Rattle.std.specs.Prelude.{◌≡◌, ◌++◌, IfOk, OnOk};
-ghost use Rattle.tsa_core.specs.Programs.{attr_args, attrs_of, succeeds as spec_succeeds};
+ghost use Rattle.tsa_use.specs.Programs.{attr_args, attrs_of, succeeds as spec_succeeds};
 ghost use Rattle.tsa_tree.specs.attributes.Syntax.{attr_shape, attr_shapes};
 ghost use Rattle.tsa_tree.specs.expressions.Shapes.{shape};
 ghost use Rattle.tsa_way.specs.LockPaths.{lock_way, stable_in};

@@ -3,7 +3,7 @@ use Rattle.std.proofs.Common.{◌≡◌, ◌∙◌, ℕ, zero, suc, ◌<◌, ari
 use Rattle.std.proofs.lemmas.Bool.Decides.{nat_tests}
 use Rattle.std.proofs.lemmas.List.Elements.{All-get_or, Contains-get_or}
 use Rattle.std.proofs.lemmas.Option.{slice_get_within, slice_get-get_or, get_or_from_slice_get}
-use Rattle.tsa_core.specs.Control.{Edge}
+use Rattle.tsa_graph.specs.Control.{Edge}
 use Rattle.tsa_graph.specs.Edges.{edges_from, edges_into}
 
 pub here : {A : Type 0} (x : A) (xs : List A) → Contains (x ∷ xs) x

@@ -15,7 +15,7 @@ use Rattle.tsa_core.specs.Programs.{Function, program_of}
 use Rattle.tsa_core.proofs.TextPoints.{points_are_those}
 use Rattle.tsa_graph.specs.declared.blocks.Graph.{Graph}
 use Rattle.tsa_graph.specs.Graphs.{IsGraph}
-use Rattle.tsa_rules.specs.Points.{edges_of, points_of}
+use Rattle.tsa_site.specs.Points.{edges_of, points_of}
 use Rattle.tsa_site.specs.declared.find.BodySite.{BodySite}
 use Rattle.tsa_site.specs.declared.inside.Inside.{Inside}
 use Rattle.tsa_site.specs.Entering.{IsOf}

@@ -22,7 +22,7 @@ use Rattle.tsa_tree.specs.types.Scopes.{Scope, FunctionEntry, found, context_of,
 use Rattle.tsa_tree.specs.types.Statements.{Around, statements_premises}
 use Rattle.tsa_tree.specs.types.Units.{outset, around_body, body_premises, item_premises, behind_item, items_premises}
 use Rattle.tsa_tree.specs.units.Syntax.{UnitItem, structure_item, alias_item, enumeration_item, global_item, function_item, body_item}
-use Rattle.tsa_layout.specs.Calls.{Layout}
+use Rattle.tsa_lead.specs.Calls.{Layout}
 use Rattle.tsa_lead.specs.Leading.{HasPlaces}
 use Rattle.tsa_lead.specs.Items.{behind_data}
 use Rattle.tsa_lead.specs.FillUnits.{no_places}

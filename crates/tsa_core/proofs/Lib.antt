@@ -49,3 +49,4 @@ pub use Rattle.tsa_lead.proofs.Asking
 pub use Rattle.tsa_lead.proofs.Laid
 pub use Rattle.tsa_lead.proofs.Pieces
 pub use Rattle.tsa_lead.proofs.Rows
+pub use Rattle.tsa_lead.proofs.Standing

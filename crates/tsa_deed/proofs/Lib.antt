@@ -7,3 +7,4 @@ pub mod CoreCalls
 pub mod NodeCalls
 pub mod Firsts
 pub mod Keeps
+pub use Rattle.tsa_ask.proofs.Spans

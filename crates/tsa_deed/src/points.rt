@@ -9,14 +9,13 @@ ghost use Rattle.tsa_tree.specs.expressions.Shapes.{shape};
 ghost use Rattle.tsa_tree.specs.points.Syntax.{declares, returns};
 ghost use Rattle.tsa_tree.specs.statements.Shapes.{action_shape};
 ghost use Rattle.tsa_seen.specs.declared.standing.Standing.TheVariants.{Inside};
-ghost use Rattle.tsa_node.specs.Expressions.{expression};
+ghost use Rattle.tsa_ask.specs.Expressions.{expression};
 ghost use Rattle.tsa_seen.specs.Premises.{first};
 
 use crate::premises::{earlier, failure_if};
-use tsa_ask::{init_failure, is_small};
+use tsa_ask::{Body, init_failure, is_small, is_truth, reads, writes};
 use tsa_base::{NoMemory, Span};
 use tsa_layout::{Layout, declared_thing};
-use tsa_node::is_truth;
 use tsa_scope::Scope;
 use tsa_seen::{Failure, Footprint, NamedLocks, ProfileCode, Standing};
 use tsa_tree::decl::{Decl, Init};
@@ -24,7 +23,6 @@ use tsa_tree::expr::{BinaryOp, Expr};
 use tsa_tree::kind::{Kind, ThingType};
 use tsa_tree::number::Number;
 use tsa_tree::stmt::{Action, Point};
-use tsa_use::{Body, reads, writes};
 use tsa_way::Sight;
 
 /// What the points of a body stand in: the layout of the unit, the locks that the functions name which are declared so far, by their numbers, whether the

@@ -8,4 +8,7 @@ mod refusal;
 
 pub use globals::Globals;
 pub use refusal::PlaceRefusal;
-pub use tsa_item::{know_alias, know_enum, know_global};
+pub use tsa_item::{
+    Guard, Holder, Layout, Path, PlaceKind, Placed, Scope, declared_thing, know_alias, know_enum,
+    know_global, outset,
+};

@@ -7,7 +7,7 @@ use Rattle.tsa_core.specs.Control.{Edge}
 use Rattle.tsa_blocks.specs.declared.blocks.Blocks.{Blocks}
 use Rattle.tsa_reach.specs.declared.sets.Reached.{Reached}
 use Rattle.tsa_reach.specs.Reaching.{AreReached}
-use Rattle.tsa_roles.specs.Roles.{begin_in}
+use Rattle.tsa_view.specs.Roles.{begin_in}
 use Rattle.tsa_rules.specs.Cases.{entry_in}
 use Rattle.tsa_rules.specs.declared.status.Status.{Status}
 use Rattle.tsa_stops.proofs.Claimed.{never_claimed, never_tried}

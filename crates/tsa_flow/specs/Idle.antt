@@ -4,7 +4,7 @@ use Rattle.tsa_core.specs.Control.{Edge}
 use Rattle.tsa_blocks.specs.declared.blocks.Blocks.{Blocks}
 use Rattle.tsa_reach.specs.declared.sets.Reached.{Reached}
 use Rattle.tsa_reach.specs.Reaching.{AreReached}
-use Rattle.tsa_roles.specs.Roles.{role_in}
+use Rattle.tsa_view.specs.Roles.{role_in}
 use Rattle.tsa_rules.specs.declared.case.Case.{Case}
 use Rattle.tsa_view.specs.declared.content.RuleView.{RuleView}
 use Rattle.tsa_flow.specs.declared.paths.Idle.{Idle}

@@ -1,5 +1,10 @@
 pub mod Idle
 pub mod Flows
 pub mod Numbers
-pub use Rattle.tsa_marks.specs.Rows
+pub use Rattle.tsa_view.specs.Rows
 pub use Rattle.tsa_reach.specs.Disagreeing
+pub use Rattle.tsa_view.specs.declared.content.RuleView
+pub use Rattle.tsa_view.specs.Views
+pub use Rattle.tsa_view.specs.Controls
+pub use Rattle.tsa_view.specs.Made
+pub use Rattle.tsa_view.specs.Paths

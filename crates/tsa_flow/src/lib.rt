@@ -9,5 +9,7 @@ mod paths;
 
 pub use function::FunctionFlow;
 pub use number::flow_of;
-pub use tsa_marks::Entry;
-pub use tsa_view::{RuleView, effect, entry_status, exit_status, fails, graph_of};
+pub use tsa_view::{
+    Entry, Facts, Graph, RuleView, Unit, control_of, effect, entry_status, exit_status, fails,
+    graph_of,
+};

@@ -6,7 +6,7 @@ use Rattle.tsa_tree.specs.types.Scopes.{Scope}
 use Rattle.tsa_layout.specs.Parts.{no_stable}
 use Rattle.tsa_seen.specs.Programs.{Attr}
 use Rattle.tsa_seen.specs.Premises.{Premise}
-use Rattle.tsa_node.specs.Expressions.{View}
+use Rattle.tsa_deed.specs.Expressions.{View}
 use Rattle.tsa_deed.specs.Declarations.{given_init, guard_premises}
 use Rattle.tsa_ground.specs.Judging.{Knowledge}
 use Rattle.tsa_ground.specs.Units.{Unit, view_in}

@@ -10,7 +10,7 @@ use Rattle.tsa_seen.specs.Programs.{Attr}
 use Rattle.tsa_seen.specs.declared.premise.Failure.{Failure}
 use Rattle.tsa_seen.specs.declared.premise.ProfileCode.TheVariants.{PF6}
 use Rattle.tsa_seen.specs.Premises.{Premise, first, premise}
-use Rattle.tsa_node.specs.Expressions.{View}
+use Rattle.tsa_deed.specs.Expressions.{View}
 use Rattle.tsa_deed.specs.Declarations.{attribute_premises, is_nothing, param_premises}
 use Rattle.tsa_ground.specs.declared.ground.Ground.{Ground}
 use Rattle.tsa_ground.specs.Judging.{Knowledge, inner_premises, outer_premises, unit_at}

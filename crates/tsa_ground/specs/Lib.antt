@@ -5,4 +5,5 @@ pub mod Judging
 pub use Rattle.tsa_deed.specs.Bodies
 pub use Rattle.tsa_deed.specs.Told
 pub use Rattle.tsa_deed.specs.Ways
-pub use Rattle.tsa_node.specs.Expressions
+pub use Rattle.tsa_deed.specs.Expressions
+pub use Rattle.tsa_function.specs.Functions

@@ -24,7 +24,7 @@ use Rattle.tsa_seen.specs.Locks.{tries}
 use Rattle.tsa_seen.specs.declared.premise.ProfileCode.TheVariants.{LM4, LM7}
 use Rattle.tsa_seen.specs.Premises.{first, or_else, premise}
 use Rattle.tsa_ground.specs.Expressions.{attributes_at}
-use Rattle.tsa_function.specs.Functions.{IsInside}
+use Rattle.tsa_ground.specs.Functions.{IsInside}
 use Rattle.tsa_ground.specs.Bodies.{Around, is_try_variable, points_premises}
 use Rattle.tsa_ground.specs.Ways.{function_paths}
 use Rattle.tsa_ground.specs.declared.ground.Ground.{Ground}

@@ -16,8 +16,7 @@ ghost use Rattle.tsa_tree.specs.units.Syntax.{function_item, body_item};
 
 use crate::bodies::{Inside, alone, judge_body};
 use tsa_base::Span;
-use tsa_function::leave;
-use tsa_ground::{Ground, Knowledge, ProfileRefusal};
+use tsa_ground::{Ground, Knowledge, ProfileRefusal, leave};
 use tsa_scope::Scope;
 use tsa_tree::item::FnTree;
 use tsa_tree::stmt::Stmt;

@@ -7,3 +7,7 @@ pub mod Tables
 pub mod Stores
 pub use Rattle.tsa_way.specs.LockPaths
 pub use Rattle.tsa_way.specs.Ways
+pub use Rattle.tsa_way.specs.declared.path.PathStep
+pub use Rattle.tsa_way.specs.declared.path.Root
+pub use Rattle.tsa_way.specs.Arguments
+pub use Rattle.tsa_way.specs.Lookups

@@ -3,3 +3,4 @@ pub mod Begun
 pub mod Added
 pub mod NotedPoints
 pub mod Along
+pub use Rattle.tsa_roles.proofs.OfPrograms

@@ -10,12 +10,11 @@ ghost use Rattle.tsa_tree.specs.statements.Shapes.{action_shape};
 
 use crate::visit::Visit;
 use tsa_base::NoMemory;
-use tsa_deed::calling;
+use tsa_deed::{calling, reads, writes};
 use tsa_marks::{Marks, Numbers};
 use tsa_seen::{Footprint, Standing};
 use tsa_tree::expr::Expr;
 use tsa_tree::stmt::Action;
-use tsa_use::{reads, writes};
 
 /// Marks in the making, with the numbers of the paths, and room for what a point reads and writes.
 #[derive(Drop)]

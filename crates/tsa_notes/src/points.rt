@@ -19,10 +19,9 @@ use tsa_deed::{Around, Spot};
 use tsa_layout::declared_thing;
 use tsa_marks::{Marks, Numbers};
 use tsa_points::{Step, Walk};
-use tsa_roles::Roles;
+use tsa_roles::{Roles, duty_at};
 use tsa_scope::Scope;
 use tsa_seen::Footprint;
-use tsa_told::duty_at;
 use tsa_tree::kind::Kind;
 use tsa_tree::stmt::Action;
 

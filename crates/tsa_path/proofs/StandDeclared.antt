@@ -11,14 +11,14 @@ use Rattle.tsa_tree.specs.declared.kind.ThingType.{ThingType}
 use Rattle.tsa_tree.specs.types.Scopes.{Scope}
 use Rattle.tsa_tree.specs.types.Units.{outset}
 use Rattle.tsa_tree.specs.units.Syntax.{UnitItem, structure_item, alias_item, enumeration_item, global_item, function_item, body_item}
-use Rattle.tsa_layout.proofs.Standing.{element_stands, member_stands}
-use Rattle.tsa_layout.specs.declared.place.Holder.{Holder}
-use Rattle.tsa_layout.specs.declared.place.Holder.TheVariants.{Global}
-use Rattle.tsa_layout.specs.declared.place.Placed.{Placed}
-use Rattle.tsa_layout.specs.Calls.{Layout, member_place, element_place, global_place, kind_at, is_structure, part_of}
-use Rattle.tsa_layout.specs.Layouts.{Part, kind_size, size_of, structure_at, offset}
-use Rattle.tsa_layout.specs.Places.{Given, Values, has_some, a_place, element_of, member_of, pieces, places_inside}
-use Rattle.tsa_layout.specs.Standing.{StandsAt, IsBelow, HasSome}
+use Rattle.tsa_core.proofs.Standing.{element_stands, member_stands}
+use Rattle.tsa_core.specs.Holder.{Holder}
+use Rattle.tsa_core.specs.Holder.TheVariants.{Global}
+use Rattle.tsa_core.specs.Placed.{Placed}
+use Rattle.tsa_core.specs.Calls.{Layout, member_place, element_place, global_place, kind_at, is_structure, part_of}
+use Rattle.tsa_core.specs.Layouts.{Part, kind_size, size_of, structure_at, offset}
+use Rattle.tsa_core.specs.Places.{Given, Values, has_some, a_place, element_of, member_of, pieces, places_inside}
+use Rattle.tsa_core.specs.Standing.{StandsAt, IsBelow, HasSome}
 use Rattle.tsa_core.specs.Leading.{HasPlaces}
 use Rattle.tsa_core.specs.Items.{known_global, global_part, behind_data}
 use Rattle.tsa_core.specs.FillUnits.{values_in, given_by, with_part, no_places}

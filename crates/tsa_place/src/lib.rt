@@ -7,5 +7,4 @@ mod unit;
 
 pub use laws::places_are_as_written;
 pub use places::Places;
-pub use tsa_fill::PlaceRefusal;
-pub use tsa_layout::{Guard, Layout, PlaceKind};
+pub use tsa_fill::{Guard, Holder, Layout, PlaceKind, PlaceRefusal, declared_thing};

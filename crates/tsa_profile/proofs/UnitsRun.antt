@@ -22,7 +22,7 @@ use Rattle.tsa_judge.specs.Bodies.{points_premises}
 use Rattle.tsa_profile.specs.Running.{ProfilesAreRunnable}
 use Rattle.tsa_judge.specs.Units as profile
 use Rattle.tsa_judge.specs.Units.{attributes_behind, view_in, view_of, around, points_in, heads_premises, tries_limits, paths_limits, unit_of}
-use Rattle.tsa_use.proofs.NoneFails.{none_of_both}
+use Rattle.tsa_argument.proofs.NoneFails.{none_of_both}
 use Rattle.tsa_profile.proofs.HeadsRun.{guards_stand, head_stands}
 use Rattle.tsa_profile.proofs.PointsRun.{statements_stand}
 

@@ -6,3 +6,4 @@ pub mod Running
 pub mod Tables
 pub use Rattle.tsa_judge.specs.Judging
 pub use Rattle.tsa_judge.specs.Units
+pub use Rattle.tsa_judge.specs.Expressions

@@ -10,11 +10,9 @@ ghost use Rattle.tsa_tree.specs.units.Shapes.{item_shapes};
 use crate::unit::Fit;
 use std::alloc::Global;
 use tsa_base::NoMemory;
-use tsa_function::Bodies;
-use tsa_judge::{Ground, ProfileRefusal, judge};
+use tsa_judge::{Bodies, Ground, ProfileRefusal, Typed, judge};
 use tsa_path::PathTable;
 use tsa_place::Places;
-use tsa_types::Typed;
 
 /// The same numbers once more.
 fn copied(alloc: Global, numbers: &[u32]) -> Result<Vec<u32>, NoMemory>

@@ -11,11 +11,11 @@ ghost use Rattle.tsa_tree.specs.units.Shapes.{item_shapes};
 use std::alloc::Global;
 use tsa_argument::{Parameter, Unit};
 use tsa_base::{NoMemory, Value};
+use tsa_judge::Typed;
 use tsa_path::PathTable;
 use tsa_place::Places;
 use tsa_tree::expr::Expr;
 use tsa_tree::item::UnitTree;
-use tsa_types::Typed;
 
 /// A typed unit of which no premise of the profile fails, where the functions of some numbers may have their bodies elsewhere, with the paths of its
 /// functions.

@@ -23,3 +23,4 @@ pub mod CasePlaces
 pub mod Members
 pub mod KeptTries
 pub mod QuietCases
+pub use Rattle.tsa_core.proofs.MappedLists

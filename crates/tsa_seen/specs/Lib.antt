@@ -7,3 +7,6 @@ pub use Rattle.tsa_path.specs.Cells
 pub use Rattle.tsa_path.specs.Meanings
 pub use Rattle.tsa_path.specs.Programs
 pub use Rattle.tsa_path.specs.Uses
+pub use Rattle.tsa_path.specs.PathTables
+pub use Rattle.tsa_path.specs.Substitution
+pub use Rattle.tsa_path.specs.declared.refusal.InternRefusal

@@ -6,9 +6,8 @@ ghost use Rattle.tsa_seen.specs.Locks.{is_empty, is_try as spec_is_try, lacks_pa
 use std::alloc::Global;
 use std::marker::Model;
 use tsa_base::NoMemory;
-use tsa_path::substitute;
+use tsa_path::{Path, substitute};
 use tsa_tree::attr::AttrKind;
-use tsa_way::Path;
 
 /// A lock that an attribute of a function names: the path to it, where it has one; of a try, the result for which it is taken.
 #[derive(Drop)]

@@ -10,8 +10,8 @@ use crate::thing::{Thing, prefix_thing};
 use std::alloc::Global;
 use std::marker::Model;
 use tsa_base::{NoMemory, Span};
+use tsa_path::{Led, Path, meant};
 use tsa_tree::expr::UnaryOp;
-use tsa_way::{Led, Path, meant};
 
 /// What an expression is, where it leads, and the guards of its access.
 #[derive(Drop)]

@@ -7,7 +7,7 @@ ghost use Rattle.tsa_tree.specs.types.Types.{value as spec_value};
 ghost use Rattle.tsa_seen.specs.Seen.{thing_of, typed, value_of};
 
 use tsa_operand::{binary_type, prefix_type, value};
-use tsa_resolve::{entry_type, member_type, result_type};
+use tsa_path::{entry_type, member_type, result_type};
 use tsa_tree::expr::{BinaryOp, UnaryOp};
 use tsa_tree::kind::{ExpressionType, Kind, ThingType};
 use tsa_tree::meaning::{Entry, Meaning};

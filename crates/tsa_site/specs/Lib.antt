@@ -5,5 +5,6 @@ pub mod Finding
 pub mod Laws
 pub use Rattle.tsa_profile.specs.Paths
 pub use Rattle.tsa_profile.specs.Units
-pub use Rattle.tsa_node.specs.Expressions
+pub use Rattle.tsa_profile.specs.Expressions
 pub use Rattle.tsa_profile.specs.Judging
+pub use Rattle.tsa_rules.specs.Points

@@ -17,9 +17,8 @@ use std::alloc::Global;
 use tsa_base::NoMemory;
 use tsa_function::Bodies;
 use tsa_place::Places;
-use tsa_profile::Ground;
+use tsa_profile::{Ground, Typed};
 use tsa_tree::item::Item;
-use tsa_types::Typed;
 
 /// The body of a function, with what is known where its statements begin.
 #[derive(Drop)]

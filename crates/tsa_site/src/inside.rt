@@ -18,10 +18,9 @@ ghost use Rattle.tsa_tree.specs.units.Syntax.{body_item};
 use crate::knowledge::{Knowledge, enter_head, pass, pass_function, stable_locals};
 use tsa_base::NoMemory;
 use tsa_function::{Outside, leave};
-use tsa_profile::Ground;
+use tsa_profile::{Ground, function_number};
 use tsa_tree::item::{FnTree, Item};
 use tsa_tree::stmt::Stmt;
-use tsa_types::function_number;
 
 /// A body that is entered: its function by number and head, its statements, which of its locals never change, and what is left behind it.
 #[derive(Drop)]

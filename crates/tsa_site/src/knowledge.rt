@@ -2,7 +2,7 @@
 ghost use Rattle.std.specs.Prelude.{◌≡◌, None, is_some, IfOk, OnOk};
 ghost use Rattle.tsa_core.specs.Programs.{attrs_of};
 ghost use Rattle.tsa_function.specs.Functions.{outside_of};
-ghost use Rattle.tsa_node.specs.Expressions.{attributes_at};
+ghost use Rattle.tsa_profile.specs.Expressions.{attributes_at};
 ghost use Rattle.tsa_profile.specs.Judging.{unit_at};
 ghost use Rattle.tsa_profile.specs.Units.{Unit as Given, stable_of};
 ghost use Rattle.tsa_site.specs.Knowing.{behind, entered, outset_of, with_function};
@@ -15,13 +15,11 @@ ghost use Rattle.tsa_way.specs.LockPaths.{stable_in};
 
 use std::alloc::Global;
 use std::marker::Model;
-use tsa_ask::named_locks;
 use tsa_base::NoMemory;
 use tsa_function::{Outside, enter, know_item, leave};
-use tsa_profile::Ground;
+use tsa_profile::{Ground, NamedLock, NamedLocks, named_locks};
 use tsa_scope::Scope;
 use tsa_tree::item::{FnTree, Item};
-use tsa_use::{NamedLock, NamedLocks};
 use tsa_way::Sight;
 
 /// What is known by name, and the locks that the declared functions name, by their numbers.

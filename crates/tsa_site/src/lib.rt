@@ -11,6 +11,4 @@ pub use inside::{Inside, enter_body, enter_item, leave_body};
 pub use knowledge::{Knowledge, outset, pass};
 pub use laws::sites_are_of_the_program;
 pub use tsa_place::Places;
-pub use tsa_profile::{Fit, Ground};
-pub use tsa_types::Typed;
-pub use tsa_use::{NamedLock, NamedLocks};
+pub use tsa_profile::{Fit, Ground, NamedLock, NamedLocks, Typed};

@@ -5,8 +5,8 @@ use Rattle.std.proofs.lemmas.Bool.Decides.{nat_tests}
 use Rattle.tsa_blocks.specs.declared.blocks.Block.{Block}
 use Rattle.tsa_blocks.specs.Rows.{last_in, point_in, IsRun}
 use Rattle.tsa_core.specs.Control.{Edge}
-use Rattle.tsa_rules.specs.Cases.{tests_variable}
-use Rattle.tsa_rules.specs.declared.case.Case.{Case}
+use Rattle.tsa_marks.specs.Cases.{tests_variable}
+use Rattle.tsa_marks.specs.Case.{Case}
 use Rattle.tsa_reach.specs.Stops.{AreStops, AreStopsFrom, IsPlain}
 use Rattle.tsa_stops.specs.Places.{block_places, Covers, is_stop, stops_from}
 

@@ -2,8 +2,8 @@
 use Rattle.std.specs.Prelude.{ℕ, zero, suc, ◌+◌, ◌≡◌, ◌<◌, nat_lt, Bool, true, false, ◌&&◌, ◌||◌, List, [], ◌∷◌, Contains, is_some, slice_index_or, if◌then◌else◌}
 use Rattle.tsa_blocks.specs.declared.blocks.Block.{Block}
 use Rattle.tsa_blocks.specs.Rows.{last_in, point_in}
-use Rattle.tsa_rules.specs.Cases.{tests_variable}
-use Rattle.tsa_rules.specs.declared.case.Case.{Case}
+use Rattle.tsa_marks.specs.Cases.{tests_variable}
+use Rattle.tsa_marks.specs.Case.{Case}
 
 -- something may claim the path there, or a point that isn't the last one tests a local
 abbrev pub is_stop : (ℕ → Case) → (flags : List Bool) → Block → (index : ℕ) → Bool

@@ -2,13 +2,13 @@
 ghost use Rattle.std.specs.Prelude.{◌≡◌, ◌≤◌, ◌<◌, ◌+◌, ℕ, false, true, length, map, Contains, slice_index_or, slice_set, IfOk};
 ghost use Rattle.tsa_blocks.specs.Rows.{last_in};
 ghost use Rattle.tsa_stops.specs.Places.{block_places, is_stop as spec_is_stop, stops_from};
-ghost use Rattle.tsa_rules.specs.Cases.{tests_variable};
+ghost use Rattle.tsa_marks.specs.Cases.{tests_variable};
 
 use std::alloc::Global;
 use tsa_base::NoMemory;
 use tsa_blocks::{Block, Blocks};
+use tsa_marks::Role;
 use tsa_reach::{Cases, Stops};
-use tsa_rules::Role;
 
 /// Puts a flag at a point, where it is one of those that have one.
 fn set(flags: &mut [bool], point: u32)

@@ -9,7 +9,7 @@ use Rattle.tsa_path.specs.PathTables.{AreDifferent}
 use Rattle.tsa_points.specs.Walks.{placed_in_body, points_along, walk}
 use Rattle.tsa_points.proofs.Passing.{body_steps_are_the_points}
 use Rattle.tsa_steps.specs.Steps.{body_steps}
-use Rattle.tsa_marks.specs.Notes.{IsRow}
+use Rattle.tsa_notes.specs.MarksNotes.{IsRow}
 use Rattle.tsa_notes.specs.declared.notes.Noted.{Noted}
 use Rattle.tsa_notes.specs.Notes.{AreNotes}
 use Rattle.tsa_control.specs.declared.Inside.{Inside}

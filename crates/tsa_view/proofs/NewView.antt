@@ -6,7 +6,7 @@ use Rattle.tsa_way.specs.Ways.{Way}
 use Rattle.tsa_layout.specs.Calls.{Layout}
 use Rattle.tsa_core.specs.Bodies.{Body}
 use Rattle.tsa_core.specs.Programs.{Function, LockKind, Program, lock_kinds, program_of}
-use Rattle.tsa_deed.specs.Ways.{each_once, unless_many}
+use Rattle.tsa_notes.specs.Ways.{each_once, unless_many}
 use Rattle.tsa_control.specs.Units.{unit_of}
 use Rattle.tsa_path.specs.PathTables.{AreDifferent, path_limit, with_path}
 use Rattle.tsa_path.proofs.Numbers.{table_holds_different_paths}

@@ -13,8 +13,8 @@ use Rattle.tsa_points.specs.Points.{PlacedPoint}
 use Rattle.tsa_points.specs.Walks.{points_along, walk}
 use Rattle.tsa_steps.specs.Steps.{body_steps}
 use Rattle.tsa_lock.specs.Kinds.{kinds_of}
-use Rattle.tsa_marks.specs.Notes.{IsRow}
-use Rattle.tsa_deed.specs.Bodies.{Around}
+use Rattle.tsa_notes.specs.MarksNotes.{IsRow}
+use Rattle.tsa_notes.specs.Bodies.{Around}
 use Rattle.tsa_notes.specs.declared.notes.Noted.{Noted}
 use Rattle.tsa_notes.specs.Notes.{AreNotes}
 use Rattle.tsa_control.specs.declared.Inside.{Inside}

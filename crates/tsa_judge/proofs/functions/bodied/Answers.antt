@@ -5,7 +5,7 @@ use Rattle.tsa_tree.specs.statements.Shapes.{stmt_shapes}
 use Rattle.tsa_tree.specs.types.Scopes.{with_locals}
 use Rattle.tsa_tree.specs.types.Symbols.{number_of}
 use Rattle.tsa_layout.specs.LockPaths.{stable_in}
-use Rattle.tsa_function.specs.Functions.{outside_of}
+use Rattle.tsa_ground.specs.Functions.{outside_of}
 use Rattle.tsa_seen.specs.Premises.{first}
 use Rattle.tsa_ground.specs.Bodies.{points_premises}
 use Rattle.tsa_ground.specs.Judging.{declared_attributes, entered, unit_at, with_scope}

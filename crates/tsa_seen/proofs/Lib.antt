@@ -1,0 +1,1 @@
+pub use Rattle.tsa_path.proofs.Numbers
