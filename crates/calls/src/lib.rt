@@ -1,6 +1,6 @@
-//! Calls that no command makes, each once with ample memory, and ends that fail in mid-stream: the tokens of a text, the places of a unit, paths with
-//! their texts and their order, names, the control of bodies, what a unit in the profile tells, what walks bring to the points of its functions, the rules
-//! that fail there, and what the lines of warnings and of held sets say. What commands show stands in the data of the program `rows`.
+//! Calls that no command makes, each once with ample memory, and ends that fail in mid-stream: the tokens of a text, expressions and attributes alone, the
+//! places of a unit, paths with their texts, names, the control of bodies, what a unit in the profile tells, what walks bring to the points of its
+//! functions, the rules that fail there, and what the lines of warnings and of held sets say. What commands show stands in the data of the program `rows`.
 #![tactic(auto)]
 
 #[cfg(test)]
@@ -12,7 +12,7 @@ mod graphs;
 #[cfg(test)]
 mod lines;
 #[cfg(test)]
-mod orders;
+mod nodes;
 #[cfg(test)]
 mod paths;
 #[cfg(test)]
@@ -21,5 +21,3 @@ mod places;
 mod profile;
 #[cfg(test)]
 mod texts;
-#[cfg(test)]
-mod views;
