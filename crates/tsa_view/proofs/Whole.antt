@@ -109,6 +109,8 @@ module _ (items : List UnitItem) (n : ℕ) (f : Function) (s : Site) (h : Stands
     numbered = paths_are;
     callees = notes.callees ∙ callees items n f s h a close layout_is attributes_is stable_is;
     rows = notes.rows ∙ count items n f s h a close layout_is attributes_is stable_is;
+    declared = notes.kinds ∙ kinds items n f s h a close layout_is attributes_is stable_is ∙ rw h.body refl;
+    roles = roles.roles;
     locks = lock_told;
     kinds = kind_told;
     cases = λ p number c less there.

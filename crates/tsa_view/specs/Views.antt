@@ -6,8 +6,8 @@ use Rattle.tsa_core.specs.Programs.{Function, LockKind, Program}
 use Rattle.tsa_rules.specs.declared.case.Case.{Case}
 use Rattle.tsa_rules.specs.declared.case.Lock.{Lock}
 use Rattle.tsa_rules.specs.declared.mark.Claim.{Claim}
-use Rattle.tsa_rules.specs.Attributes.{lock_kind_of}
-use Rattle.tsa_rules.specs.Cases.{case_of, lock_of}
+use Rattle.tsa_rules.specs.Attributes.{declared_kinds, lock_kind_of}
+use Rattle.tsa_rules.specs.Cases.{case_of, lock_of, role_of}
 use Rattle.tsa_rules.specs.Points.{points_of}
 use Rattle.tsa_lock.specs.Kinds.{kind_of}
 use Rattle.tsa_lock.specs.declared.kind.LockKind.{LockKind as Kind}
@@ -51,6 +51,9 @@ pub record IsViewOf (u : Program) (f : Function) (paths : List Way) (v : RuleVie
   pub numbered : v.numbers ≡ paths
   pub callees : v.notes.callees.items ≡ map number_called (points_of f)
   pub rows : rows_in v.notes.marks ≡ length (points_of f)
+  -- the kinds of the locals that the body declares, and what each point does
+  pub declared : v.notes.kinds.items ≡ declared_kinds f.body
+  pub roles : (point : ℕ) → role_in v.notes.roles point ≡ role_of u f point
   -- of each path
   pub locks : (number : ℕ) (c : Way) → slice_get paths number ≡ Some c → lock_in v number ≡ lock_of u f c
   pub kinds : (number : ℕ) (c : Way) → slice_get paths number ≡ Some c → kind_in v number ≡ lock_kind_of u f c

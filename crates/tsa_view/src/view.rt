@@ -3,7 +3,7 @@ ghost use Rattle.std.specs.Prelude.{◌≡◌, ◌<◌, ℕ, List, None, option_
 ghost use Rattle.tsa_core.specs.Programs.{Function, Program};
 ghost use Rattle.tsa_lock.specs.Kinds.{kind_of};
 ghost use Rattle.tsa_notes.specs.Roles.{begin_in, role_in};
-ghost use Rattle.tsa_rules.specs.Attributes.{lock_kind_of, named as spec_named};
+ghost use Rattle.tsa_rules.specs.Attributes.{declared_kinds, lock_kind_of, named as spec_named};
 ghost use Rattle.tsa_rules.specs.Points.{attrs_at, point_at, points_of};
 ghost use Rattle.tsa_rules.specs.Cases.{case_of, IsSmall};
 ghost use Rattle.tsa_view.specs.Views.{case_in, kept_from, kind_in, lock_in, number_called, text_of, IsViewOf};
@@ -11,9 +11,10 @@ ghost use Rattle.tsa_way.specs.Ways.{Way};
 
 use crate::content::RuleView;
 use tsa_lock::{LockKind, is_reentrant};
-use tsa_notes::Marks;
+use tsa_notes::{Marks, Numbers};
 use tsa_rules::{Case, Claim, Lock, Role};
 use tsa_tree::attr::AttrKind;
+use tsa_tree::kind::Kind;
 use tsa_way::Path;
 
 impl<'a> RuleView<'a> {
@@ -95,6 +96,21 @@ impl<'a> RuleView<'a> {
         ensures small { IsSmall result }
     {
         self.notes.roles.role(point)
+    }
+
+    /// All of the paths, by their numbers.
+    pub fn numbers(&self) -> &Numbers
+        ensures { result.now ≡ self.now.numbers }
+    {
+        &self.numbers
+    }
+
+    /// The kinds of the locals that the body declares, in order.
+    pub fn declared_kinds(&self) -> &[Kind]
+        ensures by { result.now ≡ self.now.notes.kinds.items }
+        ensures are { (u : Program) (f : Function) (paths : List Way) → IsViewOf u f paths self.now → result.now ≡ declared_kinds f.body }
+    {
+        &self.notes.kinds
     }
 
     /// What the points say of paths.
