@@ -4,14 +4,13 @@ ghost use Rattle.tsa_core.specs.Units.{placed_in};
 ghost use Rattle.tsa_held.specs.Units.{AreTold, told_at};
 ghost use Rattle.tsa_tree.specs.units.Shapes.{item_shapes};
 
-use crate::pass::{Flows, Pass};
+use crate::passage::Flows;
+use crate::tables::UnitTables;
 use std::alloc::Global;
 use tsa_base::NoMemory;
-use tsa_flow::{Facts, FunctionFlow, RuleView, Unit};
-use tsa_function::Bodies;
-use tsa_lock::lock_kinds;
+use tsa_flow::{Facts, FunctionFlow, RuleView};
 use tsa_rules::Statuses;
-use tsa_site::{Fit, Ground, Places};
+use tsa_site::{Fit, Places};
 use tsa_tree::item::UnitTree;
 
 /// A unit in the profile, with what walks bring to the points of its functions, by their numbers.
@@ -36,27 +35,8 @@ fn flows_of<'a>(alloc: Global, unit: &Fit<'a>, places: &Places) -> Result<Flows<
     requires placed { placed_in (item_shapes unit.now.typed.unit.now.items.now) ≡ Ok places.now }
     ensures { IfOk result (λ flows. AreTold (item_shapes unit.now.typed.unit.now.items.now) flows.items) }
 {
-    let items = unit.unit().items;
-    let layout = places.layout();
-    let bodies = Bodies::new(alloc, items)?;
-    let kinds = lock_kinds(alloc, items)?;
-    let ground = Ground {
-        items,
-        layout: &layout,
-        bodies: &bodies,
-        outside: &[],
-    };
-    let made = Unit {
-        layout: &layout,
-        kinds: &kinds,
-    };
-    let pass = Pass {
-        items,
-        ground: &ground,
-        made,
-        fit: unit,
-    };
-    pass.flows(alloc)
+    let tables = UnitTables::new(alloc, unit, places)?;
+    tables.pass(unit).flows(alloc)
 }
 
 impl<'a> Flowed<'a> {

@@ -2,6 +2,10 @@
 #![tactic(auto)]
 
 mod flowed;
-mod pass;
+mod passage;
+mod tables;
 
 pub use flowed::{Flowed, flow};
+pub use passage::Pass;
+pub use tables::UnitTables;
+pub use tsa_site::{Fit, Ground, Inside, Knowledge, Places, enter_item, leave_body, outset, pass};

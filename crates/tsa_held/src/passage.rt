@@ -15,6 +15,7 @@ use std::alloc::Global;
 use tsa_base::NoMemory;
 use tsa_blocks::blocks_of;
 use tsa_flow::{FunctionFlow, Unit, control_of};
+use tsa_lock::LockKind;
 use tsa_path::PathTable;
 use tsa_site::{Fit, Ground, Inside, Knowledge, enter_item, leave_body, outset};
 use tsa_tree::item::Item;
@@ -26,14 +27,13 @@ pub type Flows<'a> = Vec<Option<FunctionFlow<'a>>>;
 #[derive(Clone, Copy)]
 pub struct Pass<'w, 'a> {
     pub items: &'a [Item<'a>],
-    pub ground: &'w Ground<'w, 'a>,
-    pub made: Unit<'w, 'a>,
+    pub ground: Ground<'w, 'a>,
+    pub kinds: &'w [Option<LockKind<'a>>],
     pub fit: &'w Fit<'a>,
-    pub ghost judged: { ground.now.items ≡ items },
+    pub ghost judged: { ground.items ≡ items },
     pub ghost fits: { fit.now.typed.unit.now.items ≡ items },
-    pub ghost inside: { ground.now.outside.now ≡ [] },
-    pub ghost laid: { made.layout.now ≡ (program_of (item_shapes items.now)).layout },
-    pub ghost kinds: { kinds_of made.kinds.now ≡ (program_of (item_shapes items.now)).locks },
+    pub ghost inside: { ground.outside.now ≡ [] },
+    pub ghost locks: { kinds_of kinds.now ≡ (program_of (item_shapes ground.items.now)).locks },
 }
 
 /// Whether a function is told, by its number.
@@ -66,19 +66,23 @@ fn put<'a>(flows: &mut Flows<'a>, number: u32, flow: FunctionFlow<'a>) -> Result
 
 impl<'w, 'a> Pass<'w, 'a> {
     /// What walks bring to the points of a body that is entered, by the paths of its function.
-    fn flow_in(
+    pub fn flow_in(
         &self,
         known: &mut Knowledge<'a>,
         inside: &Inside<'a>,
         paths: &PathTable,
     ) -> Result<FunctionFlow<'a>, NoMemory>
-        requires stands { IsBodyOf (item_shapes self.now.items.now) inside.now.number paths.now known.old inside.now }
+        requires stands { IsBodyOf (item_shapes self.now.ground.items.now) inside.now.number paths.now known.old inside.now }
         ensures known { OnOk result (known.new ≡ known.old) }
-        ensures flow { IfOk result (λ flow. IsFlowIn (program_of (item_shapes self.now.items.now)) (slice_get (program_of (item_shapes self.now.items.now)).functions inside.now.number) (Some flow)) }
+        ensures flow { IfOk result (λ flow. IsFlowIn (program_of (item_shapes self.now.ground.items.now)) (slice_get (program_of (item_shapes self.now.ground.items.now)).functions inside.now.number) (Some flow)) }
     {
         let alloc = known.scope.allocator();
         let graph = control_of(known, inside)?;
-        let view = self.made.view(known, inside, paths)?;
+        let unit = Unit {
+            layout: self.ground.layout,
+            kinds: self.kinds,
+        };
+        let view = unit.view(known, inside, paths)?;
         let points = view.marks().rows();
         let blocks = blocks_of(alloc, graph, points)?;
         FunctionFlow::new(alloc, view, blocks)
@@ -91,9 +95,9 @@ impl<'w, 'a> Pass<'w, 'a> {
         flows: &mut Flows<'a>,
         inside: &Inside<'a>,
     ) -> Result<(), NoMemory>
-        requires next { IsNext (item_shapes self.now.items.now) known.old inside.now flows.old.items inside.now.number }
+        requires next { IsNext (item_shapes self.now.ground.items.now) known.old inside.now flows.old.items inside.now.number }
         ensures known { OnOk result (known.new ≡ known.old) }
-        ensures told { OnOk result (IsTold (item_shapes self.now.items.now) flows.new.items inside.now.number) }
+        ensures told { OnOk result (IsTold (item_shapes self.now.ground.items.now) flows.new.items inside.now.number) }
         ensures others { OnOk result ((n : ℕ) → (n ≡ inside.now.number → ⊥) → told_at flows.new.items n ≡ told_at flows.old.items n) }
     {
         let Some(paths) = self.fit.paths(inside.number) else {
@@ -114,11 +118,11 @@ impl<'w, 'a> Pass<'w, 'a> {
         item: &'a Item<'a>,
     ) -> Result<(), NoMemory>
         requires typed { types.first (typed.item_premises known.old.here (item_shape item.now)) ≡ None }
-        requires ahead { (rest : List UnitItem) × AreAhead (item_shapes self.now.items.now) known.old (item_shape item.now ∷ rest) flows.old.items }
-        ensures known { OnOk result (known.new ≡ behind (unit_at self.now.ground.now) known.old (item_shape item.now)) }
-        ensures ahead { OnOk result ((rest : List UnitItem) → AreAhead (item_shapes self.now.items.now) known.old (item_shape item.now ∷ rest) flows.old.items → AreAhead (item_shapes self.now.items.now) known.new rest flows.new.items) }
+        requires ahead { (rest : List UnitItem) × AreAhead (item_shapes self.now.ground.items.now) known.old (item_shape item.now ∷ rest) flows.old.items }
+        ensures known { OnOk result (known.new ≡ behind (unit_at self.now.ground) known.old (item_shape item.now)) }
+        ensures ahead { OnOk result ((rest : List UnitItem) → AreAhead (item_shapes self.now.ground.items.now) known.old (item_shape item.now ∷ rest) flows.old.items → AreAhead (item_shapes self.now.ground.items.now) known.new rest flows.new.items) }
     {
-        if let Some(inside) = enter_item(self.ground, known, item)? {
+        if let Some(inside) = enter_item(&self.ground, known, item)? {
             self.tell(known, flows, &inside)?;
             leave_body(known, &inside);
         }
@@ -127,11 +131,11 @@ impl<'w, 'a> Pass<'w, 'a> {
 
     /// What walks bring to the points of all functions.
     pub fn flows(&self, alloc: Global) -> Result<Flows<'a>, NoMemory>
-        ensures { IfOk result (λ flows. AreTold (item_shapes self.now.items.now) flows.items) }
+        ensures { IfOk result (λ flows. AreTold (item_shapes self.now.ground.items.now) flows.items) }
     {
-        let mut known = outset(alloc, self.ground)?;
+        let mut known = outset(alloc, &self.ground)?;
         let mut flows = Vec::new(alloc);
-        'each: for item in self.items {
+        'each: for item in self.ground.items {
             self.item(&mut known, &mut flows, item)?;
         }
         Ok(flows)

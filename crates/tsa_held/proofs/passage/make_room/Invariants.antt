@@ -1,6 +1,6 @@
 use Rattle.std.proofs.Common.{◌≡◌, ℕ, length}
 use Rattle.tsa_held.specs.Units.{told_at}
-use Rattle.tsa_held.proofs.pass.make_room.Given as goal
+use Rattle.tsa_held.proofs.passage.make_room.Given as goal
 
 -- there is room below a number, and what is told stays
 abbrev pub invariant-each : goal.invariant-each

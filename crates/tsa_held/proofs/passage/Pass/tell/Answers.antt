@@ -5,16 +5,16 @@ use Rattle.tsa_core.specs.Programs.{program_of}
 use Rattle.tsa_site.specs.Paths.{paths_if}
 use Rattle.tsa_held.specs.Units.{told_at}
 use Rattle.tsa_held.proofs.Passing.{is_body}
-use Rattle.tsa_held.proofs.pass.Pass.tell.Goals as goal
+use Rattle.tsa_held.proofs.passage.Pass.tell.Goals as goal
 
 pub flow_in-requires : goal.flow_in-requires
 flow_in-requires c =
-    let items = item_shapes c.args.self.now.items.now in
+    let items = item_shapes c.args.self.now.ground.items.now in
     let i = c.args.inside.now in
     let n = i.number in
     let flows = c.args.flows.now.items in
-    let typed = subst (λ b. first_failing (item_shapes b.now) ≡ None) c.args.self.now.judged c.args.self.now.ground.now.typed in
+    let typed = c.args.self.now.ground.typed in
     let none = subst (λ fs. told_at fs n ≡ None) c.deref.ensures.value (c.has.ensures.no c.if-has.false) in
-    let told = subst (λ b. option_and_then (paths_if (program_of (item_shapes b.now))) (slice_get (program_of (item_shapes b.now)).functions n) ≡ Some c.in-Some.paths.now) c.args.self.now.fits
+    let told = subst (λ b. option_and_then (paths_if (program_of (item_shapes b.now))) (slice_get (program_of (item_shapes b.now)).functions n) ≡ Some c.in-Some.paths.now) (c.args.self.now.fits ∙ sym c.args.self.now.judged)
     (sym c.paths.ensures ∙ ap (option_map (λ t. t.now)) c.in-Some.is) in
     record { stands = is_body items typed c.args.known.now i flows c.in-Some.paths.now none told c.requires.next }

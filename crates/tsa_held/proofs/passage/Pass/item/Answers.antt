@@ -1,4 +1,4 @@
-use Rattle.std.proofs.Common.{◌≡◌, [], Some, ap₂, subst, sym}
+use Rattle.std.proofs.Common.{◌≡◌, [], Some, ap, subst, sym}
 use Rattle.tsa_tree.specs.declarations.Shapes.{head_shape}
 use Rattle.tsa_tree.specs.units.Shapes.{item_shape, item_shapes}
 use Rattle.tsa_site.specs.Entering.{Enters}
@@ -6,16 +6,16 @@ use Rattle.tsa_site.specs.Judging.{unit_at}
 use Rattle.tsa_site.specs.Knowing.{IsWithin, behind}
 use Rattle.tsa_site.specs.Units.{unit_of}
 use Rattle.tsa_held.proofs.Passing.{behind_it, enters_none, left_behind, next, passed_on}
-use Rattle.tsa_held.proofs.pass.Pass.item.Goals as goal
+use Rattle.tsa_held.proofs.passage.Pass.item.Goals as goal
 
 pub tell-requires : goal.tell-requires
 tell-requires c =
     let s = c.args.self.now in
-    let items = item_shapes s.items.now in
+    let items = item_shapes s.ground.items.now in
     let item = item_shape c.args.item.now in
     let k = c.args.known.now in
     let there = c.enter_item.new.known in
-    let unit : unit_at s.ground.now ≡ unit_of [] items = ap₂ (λ o b. unit_of o (item_shapes b.now)) s.inside s.judged in
+    let unit : unit_at s.ground ≡ unit_of [] items = ap (λ o. unit_of o items) s.inside in
     let enters = subst (λ o. Enters (unit_of [] items) k item there o) c.in-Some.is (subst (λ u. Enters u k item there c.in_ok-inside.field-0) unit c.in_ok-inside.ensures) in
     let rest = c.requires.ahead.0 in
     record { next = next items c.args.flows.now.items k rest there c.in-Some.inside item enters (c.requires.ahead.1 c.in-Some.inside.number) }
@@ -26,7 +26,7 @@ returns-in_ok-tell-clause-known c =
     let item = item_shape c.args.item.now in
     let k = c.args.known.now in
     let there = c.enter_item.new.known in
-    let u = unit_at s.ground.now in
+    let u = unit_at s.ground in
     let enters = subst (λ o. Enters u k item there o) c.in-Some.is c.in_ok-inside.ensures in
     left_behind u k there c.in-Some.inside c.leave_body.new.known item enters
     (λ close out within. c.leave_body.ensures.behind u k close out (subst (IsWithin u k (head_shape c.in-Some.inside.head.now)) (sym c.in_ok-tell.ensures.known) within))
@@ -34,12 +34,12 @@ returns-in_ok-tell-clause-known c =
 pub returns-in_ok-tell-clause-ahead : goal.returns-in_ok-tell-clause-ahead
 returns-in_ok-tell-clause-ahead c rest ahead =
     let s = c.args.self.now in
-    let items = item_shapes s.items.now in
+    let items = item_shapes s.ground.items.now in
     let item = item_shape c.args.item.now in
     let k = c.args.known.now in
     let there = c.enter_item.new.known in
-    let u = unit_at s.ground.now in
-    let unit : unit_at s.ground.now ≡ unit_of [] items = ap₂ (λ o b. unit_of o (item_shapes b.now)) s.inside s.judged in
+    let u = unit_at s.ground in
+    let unit : unit_at s.ground ≡ unit_of [] items = ap (λ o. unit_of o items) s.inside in
     let enters_it = subst (λ o. Enters u k item there o) c.in-Some.is c.in_ok-inside.ensures in
     let enters = subst (λ v. Enters v k item there (Some c.in-Some.inside)) unit enters_it in
     let passes = left_behind u k there c.in-Some.inside c.leave_body.new.known item enters_it
@@ -50,10 +50,10 @@ returns-in_ok-tell-clause-ahead c rest ahead =
 pub returns-in_default-clause-ahead : goal.returns-in_default-clause-ahead
 returns-in_default-clause-ahead c rest ahead =
     let s = c.args.self.now in
-    let items = item_shapes s.items.now in
+    let items = item_shapes s.ground.items.now in
     let item = item_shape c.args.item.now in
     let k = c.args.known.now in
     let there = c.enter_item.new.known in
-    let unit : unit_at s.ground.now ≡ unit_of [] items = ap₂ (λ o b. unit_of o (item_shapes b.now)) s.inside s.judged in
+    let unit : unit_at s.ground ≡ unit_of [] items = ap (λ o. unit_of o items) s.inside in
     passed_on items c.args.flows.now.items k rest item there
     (enters_none (unit_of [] items) k there item c.in_ok-inside.field-0 c.in_default.not-Some (subst (λ u. Enters u k item there c.in_ok-inside.field-0) unit c.in_ok-inside.ensures)) ahead

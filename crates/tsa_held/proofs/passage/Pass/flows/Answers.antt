@@ -13,16 +13,16 @@ use Rattle.tsa_site.specs.Units.{unit_of}
 use Rattle.tsa_held.specs.Units.{IsAhead, told_at}
 use Rattle.tsa_held.proofs.Passing.{all_told, none_told, plus_one}
 use Rattle.tsa_held.proofs.Room.{none_at}
-use Rattle.tsa_held.proofs.pass.Pass.flows.Goals as goal
+use Rattle.tsa_held.proofs.passage.Pass.flows.Goals as goal
 
 pub each-init : goal.each-init
 each-init c =
     let s = c.args.self.now in
-    let items = item_shapes s.items.now in
+    let items = item_shapes s.ground.items.now in
     let flows = c.new-flows.result.items in
-    let unit : unit_at s.ground.now ≡ unit_of [] items = ap₂ (λ o b. unit_of o (item_shapes b.now)) s.inside s.judged in
+    let unit : unit_at s.ground ≡ unit_of [] items = ap (λ o. unit_of o items) s.inside in
     let known = c.in_ok-known.ensures ∙ ap outset_of unit in
-    let typed = subst (λ b. first_failing (item_shapes b.now) ≡ None) s.judged s.ground.now.typed in
+    let typed = s.ground.typed in
     record {
       typed = ap (λ k. first (items_premises k.here items)) known ∙ (sym (premises_tell_it items) ∙ typed);
       ahead = λ n.
@@ -31,7 +31,7 @@ each-init c =
 
 pub item-requires-clause-typed : goal.item-requires-clause-typed
 item-requires-clause-typed c =
-    let items = c.args.self.now.items.now in
+    let items = c.args.self.now.ground.items.now in
     let i = c.each.item-index in
     let x = c.item-item.result in
     let at_i = drop-cons items i x c.each-test.true ∙ ap (λ y. y ∷ drop (suc i) items) (sym c.item-item.is) in
@@ -39,7 +39,7 @@ item-requires-clause-typed c =
 
 pub item-requires-clause-ahead : goal.item-requires-clause-ahead
 item-requires-clause-ahead c =
-    let items = c.args.self.now.items.now in
+    let items = c.args.self.now.ground.items.now in
     let i = c.each.item-index in
     let x = c.item-item.result in
     let at_i = drop-cons items i x c.each-test.true ∙ ap (λ y. y ∷ drop (suc i) items) (sym c.item-item.is) in (
@@ -49,7 +49,7 @@ item-requires-clause-ahead c =
 
 pub each-preserved : goal.each-preserved
 each-preserved c =
-    let items = c.args.self.now.items.now in
+    let items = c.args.self.now.ground.items.now in
     let i = c.each.item-index in
     let x = c.item-item.result in
     let at_i = drop-cons items i x c.each-test.true ∙ ap (λ y. y ∷ drop (suc i) items) (sym c.item-item.is) in
@@ -65,8 +65,8 @@ each-preserved c =
 pub returns : goal.returns
 returns c n =
     let s = c.args.self.now in
-    let items = s.items.now in
+    let items = s.ground.items.now in
     let i = c.each.item-index in
-    let typed = subst (λ b. first_failing (item_shapes b.now) ≡ None) s.judged s.ground.now.typed in
+    let typed = s.ground.typed in
     all_told (item_shapes items) c.each.flows.items typed c.each.known n
     (subst (λ xs. IsAhead (item_shapes items) c.each.known (item_shapes xs) c.each.flows.items n) (drop_all i items c.each-test.false) (c.each.invariant.ahead n))

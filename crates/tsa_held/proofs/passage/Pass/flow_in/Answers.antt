@@ -8,16 +8,16 @@ use Rattle.tsa_flow.proofs.Controlled.{controlled}
 use Rattle.tsa_flow.proofs.Numbered.{flow_there, is_between, is_graph}
 use Rattle.tsa_flow.specs.Rows.{rows_in}
 use Rattle.tsa_held.proofs.Passing.{both_found, different}
-use Rattle.tsa_held.proofs.pass.Pass.flow_in.Goals as goal
+use Rattle.tsa_held.proofs.passage.Pass.flow_in.Goals as goal
 
 pub blocks_of-requires : goal.blocks_of-requires
 blocks_of-requires c =
-    let items = item_shapes c.args.self.now.items.now in
+    let items = item_shapes c.args.self.now.ground.items.now in
     let u = program_of items in
     let i = c.args.inside.now in
     let n = i.number in
     let is = c.requires.stands in
-    let viewed = c.in_ok-view.ensures.view items n is.function is.site c.args.self.now.laid c.args.self.now.kinds is.is_of is.stands (different items n c.args.paths.now c.args.known.now i is) in
+    let viewed = c.in_ok-view.ensures.view items n is.function is.site c.args.self.now.ground.laid c.args.self.now.locks is.is_of is.stands (different items n c.args.paths.now c.args.known.now i is) in
     let x = both_found items n c.args.paths.now c.args.known.now i is c.in_ok-view.view c.in_ok-graph.graph viewed
     (controlled items n is.function is.site is.stands c.args.known.now i is.is_of c.in_ok-graph.graph c.in_ok-graph.ensures) in
     let counted : c.rows-points.result ≡ length (points_of x.function) = c.rows-points.ensures ∙ ap rows_in c.marks.ensures ∙ x.viewed.rows in (
@@ -28,12 +28,12 @@ blocks_of-requires c =
 
 pub returns-clause-flow : goal.returns-clause-flow
 returns-clause-flow c =
-    let items = item_shapes c.args.self.now.items.now in
+    let items = item_shapes c.args.self.now.ground.items.now in
     let u = program_of items in
     let i = c.args.inside.now in
     let n = i.number in
     let is = c.requires.stands in
-    let viewed = c.in_ok-view.ensures.view items n is.function is.site c.args.self.now.laid c.args.self.now.kinds is.is_of is.stands (different items n c.args.paths.now c.args.known.now i is) in
+    let viewed = c.in_ok-view.ensures.view items n is.function is.site c.args.self.now.ground.laid c.args.self.now.locks is.is_of is.stands (different items n c.args.paths.now c.args.known.now i is) in
     let x = both_found items n c.args.paths.now c.args.known.now i is c.in_ok-view.view c.in_ok-graph.graph viewed
     (controlled items n is.function is.site is.stands c.args.known.now i is.is_of c.in_ok-graph.graph c.in_ok-graph.ensures) in
     let counted : c.rows-points.result ≡ length (points_of x.function) = c.rows-points.ensures ∙ ap rows_in c.marks.ensures ∙ x.viewed.rows in

@@ -1,6 +1,6 @@
 use Rattle.std.proofs.Common.{◌∙◌}
 use Rattle.tsa_held.proofs.Room.{put_elsewhere, put_there}
-use Rattle.tsa_held.proofs.pass.put.Goals as goal
+use Rattle.tsa_held.proofs.passage.put.Goals as goal
 
 pub returns : goal.returns
 returns c = record {

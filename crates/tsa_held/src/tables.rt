@@ -1,0 +1,70 @@
+//! The tables by which the bodies of a unit are gone through.
+ghost use Rattle.std.specs.Prelude.{◌≡◌, None, Ok, IfOk};
+ghost use Rattle.tsa_core.specs.Programs.{program_of};
+ghost use Rattle.tsa_core.specs.Units.{placed_in};
+ghost use Rattle.tsa_lock.specs.Kinds.{kinds_of};
+ghost use Rattle.tsa_tree.specs.types.FirstFailing.{first_failing};
+ghost use Rattle.tsa_tree.specs.units.Shapes.{item_shapes};
+
+use crate::passage::Pass;
+use std::alloc::Global;
+use tsa_base::NoMemory;
+use tsa_function::Bodies;
+use tsa_layout::Layout;
+use tsa_lock::{LockKind, lock_kinds};
+use tsa_site::{Fit, Ground, Places};
+use tsa_tree::item::Item;
+
+/// The items of a typed unit with its layout, its bodies by name, and what kinds of locks its structs are.
+#[derive(Drop)]
+pub struct UnitTables<'w, 'a> {
+    pub(crate) items: &'a [Item<'a>],
+    layout: Layout<'w>,
+    bodies: Bodies<'a>,
+    kinds: Vec<Option<LockKind<'a>>>,
+    ghost typed: { first_failing (item_shapes items.now) ≡ None },
+    ghost laid: { layout ≡ (program_of (item_shapes items.now)).layout },
+    ghost bodied: { bodies.items ≡ items },
+    ghost locks: { kinds_of kinds.items ≡ (program_of (item_shapes items.now)).locks },
+}
+
+impl<'w, 'a> UnitTables<'w, 'a> {
+    /// The tables of a unit in the profile. The places are those of the unit.
+    pub fn new(
+        alloc: Global,
+        unit: &Fit<'a>,
+        places: &'w Places,
+    ) -> Result<UnitTables<'w, 'a>, NoMemory>
+        requires placed { placed_in (item_shapes unit.now.typed.unit.now.items.now) ≡ Ok places.now }
+        ensures { IfOk result (λ tables. tables.items ≡ unit.now.typed.unit.now.items) }
+    {
+        let items = unit.unit().items;
+        let bodies = Bodies::new(alloc, items)?;
+        let kinds = lock_kinds(alloc, items)?;
+        Ok(UnitTables {
+            items,
+            layout: places.layout(),
+            bodies,
+            kinds,
+        })
+    }
+
+    /// A pass along the bodies of the unit by its tables.
+    pub fn pass<'s>(&'s self, unit: &'s Fit<'a>) -> Pass<'s, 'a>
+        requires { unit.now.typed.unit.now.items ≡ self.now.items }
+        ensures { result.fit.now ≡ unit.now }
+    {
+        let ground = Ground {
+            items: self.items,
+            layout: &self.layout,
+            bodies: &self.bodies,
+            outside: &[],
+        };
+        Pass {
+            items: self.items,
+            ground,
+            kinds: &self.kinds,
+            fit: unit,
+        }
+    }
+}
