@@ -1,0 +1,6 @@
+pub mod Reading
+pub mod Limits
+pub mod Entering
+pub mod Telling
+pub mod Stepping
+pub mod Firsts

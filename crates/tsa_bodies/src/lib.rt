@@ -1,0 +1,11 @@
+//! The bodies of a unit one by one: what walks bring to the points of each, and the texts of its paths.
+#![tactic(auto)]
+
+mod course;
+mod told;
+
+pub use course::Course;
+pub use told::{Teller, ToldBody};
+pub use tsa_flow::RuleView;
+pub use tsa_held::{Fit, Places, UnitTables};
+pub use tsa_rules::Role;
