@@ -1,0 +1,15 @@
+pub mod Pieces
+pub mod SortedOnce
+pub mod Ranges
+pub mod Fronts
+pub mod Parts
+pub mod Unique
+pub mod Having
+pub mod Beside
+pub mod Told
+pub mod Quiet
+pub mod Lines
+pub mod OneLine
+pub mod Paging
+pub mod Trying
+pub mod Progress

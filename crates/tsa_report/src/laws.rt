@@ -1,0 +1,13 @@
+//! Laws of the lines of a unit.
+ghost use Rattle.tsa_report.specs.Laws.{RulesThatFailAreTold, UnitsWithoutLinesHaveNoWarnings};
+
+/// In a typed unit every rule that fails on some walk, at any point of any function and for any path, is told in the body of its function.
+#[tactic(auto, using(crate::proofs::Told::rules_that_fail_are_told))]
+pub fn rules_that_fail_are_told()
+    ensures { RulesThatFailAreTold }
+{}
+
+/// Where no line is told of a typed unit, no rule fails in its program.
+pub fn units_without_lines_have_no_warnings()
+    ensures { UnitsWithoutLinesHaveNoWarnings }
+{}

@@ -1,0 +1,14 @@
+//! Units that are reported of.
+ghost use Rattle.std.specs.Prelude.{◌≡◌, Ok};
+ghost use Rattle.tsa_core.specs.Units.{placed_in};
+ghost use Rattle.tsa_tree.specs.units.Shapes.{item_shapes};
+
+use tsa_bodies::{Fit, Places};
+
+/// A unit in the profile with its places.
+#[derive(Drop)]
+pub struct Ready<'a> {
+    pub fit: Fit<'a>,
+    pub places: Places,
+    pub ghost placed: { placed_in (item_shapes fit.typed.unit.now.items.now) ≡ Ok places },
+}
