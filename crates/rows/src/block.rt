@@ -1,6 +1,6 @@
 //! The lines of a block: a unit, or several with the same front, and the answer that is wanted.
 
-use crate::case::Status;
+use crate::case::Wanted;
 use crate::fault::Fault;
 use crate::text::Text;
 use std::alloc::Global;
@@ -20,7 +20,7 @@ pub struct Block<'t> {
     pub unit: Text,
     /// Last lines, each of which makes a unit with the lines before.
     pub lasts: Vec<&'t str>,
-    pub status: Option<Status>,
+    pub wanted: Option<Wanted>,
     pub answer: Vec<&'t str>,
 }
 
@@ -31,7 +31,7 @@ impl<'t> Block<'t> {
             front: None,
             unit: Text::new(alloc),
             lasts: Vec::new(alloc),
-            status: None,
+            wanted: None,
             answer: Vec::new(alloc),
         }
     }
@@ -43,19 +43,19 @@ impl<'t> Block<'t> {
             b'@' => self.unit.add_text(front_of(fronts, line)?)?,
             b'|' => self.unit.add_line(line, None)?,
             b'*' => self.lasts.push(line)?,
-            b'=' => self.set_status(line)?,
+            b'=' => self.set_wanted(line)?,
             b'>' => self.answer.push(line)?,
             _ => return Err(Fault::Mark),
         }
         Ok(())
     }
 
-    // Sets the status, which a block says once.
-    fn set_status(&mut self, line: &str) -> Result<(), Fault> {
-        if self.status.is_some() {
+    // Sets what is wanted, which a block says once.
+    fn set_wanted(&mut self, line: &str) -> Result<(), Fault> {
+        if self.wanted.is_some() {
             return Err(Fault::Second);
         }
-        self.status = Some(status_in(line).ok_or(Fault::Status)?);
+        self.wanted = Some(wanted_in(line).ok_or(Fault::Status)?);
         Ok(())
     }
 
@@ -66,7 +66,7 @@ impl<'t> Block<'t> {
 
     /// The block says nothing beyond a sentence and words.
     pub fn is_empty(&self) -> bool {
-        self.front.is_none() && !self.has_unit() && self.status.is_none() && self.answer.is_empty()
+        self.front.is_none() && !self.has_unit() && self.wanted.is_none() && self.answer.is_empty()
     }
 }
 
@@ -80,12 +80,15 @@ fn front_of<'f>(fronts: &'f [Front], name: &str) -> Result<&'f Text, Fault> {
     Err(Fault::Front)
 }
 
-// A number, or a number and the word `twice`.
-fn status_in(line: &str) -> Option<Status> {
+// A number, a number and the word `twice`, or the word `judged`.
+fn wanted_in(line: &str) -> Option<Wanted> {
+    if line == "judged" {
+        return Some(Wanted::Judged);
+    }
     let (digits, twice) = match line.strip_suffix(" twice") {
         Some(digits) => (digits, true),
         None => (line, false),
     };
-    let number = digits.parse::<u8>().ok()?;
-    Some(Status { number, twice })
+    let status = digits.parse::<u8>().ok()?;
+    Some(Wanted::Exactly { status, twice })
 }

@@ -7,11 +7,39 @@ use std::fmt::Write;
 use tsa_base::{HonestSink, HonestSource};
 use tsa_tool::tool;
 
-/// The status that is wanted, and whether the answer, given as a unit, is its own answer.
+/// What is wanted of an answer.
 #[derive(Clone, Copy)]
-pub struct Status {
-    pub number: u8,
-    pub twice: bool,
+pub enum Wanted {
+    /// This status and the text that is written; of some, that the text, given as a unit, is its own answer.
+    Exactly { status: u8, twice: bool },
+    /// That the unit is judged, whatever is warned of.
+    Judged,
+}
+
+impl Wanted {
+    // The status, where one is wanted.
+    fn status(self) -> u8 {
+        match self {
+            Wanted::Exactly { status, .. } => status,
+            Wanted::Judged => 0,
+        }
+    }
+
+    // Whether the answer is to be given as a unit.
+    fn is_twice(self) -> bool {
+        match self {
+            Wanted::Exactly { twice, .. } => twice,
+            Wanted::Judged => false,
+        }
+    }
+
+    // Whether a status and a text are what is wanted, where a text is written.
+    fn takes(self, given: u8, taken: &[u8], written: &[u8]) -> bool {
+        match self {
+            Wanted::Exactly { status, .. } => given == status && taken == written,
+            Wanted::Judged => given <= 1,
+        }
+    }
 }
 
 /// What is wanted of each unit of a block, and what it shows.
@@ -20,7 +48,7 @@ pub struct Case<'c, 't> {
     pub place: &'c str,
     pub sentence: &'c str,
     pub words: &'c [String],
-    pub status: Status,
+    pub wanted: Wanted,
     pub answer: &'c [&'t str],
 }
 
@@ -60,7 +88,7 @@ impl Tally {
         let end = end_of(self.alloc, unit)?;
         let answer = answer_of(self.alloc, case.answer, end.as_str())?;
         self.compare(case, unit, &answer)?;
-        if case.status.twice {
+        if case.wanted.is_twice() {
             self.compare(case, &answer, &answer)?;
         }
         Ok(())
@@ -71,13 +99,13 @@ impl Tally {
         let mut source = HonestSource::new(self.alloc, unit)?;
         let mut sink = HonestSink::new(self.alloc);
         let status = tool(self.alloc, case.words, &mut source, &mut sink);
-        if status == case.status.number && sink.taken() == wanted {
+        if case.wanted.takes(status, sink.taken(), wanted) {
             self.right = self.right.saturating_add(1);
             return Ok(());
         }
         self.wrong = self.wrong.saturating_add(1);
         writeln!(self.report, "{}: {}", case.place, case.sentence)?;
-        self.tell("wanted", case.status.number, wanted)?;
+        self.tell("wanted", case.wanted.status(), wanted)?;
         self.tell("given", status, sink.taken())
     }
 

@@ -1,7 +1,7 @@
 //! A file of blocks: each is judged at the blank line after it, or at the end of the file.
 
 use crate::block::{Block, Front};
-use crate::case::{Case, Status, Tally};
+use crate::case::{Case, Tally, Wanted};
 use crate::fault::Fault;
 use crate::text::Text;
 use std::alloc::Global;
@@ -66,15 +66,15 @@ impl<'t> File<'t> {
         if block.is_empty() {
             return Ok(());
         }
-        match (block.front, block.status) {
+        match (block.front, block.wanted) {
             (Some(name), None) => add_front(tally.alloc, fronts, name, block.unit),
-            (None, Some(status)) if block.has_unit() => self.judge(&block, status, tally),
+            (None, Some(wanted)) if block.has_unit() => self.judge(&block, wanted, tally),
             _ => Err(Fault::Part),
         }
     }
 
     // Judges the units of a block.
-    fn judge(&self, block: &Block<'t>, status: Status, tally: &mut Tally) -> Result<(), Fault> {
+    fn judge(&self, block: &Block<'t>, wanted: Wanted, tally: &mut Tally) -> Result<(), Fault> {
         let alloc = tally.alloc;
         let words = words_of(alloc, self.words)?;
         let place = format!(in alloc; "{}:{}", self.name, self.line)?;
@@ -82,7 +82,7 @@ impl<'t> File<'t> {
             place: place.as_str(),
             sentence: self.sentence,
             words: &words,
-            status,
+            wanted,
             answer: &block.answer,
         };
         if block.lasts.is_empty() {

@@ -8,7 +8,7 @@
 //! - `@` the name of a front, whose lines stand here
 //! - `|` a line of the unit; lines are joined by line ends, and none stands after the last one
 //! - `*` a last line of a unit; with several of them each makes a unit of its own after the lines before
-//! - `=` the status; with the word `twice` the answer, given as a unit, is its own answer too
+//! - `=` the status; with the word `twice` the answer, given as a unit, is its own answer too; or the word `judged`, where the unit is accepted or warned of
 //! - `>` a line of the answer, with a line end after it
 //!
 //! A block that begins with `:` and a name says a front: its `@` and `|` lines, for all blocks and all files after it.
@@ -17,7 +17,7 @@
 //! In a line of a unit or of an answer these are escapes:
 //!
 //! - `\n`, `\t`, `\\`, `\x` with two hexadecimal digits: a byte
-//! - `\{N:` up to `\}`: what stands between, N times; `\#` in it is how often it stood before
+//! - `\{N:` up to `\}`: what stands between, N times; `\#` in it is how often it stood before, and `\+` one more than that
 //! - `\|` in a unit: the unit is cut here. A unit with cuts is no case itself; what it is up to each cut is one
 //! - `\e` in an answer: the line and the column after the last byte of the unit
 #![tactic(auto)]

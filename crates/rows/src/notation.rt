@@ -16,6 +16,8 @@ pub enum Part<'a> {
     Closing,
     /// How often what is repeated stood before.
     Counter,
+    /// One more than that.
+    Next,
     /// The unit is cut here.
     Cut,
     /// The place after the last byte of the unit.
@@ -65,6 +67,7 @@ fn escape_in(piece: &str) -> Option<(Part<'_>, &str)> {
         b"{" => opening_in(rest),
         b"}" => Some((Part::Closing, rest)),
         b"#" => Some((Part::Counter, rest)),
+        b"+" => Some((Part::Next, rest)),
         b"|" => Some((Part::Cut, rest)),
         b"e" => Some((Part::End, rest)),
         _ => None,

@@ -85,6 +85,7 @@ impl Text {
             (Part::Text(text), _) => self.bytes.extend_from_slice(text.as_bytes())?,
             (Part::Byte(byte), _) => self.bytes.push(byte)?,
             (Part::Counter, _) => self.add_number(count)?,
+            (Part::Next, _) => self.add_number(count.saturating_add(1))?,
             (Part::Cut, None) => self.cuts.push(self.bytes.len())?,
             (Part::End, Some(end)) => self.bytes.extend_from_slice(end.as_bytes())?,
             _ => return Err(Fault::Misplaced),

@@ -1,27 +1,15 @@
--- What `check` answers to texts of each kind, worked out.
-use Rattle.std.specs.Prelude.{ℕ, ◌≡◌, true, List, [], ◌∷◌, ◌++◌, Some, None, Ok, codes}
+-- By what `check` refuses texts of each kind, worked out.
+use Rattle.std.specs.Prelude.{ℕ, ◌≡◌, List, ◌++◌, Some, codes}
 use Rattle.std.specs.List.{repeat}
-use Rattle.tsa_base.specs.declared.token.Span.{Span}
 use Rattle.tsa_base.specs.Places.{place_text}
 use Rattle.tsa_tool.specs.declared.answer.Status.{Status}
 use Rattle.tsa_tool.specs.declared.answer.Status.TheVariants.{Refused, LimitPassed}
-use Rattle.tsa_tool.specs.declared.thin.ThinStep.TheVariants.{Call, Assign}
-use Rattle.tsa_tool.specs.Checks.{items_in}
-use Rattle.tsa_tool.specs.Items.{lock, lock_function, mutex, number, body}
-use Rattle.tsa_tool.specs.Reports.{line, accepted, judged}
-
-abbrev at : ℕ → ℕ → Span
-at from to = record { from = from; to = to }
-
-abbrev pub Accepts : List ℕ → Type 0
-Accepts text = judged text ≡ accepted
+use Rattle.tsa_tool.specs.declared.command.Command.TheVariants.{Check}
+use Rattle.tsa_tool.specs.Reports.{IsReport, Report, line}
 
 -- one line, with the place of what is refused
 abbrev pub Refuses : List ℕ → Status → (row column : ℕ) → List ℕ → Type 0
-Refuses text status row column says = judged text ≡ record { status = status; text = line (place_text (record { line = row; column = column }) ++ says) }
-
-abbrev pub IsNotThin : List ℕ → Type 0
-IsNotThin text = judged text ≡ record { status = Refused; text = line (codes "NB0 form is not built yet") }
+Refuses text status row column says = (report : Report) → IsReport (Some Check) text report → report ≡ record { status = status; text = line (place_text (record { line = row; column = column }) ++ says) }
 
 -- a lock, a function that takes it, a mutex and a number that it guards
 abbrev pub locks : List ℕ
@@ -37,18 +25,6 @@ pub record ChecksAreAsWritten : Type 0 where
   pub left_out : Refuses (codes "int g PT_GUARDED_BY(") Refused 1 7 (codes "AT1 attribute is left out")
   pub no_argument : Refuses (codes "int g GUARDED_BY();") Refused 1 7 (codes "AT2 attribute argument is missing")
   pub too_deep : Refuses (codes "void f(void)" ++ repeat 101 (codes "{")) LimitPassed 1 113 (codes "LM2 over 100 nested")
-  -- storage words, parentheses, the base of a number and the form of an attribute leave no node
-  pub storage : Accepts (codes "static int g;")
-  pub parentheses : Accepts (codes "int g; void f() { (g) = (1); }")
-  pub hexadecimal : Accepts (codes "int g; void f(void) { g = 0x1; }")
-  pub tag_alone : Accepts (codes "struct s;")
-  pub two_at_once : Accepts (locks ++ codes "int h GUARDED_BY(mu), i;")
-  pub attribute_list : Accepts (locks ++ codes "void rel(struct lock *m) __attribute__((release_capability(m)));")
-  -- what the items of a unit are: a statement stands at its first token, and a name at its own
-  pub write : items_in (codes "int g; void f(void) { (g) = 0x1; }") ≡ Ok (number (at 4 5) None ∷ body (at 12 13) (Assign 22 (at 23 24) 1 ∷ []) (at 33 34) ∷ [])
-  pub take : items_in (locks ++ codes "void f(void) { acq((&mu)); }")
-      ≡ Ok (lock (codes "mutex") (at 27 31) (at 38 39) ∷ lock_function (at 49 52) (at 60 64) (at 66 67) true (at 77 78) ∷ mutex (at 88 92) (at 93 95)
-      ∷ number (at 101 102) (Some (at 114 116)) ∷ body (at 124 125) (Call 134 (at 134 137) (at 140 142) ∷ []) (at 146 147) ∷ [])
   -- premises of types, each at the node where it fails
   pub unknown : Refuses (codes "int g = h;") Refused 1 9 (codes "TY1 unknown name")
   pub again : Refuses (codes "int g; int g;") Refused 1 12 (codes "TY2 declared twice")
@@ -59,12 +35,6 @@ pub record ChecksAreAsWritten : Type 0 where
   pub no_target : Refuses (codes "void f(void) { break; }") Refused 1 16 (codes "TY7 jump or label without its target")
   pub returned : Refuses (codes "void f(void) { return 1; }") Refused 1 16 (codes "TY8 wrong return")
   pub no_constant : Refuses (codes "int n; int a[n];") Refused 1 14 (codes "TY9 initialiser or constant refused")
-  -- trees of other forms
-  pub array : IsNotThin (codes "int a[2];")
-  pub initialiser : IsNotThin (codes "int x = 1;")
-  pub empty_statement : IsNotThin (codes "void f(void) { ; }")
-  pub constant : IsNotThin (codes "const int g;")
-  pub unsigned_number : IsNotThin (codes "int g; void f(void) { g = 1u; }")
   -- more places than a unit may have
   pub too_many_places : Refuses (codes "struct s { int x; }; struct s a[10], b[32760];") LimitPassed 1 38 (codes "LM6 over 65536 places")
   -- premises of the profile, each at the node where it fails

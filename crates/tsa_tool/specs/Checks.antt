@@ -1,10 +1,11 @@
--- The unit of an input and the lines of its warnings, or the first refusal.
-use Rattle.std.specs.Prelude.{ℕ, List, Ok, Err, Some, None, length, slice_get, if◌then◌else◌}
+-- The unit of an input, or the first refusal.
+use Rattle.std.specs.Prelude.{ℕ, List, Ok, Err, Some, None, length, slice_get}
 use Rattle.std.specs.declared.option.Option.{Option}
 use Rattle.std.specs.declared.result.Result.{Result}
 use Rattle.std.specs.Option.{option_map_or}
 use Rattle.tsa_base.specs.Tokens.{BadByte, Lexeme, tokens_of}
 use Rattle.tsa_tree.specs.units.Syntax.{UnitItem}
+use Rattle.tsa_expr.specs.declared.refusal.SyntaxCode.TheVariants.{SY1}
 use Rattle.tsa_expr.specs.declared.refusal.SyntaxRefusal.{SyntaxRefusal}
 use Rattle.tsa_expr.specs.declared.refusal.SyntaxRefusal.TheVariants.{At, Function, NoMemory}
 use Rattle.tsa_unit.specs.Parsing.{unit_of}
@@ -16,21 +17,12 @@ use Rattle.tsa_place.specs.Units.{placed_in}
 use Rattle.tsa_seen.specs.declared.premise.Failure.{Failure as Misfit}
 use Rattle.tsa_profile.specs.Units.{refusal_of_profile}
 use Rattle.tsa_tool.specs.declared.check.Refusal.{Refusal}
-use Rattle.tsa_tool.specs.declared.check.Refusal.TheVariants.{Lex, Syntax, Types, Places, Profile, NotBuilt}
-use Rattle.tsa_tool.specs.Items.{Item}
-use Rattle.tsa_tool.specs.Limits.{is_thin_unit}
-use Rattle.tsa_tool.specs.Program.{bodies_of}
-use Rattle.tsa_tool.specs.Lines.{Warned, unit_warned}
-use Rattle.tsa_tool.specs.Trees.{thin_of}
+use Rattle.tsa_tool.specs.declared.check.Refusal.TheVariants.{Lex, Syntax, Types, Places, Profile}
 
 infixl 10 ◌>>=◌
 abbrev pub ◌>>=◌ : {A B : Type 0} → Result A Refusal → (A → Result B Refusal) → Result B Refusal
 Ok x >>= f = f x
 Err r >>= f = Err r
-
-abbrev pub ok_or : {A : Type 0} → Refusal → Option A → Result A Refusal
-ok_or r None = Err r
-ok_or r (Some x) = Ok x
 
 -- the tokens, or the refusal of the first bad byte
 abbrev pub lexed : Result (List Lexeme) BadByte → Result (List Lexeme) Refusal
@@ -45,7 +37,7 @@ byte_of bytes tokens number = option_map_or (λ token. token.span.from) (slice_g
 abbrev pub refusal_of : List ℕ → List Lexeme → SyntaxRefusal → Refusal
 refusal_of bytes tokens (At code token) = Syntax code (byte_of bytes tokens token)
 refusal_of bytes tokens (Function code span) = Syntax code span.from
-refusal_of bytes tokens NoMemory = NotBuilt
+refusal_of bytes tokens NoMemory = Syntax SY1 0
 
 -- the unit of tokens, or the first refusal of its syntax
 abbrev pub placed : List ℕ → List Lexeme → Result (List UnitItem) SyntaxRefusal → Result (List UnitItem) Refusal
@@ -94,21 +86,3 @@ fit_in bytes = do
   tree ← sized_in bytes
   fit ← or_misfit tree (refusal_of_profile tree)
   Ok fit
-
--- the items of an input, whether or not they may stand after each other
-unfoldable pub items_in : List ℕ → Result (List Item) Refusal
-items_in bytes = do
-  tree ← fit_in bytes
-  items ← ok_or NotBuilt (thin_of tree)
-  Ok items
-
--- the lines of items that are a unit
-unfoldable pub judged_items : List ℕ → List Item → Result Warned Refusal
-judged_items bytes items = if is_thin_unit bytes items then Ok (unit_warned bytes items (bodies_of bytes items)) else Err NotBuilt
-
--- in the order of refusals
-unfoldable pub warned_in : List ℕ → Result Warned Refusal
-warned_in bytes = do
-  items ← items_in bytes
-  warned ← judged_items bytes items
-  Ok warned

@@ -1,12 +1,14 @@
 -- What is written for the words and the input, and the status.
-use Rattle.std.specs.Prelude.{ℕ, ◌+◌, min, List, [], ◌∷◌, ◌++◌, length, Some, None, Ok, Err, codes, ◌==◌, if◌then◌else◌, nat_lt}
+use Rattle.std.specs.Prelude.{◌≡◌, ℕ, Bool, true, false, ◌+◌, min, List, [], ◌∷◌, ◌++◌, length, Some, None, Ok, Err, codes, ◌==◌, if◌then◌else◌, nat_lt}
 use Rattle.std.specs.declared.option.Option.{Option}
 use Rattle.std.specs.declared.result.Result.{Result}
 use Rattle.tsa_base.specs.declared.limits.TheConstants.{INPUT_LIMIT}
 use Rattle.std.specs.Fmt.{decimal}
 use Rattle.tsa_print.specs.UnitPieces.{canonical_unit}
 use Rattle.tsa_tree.specs.units.Syntax.{UnitItem}
-use Rattle.tsa_tool.specs.Checks.{tree_in, warned_in}
+use Rattle.tsa_tool.specs.Checks.{fit_in, tree_in}
+use Rattle.tsa_report.specs.Held.{IsHeld}
+use Rattle.tsa_report.specs.Warned.{IsWarned, Warned}
 use Rattle.tsa_base.specs.declared.token.LexCode.{LexCode}
 use Rattle.tsa_base.specs.declared.token.LexCode.TheVariants.{LX1, LX2, LX3, LX4, LX5}
 use Rattle.tsa_expr.specs.declared.refusal.SyntaxCode.{SyntaxCode}
@@ -16,13 +18,12 @@ use Rattle.tsa_tree.specs.declared.premise.TypeCode.TheVariants.{TY1, TY2, TY3, 
 use Rattle.tsa_seen.specs.declared.premise.ProfileCode.{ProfileCode}
 use Rattle.tsa_seen.specs.declared.premise.ProfileCode.TheVariants.{PF1, PF2, PF3, PF4, PF5, PF6, PF7, PF8, PF9, LM4, LM7}
 use Rattle.tsa_base.specs.Places.{place_at, place_text}
-use Rattle.tsa_tool.specs.Lines.{Warned}
 use Rattle.tsa_tool.specs.declared.answer.Status.{Status}
-use Rattle.tsa_tool.specs.declared.answer.Status.TheVariants.{Accepted, Printed, Warned as Warns, Refused, WordsRefused, LimitPassed}
+use Rattle.tsa_tool.specs.declared.answer.Status.TheVariants.{Accepted, Printed, Shown, Warned as Warns, Refused, WordsRefused, LimitPassed}
 use Rattle.tsa_tool.specs.declared.check.Refusal.{Refusal}
-use Rattle.tsa_tool.specs.declared.check.Refusal.TheVariants.{Lex, Syntax, Types, Places, Profile, NotBuilt}
+use Rattle.tsa_tool.specs.declared.check.Refusal.TheVariants.{Lex, Syntax, Types, Places, Profile}
 use Rattle.tsa_tool.specs.declared.command.Command.{Command}
-use Rattle.tsa_tool.specs.declared.command.Command.TheVariants.{Check, Print}
+use Rattle.tsa_tool.specs.declared.command.Command.TheVariants.{Check, Print, Held}
 
 pub record Report : Type 0 where
   pub status : Status
@@ -32,6 +33,7 @@ pub record Report : Type 0 where
 abbrev pub status_number : Status → ℕ
 status_number Accepted = 0
 status_number Printed = 0
+status_number Shown = 0
 status_number Warns = 1
 status_number Refused = 2
 status_number WordsRefused = 3
@@ -111,7 +113,6 @@ refused_report bytes (Syntax code byte) = record { status = syntax_status code; 
 refused_report bytes (Types code byte) = record { status = Refused; text = line (place_text (place_at bytes byte) ++ type_text code) }
 refused_report bytes (Places byte) = record { status = LimitPassed; text = line (place_text (place_at bytes byte) ++ codes "LM6 over 65536 places") }
 refused_report bytes (Profile code byte) = record { status = profile_status code; text = line (place_text (place_at bytes byte) ++ profile_text code) }
-refused_report bytes NotBuilt = record { status = Refused; text = line (codes "NB0 form is not built yet") }
 
 abbrev pub accepted : Report
 accepted = record { status = Accepted; text = line (codes "accepted") }
@@ -120,30 +121,41 @@ accepted = record { status = Accepted; text = line (codes "accepted") }
 abbrev pub warned_report : Warned → Report
 warned_report w = if w.count == 0 then accepted else record { status = Warns; text = w.text ++ (codes "warnings: " ++ decimal w.count ++ 10 ∷ []) }
 
-abbrev pub unit_report : List ℕ → Result Warned Refusal → Report
-unit_report bytes (Ok w) = warned_report w
-unit_report bytes (Err refusal) = refused_report bytes refusal
+-- What is reported of a unit, or its first refusal.
+abbrev pub OfUnit : (bytes : List ℕ) → (List UnitItem → Report → Type 0) → Result (List UnitItem) Refusal → Report → Type 0
+OfUnit bytes IsOf (Ok items) report = IsOf items report
+OfUnit bytes IsOf (Err refusal) report = report ≡ refused_report bytes refusal
 
--- what `check` answers to an input that is short enough
-unfoldable pub judged : List ℕ → Report
-judged bytes = unit_report bytes (warned_in bytes)
+-- `check`: the lines of the unit's warnings
+abbrev pub IsCheckOf : (bytes : List ℕ) → List UnitItem → Report → Type 0
+IsCheckOf bytes items report = (w : Warned) × (IsWarned bytes items w × (report ≡ warned_report w))
 
-abbrev pub printed_report : List ℕ → Result (List UnitItem) Refusal → Report
-printed_report bytes (Ok tree) = record { status = Printed; text = canonical_unit tree }
-printed_report bytes (Err refusal) = refused_report bytes refusal
+-- `held`: the lines of its held sets
+abbrev pub IsHeldOf : (bytes : List ℕ) → List UnitItem → Report → Type 0
+IsHeldOf bytes items report = (text : List ℕ) × (IsHeld bytes items text × (report ≡ record { status = Shown; text = text }))
 
--- what `print` answers to one: the canonical text of its unit
-unfoldable pub printed : List ℕ → Report
-printed bytes = printed_report bytes (tree_in bytes)
+-- `print`: its canonical text
+abbrev pub IsPrintOf : List UnitItem → Report → Type 0
+IsPrintOf items report = report ≡ record { status = Printed; text = canonical_unit items }
 
-abbrev pub answered : Command → List ℕ → Report
-answered Check bytes = judged bytes
-answered Print bytes = printed bytes
+-- what a command answers to an input that is short enough
+abbrev pub IsAnswerTo : Command → (bytes : List ℕ) → Report → Type 0
+IsAnswerTo Check bytes report = OfUnit bytes (IsCheckOf bytes) (fit_in bytes) report
+IsAnswerTo Print bytes report = OfUnit bytes IsPrintOf (tree_in bytes) report
+IsAnswerTo Held bytes report = OfUnit bytes (IsHeldOf bytes) (fit_in bytes) report
 
--- what a command answers to an input
-abbrev pub report_on : Option Command → List ℕ → Report
-report_on None bytes = words_refused
-report_on (Some command) bytes = if nat_lt INPUT_LIMIT (length bytes) then too_long else answered command bytes
+-- and to any input
+abbrev pub IsReportBy : (is_too_long : Bool) → Command → (bytes : List ℕ) → Report → Type 0
+IsReportBy true command bytes report = report ≡ too_long
+IsReportBy false command bytes report = IsAnswerTo command bytes report
+
+abbrev pub IsReport : Option Command → (bytes : List ℕ) → Report → Type 0
+IsReport None bytes report = report ≡ words_refused
+IsReport (Some command) bytes report = IsReportBy (nat_lt INPUT_LIMIT (length bytes)) command bytes report
+
+-- There is one report at most for each command and input.
+abbrev pub OneReportIsRight : Type 0
+OneReportIsRight = (command : Option Command) (bytes : List ℕ) (a b : Report) → IsReport command bytes a → IsReport command bytes b → a ≡ b
 
 -- how many bytes of an input a command reads
 abbrev pub input_read : Option Command → List ℕ → ℕ

@@ -1,19 +1,21 @@
 //! What is answered to an input.
 ghost use Rattle.std.specs.Prelude.{◌≡◌, ◌≤◌, ◌∷◌, ◌++◌, [], codes, IfOk, OnOk, length};
 ghost use Rattle.tsa_base.specs.declared.limits.TheConstants.{INPUT_LIMIT};
-ghost use Rattle.tsa_tool.specs.Reports.{status_number, words_refused, too_long, answered, judged, printed, accepted, warned_report, refused_report, lex_text, syntax_text, syntax_status, type_text, profile_text, profile_status, line};
+ghost use Rattle.tsa_tool.specs.Checks.{fit_in, tree_in};
+ghost use Rattle.tsa_tool.specs.Reports.{IsCheckOf, IsPrintOf, OfUnit, status_number, words_refused, too_long, accepted, warned_report, refused_report, lex_text, syntax_text, syntax_status, type_text, profile_text, profile_status, line};
 ghost use Rattle.tsa_tool.specs.Answer.{report_of};
-ghost use Rattle.tsa_tool.specs.Warned.{warned_of};
+ghost use Rattle.tsa_report.specs.Lined.{warned_of};
+ghost use Rattle.tsa_tree.specs.units.Shapes.{HaveTheirPoints, item_shapes};
 ghost use Rattle.std.specs.Fmt.{decimal};
 ghost use Rattle.tsa_base.specs.Places.{place_at, place_text};
 
-use crate::check::{Refusal, ToolRefusal, canonical_text, check_unit};
-use crate::command::Command;
-use crate::warn::UnitLines;
+use crate::check::{Refusal, ToolRefusal, canonical_text, read_ready};
+use bumpalo::Bump;
 use std::alloc::Global;
 use tsa_base::{LexCode, LineStarts, NoMemory};
 use tsa_expr::SyntaxCode;
 use tsa_profile::ProfileCode;
+use tsa_report::{Ready, UnitLines, unit_lines};
 use tsa_types::TypeCode;
 
 /// How an answer ends the program.
@@ -21,6 +23,7 @@ use tsa_types::TypeCode;
 pub enum Status {
     Accepted,
     Printed,
+    Shown,
     Warned,
     Refused,
     WordsRefused,
@@ -33,7 +36,7 @@ impl Status {
         ensures { result ≡ status_number self }
     {
         match self {
-            Status::Accepted | Status::Printed => 0,
+            Status::Accepted | Status::Printed | Status::Shown => 0,
             Status::Warned => 1,
             Status::Refused => 2,
             Status::WordsRefused => 3,
@@ -63,22 +66,10 @@ pub fn refuse_length(alloc: Global) -> Result<Answer, NoMemory>
     answer_of(alloc, Status::LimitPassed, b"LM1 over 1048576 bytes\n")
 }
 
-/// What a command answers to an input that is short enough.
-pub fn answer_to(alloc: Global, command: Command, bytes: &[u8]) -> Result<Answer, NoMemory>
+/// The canonical text of the unit of an input that is short enough, or the first refusal.
+pub fn print(alloc: Global, bytes: &[u8]) -> Result<Answer, NoMemory>
     requires { length bytes.now ≤ INPUT_LIMIT }
-    ensures { IfOk result (λ answer. report_of answer ≡ answered command bytes.now) }
-{
-    match command {
-        Command::Check => check(alloc, bytes),
-        Command::Print => print(alloc, bytes),
-    }
-}
-
-// The canonical text of a unit, or the first refusal.
-#[tactic(auto, unfolding(crate::specs::Reports::printed))]
-fn print(alloc: Global, bytes: &[u8]) -> Result<Answer, NoMemory>
-    requires { length bytes.now ≤ INPUT_LIMIT }
-    ensures { IfOk result (λ answer. report_of answer ≡ printed bytes.now) }
+    ensures { IfOk result (λ answer. OfUnit bytes.now IsPrintOf (tree_in bytes.now) (report_of answer)) }
 {
     match canonical_text(alloc, bytes) {
         Ok(text) => Ok(Answer {
@@ -90,17 +81,26 @@ fn print(alloc: Global, bytes: &[u8]) -> Result<Answer, NoMemory>
     }
 }
 
-// The warnings of a unit, or that there are none, or the first refusal.
-#[tactic(auto, unfolding(crate::specs::Reports::judged))]
-fn check(alloc: Global, bytes: &[u8]) -> Result<Answer, NoMemory>
+/// The warnings of the unit of an input that is short enough, or that there are none, or the first refusal.
+pub fn check(alloc: Global, bytes: &[u8]) -> Result<Answer, NoMemory>
     requires { length bytes.now ≤ INPUT_LIMIT }
-    ensures { IfOk result (λ answer. report_of answer ≡ judged bytes.now) }
+    ensures { IfOk result (λ answer. OfUnit bytes.now (IsCheckOf bytes.now) (fit_in bytes.now) (report_of answer)) }
 {
-    match check_unit(alloc, bytes) {
-        Ok(lines) => warned(alloc, lines),
+    let bump = Bump::new(alloc);
+    match read_ready(alloc, &bump, bytes) {
+        Ok(ready) => judge(alloc, &ready, bytes),
         Err(ToolRefusal::Refused(refusal)) => refuse(alloc, bytes, refusal),
         Err(ToolRefusal::NoMemory) => Err(NoMemory),
     }
+}
+
+// The warnings of a unit in the profile, or that there are none.
+fn judge(alloc: Global, ready: &Ready<'_>, bytes: &[u8]) -> Result<Answer, NoMemory>
+    requires { HaveTheirPoints ready.now.fit.typed.unit.now.items.now }
+    ensures { IfOk result (λ answer. IsCheckOf bytes.now (item_shapes ready.now.fit.typed.unit.now.items.now) (report_of answer)) }
+{
+    let lines = unit_lines(alloc, ready, bytes)?;
+    warned(alloc, lines)
 }
 
 // The answer to a unit: the lines of its warnings and how many they are, or that there are none.
@@ -135,8 +135,8 @@ fn accept(alloc: Global) -> Result<Answer, NoMemory>
     answer_of(alloc, Status::Accepted, b"accepted\n")
 }
 
-// The answer to a unit that is refused: the line of the refusal, which may name a place in the bytes.
-fn refuse(alloc: Global, bytes: &[u8], refusal: Refusal) -> Result<Answer, NoMemory>
+/// The answer to a unit that is refused: the line of the refusal, which names a place in the bytes.
+pub fn refuse(alloc: Global, bytes: &[u8], refusal: Refusal) -> Result<Answer, NoMemory>
     ensures { IfOk result (λ answer. report_of answer ≡ refused_report bytes.now refusal) }
 {
     match refusal {
@@ -145,7 +145,6 @@ fn refuse(alloc: Global, bytes: &[u8], refusal: Refusal) -> Result<Answer, NoMem
         Refusal::Types { code, byte } => refuse_types(alloc, bytes, code, byte),
         Refusal::Places { byte } => refuse_places(alloc, bytes, byte),
         Refusal::Profile { code, byte } => refuse_profile(alloc, bytes, code, byte),
-        Refusal::NotBuilt => answer_of(alloc, Status::Refused, b"NB0 form is not built yet\n"),
     }
 }
 

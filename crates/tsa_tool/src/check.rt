@@ -1,41 +1,33 @@
-//! The unit of an input and the lines of its warnings, or the first refusal.
-ghost use Rattle.std.specs.Prelude.{◌≡◌, ◌≢◌, ◌≤◌, map, length, vec_len, IfOk, IsErrOf, Ok, Err};
+//! The unit of an input, or the first refusal.
+ghost use Rattle.std.specs.Prelude.{◌≡◌, ◌≢◌, ◌≤◌, length, IfOk, IsErrOf, Ok, Err};
 ghost use Rattle.tsa_base.specs.declared.limits.TheConstants.{INPUT_LIMIT};
-ghost use Rattle.tsa_tool.specs.Items.{item_of};
 ghost use Rattle.tsa_base.specs.Tokens.{tokens_of};
 ghost use Rattle.tsa_tree.specs.tokens.Signs.{lexemes};
 ghost use Rattle.tsa_tree.specs.tokens.Texts.{AreOfText};
-ghost use Rattle.tsa_tree.specs.units.Shapes.{item_shapes};
+ghost use Rattle.tsa_tree.specs.units.Shapes.{HaveTheirPoints, item_shapes};
 ghost use Rattle.tsa_unit.specs.Parsing.{unit_of};
 ghost use Rattle.tsa_place.specs.Units.{placed_in};
 ghost use Rattle.tsa_profile.specs.Units.{refusal_of_profile};
-ghost use Rattle.tsa_tool.specs.Checks.{lexed, byte_of, refusal_of, placed, tree_in, typed_in, or_too_many, or_misfit, fit_in, items_in, judged_items, warned_in};
-ghost use Rattle.tsa_tool.specs.Reports.{printed_report};
-ghost use Rattle.tsa_tool.specs.Warned.{warned_of};
+ghost use Rattle.tsa_tool.specs.Checks.{lexed, byte_of, refusal_of, placed, tree_in, typed_in, or_too_many, or_misfit, fit_in};
+ghost use Rattle.tsa_tool.specs.Reports.{IsPrintOf, OfUnit};
 ghost use Rattle.tsa_tool.specs.declared.answer.Status.TheVariants.{Printed};
 ghost use Rattle.tsa_tool.specs.declared.check.ToolRefusal.TheVariants.{NoMemory};
 
-use crate::limits::items_are_within;
-use crate::lines::UnitText;
-use crate::names::resolve;
-use crate::thin::{ThinItem, ThinUnit};
-use crate::trees::thin;
-use crate::warn::{UnitLines, warn};
 use bumpalo::Bump;
 use std::alloc::Global;
-use tsa_base::{LexCode, LineStarts, NoMemory, Token};
+use tsa_base::{LexCode, NoMemory, Token};
 use tsa_expr::{SyntaxCode, SyntaxRefusal};
 use tsa_lex::{LexRefusal, lex};
 use tsa_place::{PlaceRefusal, Places};
 use tsa_print::print_unit;
 use tsa_profile::{Fit, ProfileCode, ProfileRefusal, fit};
+use tsa_report::Ready;
 use tsa_tree::Parsed;
 use tsa_types::{TypeCode, TypeRefusal, Typed, type_check};
 use tsa_unit::parse;
 
 /// Why a unit is refused, with a line of its own: a byte that makes it no tokens, a token or a function that its syntax
-/// refuses, a node that its types refuse, a declarator at which there are too many places, a node or a function that the profile refuses, or a form
-/// that isn't built yet.
+/// refuses, a node that its types refuse, a declarator at which there are too many places, or a node or a function that the profile refuses.
 #[derive(Clone, Copy)]
 pub enum Refusal {
     Lex { code: LexCode, byte: u32 },
@@ -43,7 +35,6 @@ pub enum Refusal {
     Types { code: TypeCode, byte: u32 },
     Places { byte: u32 },
     Profile { code: ProfileCode, byte: u32 },
-    NotBuilt,
 }
 
 /// A refusal, or want of memory.
@@ -60,8 +51,6 @@ impl From<NoMemory> for ToolRefusal {
         ToolRefusal::NoMemory
     }
 }
-
-const NOT_BUILT: ToolRefusal = ToolRefusal::Refused(Refusal::NotBuilt);
 
 // The tokens of an input.
 #[tactic(auto, using(tsa_tree::proofs::tokens::Texts::of_text))]
@@ -120,6 +109,7 @@ fn tree_of<'a>(
     requires bound { length bytes.now ≤ INPUT_LIMIT }
     requires text { AreOfText (lexemes tokens.now) }
     ensures tree { IfOk result (λ parsed. placed bytes.now (lexemes tokens.now) (unit_of (lexemes tokens.now)) ≡ Ok (item_shapes parsed.unit.now.items.now)) }
+    ensures points { IfOk result (λ parsed. HaveTheirPoints parsed.unit.now.items.now) }
     ensures refused { (r : _) → IsErrOf result (ToolRefusal.Refused r) → placed bytes.now (lexemes tokens.now) (unit_of (lexemes tokens.now)) ≡ Err r }
 {
     match parse(alloc, bump, tokens) {
@@ -133,6 +123,7 @@ fn tree_of<'a>(
 fn read_tree<'a>(alloc: Global, bump: &'a Bump, bytes: &[u8]) -> Result<Parsed<'a>, ToolRefusal>
     requires { length bytes.now ≤ INPUT_LIMIT }
     ensures tree { IfOk result (λ parsed. tree_in bytes.now ≡ Ok (item_shapes parsed.unit.now.items.now)) }
+    ensures points { IfOk result (λ parsed. HaveTheirPoints parsed.unit.now.items.now) }
     ensures refused { (r : _) → IsErrOf result (ToolRefusal.Refused r) → tree_in bytes.now ≡ Err r }
 {
     let tokens = tokens_in(alloc, bytes)?;
@@ -143,7 +134,7 @@ fn read_tree<'a>(alloc: Global, bump: &'a Bump, bytes: &[u8]) -> Result<Parsed<'
 /// syntax and the limits of syntax.
 pub fn canonical_text(alloc: Global, bytes: &[u8]) -> Result<Vec<u8>, ToolRefusal>
     requires { length bytes.now ≤ INPUT_LIMIT }
-    ensures text { IfOk result (λ text. printed_report bytes.now (tree_in bytes.now) ≡ record { status = Printed; text = text.items }) }
+    ensures text { IfOk result (λ text. OfUnit bytes.now IsPrintOf (tree_in bytes.now) (record { status = Printed; text = text.items })) }
     ensures refused { (r : _) → IsErrOf result (ToolRefusal.Refused r) → tree_in bytes.now ≡ Err r }
 {
     let bump = Bump::new(alloc);
@@ -152,11 +143,11 @@ pub fn canonical_text(alloc: Global, bytes: &[u8]) -> Result<Vec<u8>, ToolRefusa
 }
 
 // The unit of an input whose types are right, in an arena.
-#[tactic(auto, unfolding(crate::specs::Checks::typed_in), using(crate::proofs::TypedLaws::types, crate::proofs::AheadItems::parsed_within))]
+#[tactic(auto, unfolding(crate::specs::Checks::typed_in), using(crate::proofs::TypedLaws::types))]
 fn read_typed<'a>(alloc: Global, bump: &'a Bump, bytes: &[u8]) -> Result<Typed<'a>, ToolRefusal>
     requires { length bytes.now ≤ INPUT_LIMIT }
     ensures tree { IfOk result (λ typed. typed_in bytes.now ≡ Ok (item_shapes typed.unit.now.items.now)) }
-    ensures count { IfOk result (λ typed. length typed.unit.now.items.now ≤ INPUT_LIMIT) }
+    ensures points { IfOk result (λ typed. HaveTheirPoints typed.unit.now.items.now) }
     ensures refused { (r : _) → IsErrOf result (ToolRefusal.Refused r) → typed_in bytes.now ≡ Err r }
 {
     let parsed = read_tree(alloc, bump, bytes)?;
@@ -206,73 +197,17 @@ fn fit_of<'a>(alloc: Global, typed: Typed<'a>, places: &Places) -> Result<Fit<'a
     }
 }
 
-// The unit of an input that has no more places than it may and is in the profile, in an arena.
+/// The unit of an input of at most `INPUT_LIMIT` bytes that has no more places than it may and is in the profile, in an arena, or the first refusal in
+/// the order of the stages.
 #[tactic(auto, unfolding(crate::specs::Checks::sized_in, crate::specs::Checks::fit_in))]
-fn read_fit<'a>(alloc: Global, bump: &'a Bump, bytes: &[u8]) -> Result<Fit<'a>, ToolRefusal>
+pub fn read_ready<'a>(alloc: Global, bump: &'a Bump, bytes: &[u8]) -> Result<Ready<'a>, ToolRefusal>
     requires { length bytes.now ≤ INPUT_LIMIT }
-    ensures tree { IfOk result (λ fit. fit_in bytes.now ≡ Ok (item_shapes fit.typed.unit.now.items.now)) }
-    ensures count { IfOk result (λ fit. length fit.typed.unit.now.items.now ≤ INPUT_LIMIT) }
+    ensures tree { IfOk result (λ ready. fit_in bytes.now ≡ Ok (item_shapes ready.fit.typed.unit.now.items.now)) }
+    ensures points { IfOk result (λ ready. HaveTheirPoints ready.fit.typed.unit.now.items.now) }
     ensures refused { (r : _) → IsErrOf result (ToolRefusal.Refused r) → fit_in bytes.now ≡ Err r }
 {
     let typed = read_typed(alloc, bump, bytes)?;
     let places = places_of(alloc, &typed)?;
-    fit_of(alloc, typed, &places)
-}
-
-// The items of an input that are a unit of the thin language, in an arena.
-#[tactic(auto, unfolding(crate::specs::Checks::items_in))]
-fn read_items<'a>(alloc: Global, bump: &'a Bump, bytes: &[u8]) -> Result<ThinUnit<'a>, ToolRefusal>
-    requires { length bytes.now ≤ INPUT_LIMIT }
-    ensures items { IfOk result (λ unit. items_in bytes.now ≡ Ok (map item_of unit.items.items)) }
-    ensures count { IfOk result (λ unit. vec_len unit.items ≤ INPUT_LIMIT) }
-    ensures refused { (r : _) → IsErrOf result (ToolRefusal.Refused r) → items_in bytes.now ≡ Err r }
-{
-    let fit = read_fit(alloc, bump, bytes)?;
-    match thin(alloc, fit.unit().items)? {
-        Some(unit) => Ok(unit),
-        None => Err(NOT_BUILT),
-    }
-}
-
-// The lines of items that are a unit.
-#[tactic(auto, unfolding(crate::specs::Checks::judged_items, crate::specs::Limits::is_thin_unit))]
-fn judge_items(
-    alloc: Global,
-    bytes: &[u8],
-    items: &[ThinItem<'_>],
-) -> Result<UnitLines, ToolRefusal>
-    requires { length items.now ≤ INPUT_LIMIT }
-    ensures lines { IfOk result (λ lines. judged_items bytes.now (map item_of items.now) ≡ Ok (warned_of lines)) }
-    ensures refused { (r : _) → IsErrOf result (ToolRefusal.Refused r) → judged_items bytes.now (map item_of items.now) ≡ Err r }
-{
-    let Some(program) = resolve(alloc, bytes, items)? else {
-        return Err(NOT_BUILT);
-    };
-    if !items_are_within(items) {
-        return Err(NOT_BUILT);
-    }
-    let starts = LineStarts::new(alloc, bytes)?;
-    let unit = UnitText {
-        bytes,
-        starts: &starts,
-        items,
-        structs: &program.structs,
-    };
-    match warn(alloc, &unit, &program.bodies)? {
-        Some(lines) => Ok(lines),
-        None => Err(NOT_BUILT),
-    }
-}
-
-/// The lines of the warnings of an input of at most `INPUT_LIMIT` bytes, or the first refusal in the order of the
-/// stages.
-#[tactic(auto, unfolding(crate::specs::Checks::warned_in))]
-pub fn check_unit(alloc: Global, bytes: &[u8]) -> Result<UnitLines, ToolRefusal>
-    requires { length bytes.now ≤ INPUT_LIMIT }
-    ensures lines { IfOk result (λ lines. warned_in bytes.now ≡ Ok (warned_of lines)) }
-    ensures refused { (r : _) → IsErrOf result (ToolRefusal.Refused r) → warned_in bytes.now ≡ Err r }
-{
-    let bump = Bump::new(alloc);
-    let unit = read_items(alloc, &bump, bytes)?;
-    judge_items(alloc, bytes, &unit.items)
+    let fit = fit_of(alloc, typed, &places)?;
+    Ok(Ready { fit, places })
 }

@@ -1,36 +1,32 @@
-//! Laws of thin trees, of thin units and of the warnings.
+//! Laws of the answers of commands.
 ghost use Rattle.tsa_tool.specs.CheckExamples.{ChecksAreAsWritten};
 ghost use Rattle.tsa_tool.specs.PrintedAgain.{PrintedIsPrintedAgain};
-ghost use Rattle.tsa_tool.specs.ThinTrees.{ThinTreesAreSeen};
-ghost use Rattle.tsa_tool.specs.ThinUnits.{ThinUnitsAreWarnedOf};
-ghost use Rattle.tsa_tool.specs.WarningLaws.{WarningsAreTheFailingPremises};
+ghost use Rattle.tsa_tool.specs.Reports.{OneReportIsRight};
+ghost use Rattle.tsa_tool.specs.Units.{AcceptedUnitsBreakNoRule, TextsAreRefusedByWhatFailsFirst};
 
-/// What is computed of a tree is exactly the items of the thin language whose forms it has, both ways.
-#[tactic(auto, using(crate::proofs::ThinLaw::trees_law))]
-pub fn thin_trees_are_seen()
-    ensures { ThinTreesAreSeen }
+/// There is one report at most for each command and input.
+#[tactic(auto, using(crate::proofs::OneReport::one_report))]
+pub fn one_report_is_right()
+    ensures { OneReportIsRight }
 {}
 
-/// What `check` warns of is exactly the thin units: their tokens are a unit of thin items, of which no premise of types or
-/// of the profile fails, each item may stand after those before it, and no limit is passed. Any other text is refused by
-/// its first bad byte, by its syntax, by the first premise of types that fails, by its places, by the first premise or
-/// limit of the profile, or as not built exactly where it is a unit that none of these refuses.
-#[tactic(auto, using(crate::proofs::ThinLaw::thin_law))]
-pub fn thin_units_are_warned_of()
-    ensures { ThinUnitsAreWarnedOf }
+/// Where `check` answers `accepted`, the text is a unit of right types, in the profile and within the limits, of which no rule fails at any point of any
+/// function for any path, on any walk.
+#[tactic(auto, using(crate::proofs::Accepted::accepted_units))]
+pub fn accepted_units_break_no_rule()
+    ensures { AcceptedUnitsBreakNoRule }
 {}
 
-/// Texts of each kind are answered as they are written: one for each kind of refusal, and one for each way to write what
-/// leaves no node.
+/// A unit that is fit is judged, and another text is refused by what fails first, in the order of the stages.
+#[tactic(auto, using(crate::proofs::Fitting::what_fails_first))]
+pub fn texts_are_refused_by_what_fails_first()
+    ensures { TextsAreRefusedByWhatFailsFirst }
+{}
+
+/// Texts of each kind are refused as they are written.
 #[tactic(auto, using(crate::proofs::CheckExamples::checks_are_as_written))]
 pub fn checks_are_as_written()
     ensures { ChecksAreAsWritten }
-{}
-
-/// The warnings of a body are exactly the premises that fail on some walk, in order, each once.
-#[tactic(auto, using(crate::proofs::WarningLaw::warnings_law))]
-pub fn warnings_are_the_failing_premises()
-    ensures { WarningsAreTheFailingPremises }
 {}
 
 /// What `print` writes is printed again as the same bytes, where it is taken as an input.

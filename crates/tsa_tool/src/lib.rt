@@ -5,24 +5,11 @@ mod answer;
 mod ask;
 mod check;
 mod command;
-mod judge;
 mod laws;
-mod limits;
-mod lines;
-mod names;
-mod paths;
-mod pieces;
-mod program;
-mod rules;
-mod scope;
-mod steps;
-mod thin;
 mod top;
-mod trees;
-mod warn;
 
 pub use laws::{
-    checks_are_as_written, thin_trees_are_seen, thin_units_are_warned_of,
-    warnings_are_the_failing_premises, what_is_printed_is_printed_again,
+    accepted_units_break_no_rule, checks_are_as_written, one_report_is_right,
+    texts_are_refused_by_what_fails_first, what_is_printed_is_printed_again,
 };
 pub use top::tool;

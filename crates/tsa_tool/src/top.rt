@@ -1,16 +1,15 @@
 //! The top call.
 ghost use Rattle.std.specs.Prelude.{◌≡◌, ◌≤◌, map, string_bytes};
 ghost use Rattle.std.specs.Io.KnownBytes.{Keeps};
-ghost use Rattle.tsa_base.specs.Transfer.{AppendsFront};
 ghost use Rattle.tsa_base.specs.Causes.{Rose};
 ghost use Rattle.tsa_tool.specs.Commands.{command_of};
-ghost use Rattle.tsa_tool.specs.Reports.{report_on, Reads};
-ghost use Rattle.tsa_tool.specs.Runs.{OfInput, IsAnswer, Answers, ReadsItsInput};
+ghost use Rattle.tsa_tool.specs.Reports.{IsReport, Reads};
+ghost use Rattle.tsa_tool.specs.Runs.{OfInput, IsAnswer, Answers, ReadsItsInput, WritesFront};
 
 use crate::ask::{Trouble, ask};
 use crate::command::command_from;
 use std::alloc::Global;
-use tsa_base::{PushTrouble, Sink, Source, write_all};
+use tsa_base::{Sink, Source};
 
 const SOURCE_FAILED: u8 = 4;
 
@@ -34,19 +33,16 @@ pub fn tool<I: Source, O: Sink>(alloc: Global, words: &[String], input: &mut I, 
 
     // The sink failed, or there was no memory: a first part of the report was written.
     ensures write_fault { result ≡ 5 → Rose (O.faults out.old) (O.faults out.new) }
-    ensures write_front { result ≡ 5 → OfInput (I.left input.old) (λ bytes. AppendsFront (O.taken out.old) (O.taken out.new)
-        (report_on (command_of (map string_bytes words.now)) bytes).text) }
-    ensures memory { result ≡ 6 → OfInput (I.left input.old) (λ bytes. AppendsFront (O.taken out.old) (O.taken out.new)
-        (report_on (command_of (map string_bytes words.now)) bytes).text) }
+    ensures write_front { result ≡ 5 → OfInput (I.left input.old) (λ bytes.
+        WritesFront (IsReport (command_of (map string_bytes words.now)) bytes) (O.taken out.old) (O.taken out.new)) }
+    ensures memory { result ≡ 6 → OfInput (I.left input.old) (λ bytes.
+        WritesFront (IsReport (command_of (map string_bytes words.now)) bytes) (O.taken out.old) (O.taken out.new)) }
     ensures statuses { result ≤ 7 }
 {
-    match ask(alloc, command_from(words), input) {
-        Ok(answer) => match write_all(out, &answer.text) {
-            Ok(()) => answer.status.number(),
-            Err(PushTrouble::Failed) => SINK_FAILED,
-            Err(PushTrouble::NoMemory) => NO_MEMORY,
-        },
+    match ask(alloc, command_from(words), input, out) {
+        Ok(status) => status.number(),
         Err(Trouble::SourceFailed) => SOURCE_FAILED,
+        Err(Trouble::SinkFailed) => SINK_FAILED,
         Err(Trouble::NoMemory) => NO_MEMORY,
     }
 }

@@ -1,0 +1,76 @@
+-- A text that is answered by `accepted` is a unit in the profile that breaks no rule.
+use Rattle.std.proofs.Common.{◌≡◌, ◌∙◌, ℕ, Bool, true, false, List, length, Result, Ok, Err, ◌==◌, if◌then◌else◌, nat_lt, eqb-true, refl, sym, ap}
+use Rattle.tsa_base.specs.declared.limits.TheConstants.{INPUT_LIMIT}
+use Rattle.tsa_tree.specs.units.Syntax.{UnitItem}
+use Rattle.tsa_expr.specs.declared.refusal.SyntaxCode.{SyntaxCode}
+use Rattle.tsa_expr.specs.declared.refusal.SyntaxCode.TheVariants.{SY1, AT1, AT2, LM2, LM3, LM5}
+use Rattle.tsa_seen.specs.declared.premise.ProfileCode.{ProfileCode}
+use Rattle.tsa_seen.specs.declared.premise.ProfileCode.TheVariants.{PF1, PF2, PF3, PF4, PF5, PF6, PF7, PF8, PF9, LM4, LM7}
+use Rattle.tsa_report.specs.Warned.{Warned}
+use Rattle.tsa_report.proofs.Quiet.{units_without_lines}
+use Rattle.tsa_tool.specs.Checks.{fit_in}
+use Rattle.tsa_tool.specs.Reports.{IsCheckOf, IsReportBy, OfUnit, Report, accepted, profile_status, refused_report, syntax_status, warned_report}
+use Rattle.tsa_tool.specs.Units.{AcceptedUnitsBreakNoRule, IsAccepted}
+use Rattle.tsa_tool.specs.declared.answer.Status.TheVariants.{Accepted, Warned as Warns}
+use Rattle.tsa_tool.specs.declared.check.Refusal.{Refusal}
+use Rattle.tsa_tool.specs.declared.check.Refusal.TheVariants.{Lex, Syntax, Types, Places, Profile}
+use Rattle.tsa_tool.specs.declared.command.Command.TheVariants.{Check}
+use Rattle.tsa_tool.proofs.Fitting.{it_fits}
+
+-- without lines
+warns : Warns ≡ Accepted → ⊥
+warns wrong = cc
+
+by_count : (w : Warned) (text : List ℕ) (none : Bool) → (w.count == 0) ≡ none → (if none then accepted else record { status = Warns; text = text }).status ≡ Accepted → w.count ≡ 0
+by_count w text true none e = eqb-true w.count 0 none
+by_count w text false some e = absurd (warns e)
+
+none_counted : (w : Warned) → (warned_report w).status ≡ Accepted → w.count ≡ 0
+none_counted w e = by_count w _ (w.count == 0) refl e
+
+-- a refusal
+syntax_refused : (code : SyntaxCode) → syntax_status code ≡ Accepted → ⊥
+syntax_refused SY1 e = cc
+syntax_refused AT1 e = cc
+syntax_refused AT2 e = cc
+syntax_refused LM2 e = cc
+syntax_refused LM3 e = cc
+syntax_refused LM5 e = cc
+
+profile_refused : (code : ProfileCode) → profile_status code ≡ Accepted → ⊥
+profile_refused PF1 e = cc
+profile_refused PF2 e = cc
+profile_refused PF3 e = cc
+profile_refused PF4 e = cc
+profile_refused PF5 e = cc
+profile_refused PF6 e = cc
+profile_refused PF7 e = cc
+profile_refused PF8 e = cc
+profile_refused PF9 e = cc
+profile_refused LM4 e = cc
+profile_refused LM7 e = cc
+
+is_refused : (text : List ℕ) (refusal : Refusal) → (refused_report text refusal).status ≡ Accepted → ⊥
+is_refused text (Lex code byte) e = cc
+is_refused text (Syntax code byte) e = syntax_refused code e
+is_refused text (Types code byte) e = cc
+is_refused text (Places byte) e = cc
+is_refused text (Profile code byte) e = profile_refused code e
+
+module _ (text : List ℕ) (report : Report) (accepts : report.status ≡ Accepted) where
+  by_unit : (r : Result (List UnitItem) Refusal) → fit_in text ≡ r → OfUnit text (IsCheckOf text) r report → IsAccepted text
+  by_unit (Ok items) is (w, (of_w, report_is)) =
+      let fit = it_fits text items is in
+      record {
+        items = items;
+        fit = fit;
+        quiet = units_without_lines text items w fit.typed of_w (none_counted w (sym (ap (λ r. r.status) report_is) ∙ accepts));
+      }
+  by_unit (Err refusal) is report_is = absurd (is_refused text refusal (sym (ap (λ r. r.status) report_is) ∙ accepts))
+
+  by_length : (long : Bool) → IsReportBy long Check text report → IsAccepted text
+  by_length true is = absurd (let wrong = sym (ap (λ r. r.status) is) ∙ accepts in cc)
+  by_length false is = by_unit (fit_in text) refl is
+
+pub accepted_units : AcceptedUnitsBreakNoRule
+accepted_units text report is accepts = by_length text report accepts (nat_lt INPUT_LIMIT (length text)) is
