@@ -32,8 +32,8 @@ fn note_edges(
     put(found, failure)
 }
 
-/// Notes the paths on which edges into a point disagree.
-pub fn note_meeting(
+/// Notes the paths on which edges into a point disagree, path by path.
+fn note_paths(
     found: &mut Vec<RuleFailure>,
     flow: &FunctionFlow<'_>,
     point: u32,
@@ -44,4 +44,18 @@ pub fn note_meeting(
         note_edges(found, flow, point, cap)?;
     }
     Ok(())
+}
+
+/// Notes the paths on which edges into a point disagree, if there are any.
+pub fn note_meeting(
+    found: &mut Vec<RuleFailure>,
+    flow: &FunctionFlow<'_>,
+    point: u32,
+) -> Result<(), NoMemory>
+    ensures { OnOk result ((u : Program) (f : Function) (paths : List Way) → IsFlowOf u f paths flow.now → point < length (points_of f) → Adds (IsOfEdges u f paths point) found.old.items found.new.items) }
+{
+    if flow.all_agree(point) {
+        return Ok(());
+    }
+    note_paths(found, flow, point)
 }

@@ -17,6 +17,13 @@ turned k l a = record {
   effect = λ p q o s among. sym (a.effect p q o s (subst (λ es. Contains es (edge p o q)) (sym a.edges) among));
 }
 
+pub then_alike : (k l m : Course) → Alike k l → Alike l m → Alike k m
+then_alike k l m a b = record {
+  edges = a.edges ∙ b.edges;
+  entry = a.entry ∙ b.entry;
+  effect = λ p q o s among. a.effect p q o s among ∙ b.effect p q o s (subst (λ es. Contains es (edge p o q)) a.edges among);
+}
+
 module _ (k l : Course) (a : Alike k l) where
   leads : (e : Edge) (q : ℕ) → LeadsTo k e q → LeadsTo l e q
   leads entry_edge q h = h

@@ -1,7 +1,7 @@
 pub mod AlikeCourses
-pub mod Flowing
 pub mod Idling
-pub mod PathFlows
+pub mod Flowing
+pub mod Assigning
 pub mod Numbered
 pub mod Beginning
 pub use Rattle.tsa_view.proofs.Controlled

@@ -1,4 +1,5 @@
 pub mod Idle
+pub mod Lanes
 pub mod Flows
 pub mod Numbers
 pub use Rattle.tsa_view.specs.Rows

@@ -1,13 +1,14 @@
 -- Edges are compared one after another.
-use Rattle.std.proofs.Common.{◌≡◌, ◌∙◌, ℕ, ◌^◌, ◌<◌, ◌↔◌, ◌⊎◌, inl, inr, Bool, true, false, List, length, set, refl, sym, ap, subst, true≢false, get_or-set_same, get_or-set_other, length-set}
+use Rattle.std.proofs.Common.{◌≡◌, ◌∙◌, ℕ, ◌+◌, ◌^◌, ◌<◌, ◌≤◌, ◌↔◌, ◌⊎◌, inl, inr, Bool, true, false, List, length, set, refl, sym, ap, subst, arith, true≢false, get_or-set_same, get_or-set_other, length-set, zero, suc, [], ◌∷◌}
+use Rattle.std.specs.List.{list_all}
 use Rattle.std.proofs.Math.Decide.{ℕ_discrete}
+use Rattle.std.proofs.lemmas.List.{set-get_or}
 use Rattle.tsa_rules.specs.declared.status.Status.{Status}
 use Rattle.tsa_rules.specs.declared.statuses.Statuses.{Statuses}
 use Rattle.tsa_rules.specs.Sets.{Has}
-use Rattle.tsa_reach.specs.Agreeing.{Agrees, AreCompared, Differs, IsAlike, IsApart, Lacks}
+use Rattle.tsa_reach.specs.Agreeing.{Agrees, AreCompared, Differs, goes, IsAlike, IsApart, IsLaneCompared, Lacks, stays}
 use Rattle.tsa_reach.proofs.Lacking.{one_lacking, one_member}
-use Rattle.tsa_reach.specs.Fronts.{set_at}
-use Rattle.tsa_reach.specs.Joining.{flag_at}
+use Rattle.tsa_reach.specs.Rows.{flag_at, set_at}
 
 abbrev pub Same : (Status → Type 0) → (Status → Type 0) → Type 0
 Same A B = (s : Status) → A s ↔ B s
@@ -38,9 +39,8 @@ module _ (rows : List Statuses) (block : ℕ) (more : Statuses) (flags : List Bo
   one_agrees o = none_compared (Unit {0}) Leads Brings rows flags (λ e c l t s x y. elim o [ inl empty ↦ absurd (empty t x) | inr same ↦ subst (λ z. Has z s) (ap (set_at rows) (sym l) ∙ sym same) y ])
 
   -- any other
-  pub one_differs : block < length flags → more.bits < 2 ^ 64 → (set_at rows block).bits < 2 ^ 64 → IsApart more (set_at rows block)
-      → AreCompared (Unit {0}) Leads Brings rows flags (set flags block false)
-  one_differs within fits fits' apart = record {
+  pub one_differs : block < length flags → Differs (set_at rows block) (Has more) → AreCompared (Unit {0}) Leads Brings rows flags (set flags block false)
+  one_differs within differs = record {
     long = length-set flags block false;
     kept = λ c f. elim (ℕ_discrete c block) [
       | yes e ↦ absurd (true≢false (sym f ∙ (ap (flag_at (set flags block false)) e ∙ get_or-set_same flags block false true within)))
@@ -51,12 +51,19 @@ module _ (rows : List Statuses) (block : ℕ) (more : Statuses) (flags : List Bo
       | no d ↦ inl (sym (get_or-set_other flags block c false true d) ∙ f)
     ];
   }
-    where
-      differs : Differs (set_at rows block) (Has more)
-      differs inside =
-          let some = one_member more apart.0 in
-          let other = one_lacking more (set_at rows block) fits fits' inside apart.1 in
-          record { brought = some.0; brings = some.1; lacked = other.0; has = other.1.0; lacks = other.1.1 }
+
+  -- by the flag that comes of it
+  pub one_compared : block < length flags → (new : Bool) → IsLaneCompared more (set_at rows block) (flag_at flags block) new
+      → AreCompared (Unit {0}) Leads Brings rows flags (set flags block new)
+  one_compared within new (stays alike same) = subst (AreCompared (Unit {0}) Leads Brings rows flags) (sym (ap (set flags block) same ∙ set-get_or flags block true)) (one_agrees alike)
+  one_compared within new (goes differs lost) = subst (λ f. AreCompared (Unit {0}) Leads Brings rows flags (set flags block f)) (sym lost) (one_differs within differs)
+
+-- a set with some statuses, and not all of another one, differs from it
+pub apart_differs : (more row : Statuses) → more.bits < 2 ^ 64 → row.bits < 2 ^ 64 → IsApart more row → Differs row (Has more)
+apart_differs more row fits fits' apart inside =
+    let some = one_member more apart.0 in
+    let other = one_lacking more row fits fits' inside apart.1 in
+    record { brought = some.0; brings = some.1; lacked = other.0; has = other.1.0; lacks = other.1.1 }
 
 -- some edges, and then some more
 pub and_then : (E F G : Type 0) (leads : E → ℕ → Type 0) (brings : E → Status → Type 0) (leads' : F → ℕ → Type 0) (brings' : F → Status → Type 0) (leads'' : G → ℕ → Type 0) (brings'' : G → Status → Type 0)
@@ -97,3 +104,23 @@ as_others E G leads brings leads'' brings'' rows old new split left first = reco
     | inr x ↦ (let g = left x.0 c x.1.0 in inr (g.0, (g.1.0, differs_as (set_at rows c) (brings x.0) (brings'' g.0) g.1.1 x.1.1)))
   ];
 }
+
+-- lanes are compared one by one
+module _ (sent brought : List Statuses) (old now new : List Bool) (k : ℕ) (done : (l : ℕ) → l < k → IsLaneCompared (set_at sent l) (set_at brought l) (flag_at old l) (flag_at now l))
+    (rest : (l : ℕ) → k ≤ l → flag_at now l ≡ flag_at old l) (elsewhere : (l : ℕ) → (l ≡ k → ⊥) → flag_at new l ≡ flag_at now l)
+    (here : IsLaneCompared (set_at sent k) (set_at brought k) (flag_at old k) (flag_at new k)) where
+  pub lanes_done : (l : ℕ) → l < k + 1 → IsLaneCompared (set_at sent l) (set_at brought l) (flag_at old l) (flag_at new l)
+  lanes_done l less = elim (ℕ_discrete l k) [
+    | yes e ↦ subst (λ m. IsLaneCompared (set_at sent m) (set_at brought m) (flag_at old m) (flag_at new m)) (sym e) here
+    | no other ↦ subst (IsLaneCompared (set_at sent l) (set_at brought l) (flag_at old l)) (sym (elsewhere l other)) (done l (omega (arith, less, other)))
+  ]
+
+  pub lanes_rest : (l : ℕ) → k + 1 ≤ l → flag_at new l ≡ flag_at old l
+  lanes_rest l low = elsewhere l (λ e. absurd (omega (arith, e, low))) ∙ rest l (omega (arith, low))
+
+-- flags that all hold
+pub flags_there : (flags : List Bool) → list_all (λ bit. bit) flags ≡ true → (lane : ℕ) → flag_at flags lane ≡ true
+flags_there [] all lane = refl
+flags_there (true ∷ flags) all zero = refl
+flags_there (true ∷ flags) all (suc lane) = flags_there flags all lane
+flags_there (false ∷ flags) all lane = absurd (true≢false (sym all))

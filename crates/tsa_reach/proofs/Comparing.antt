@@ -14,14 +14,11 @@ use Rattle.tsa_rules.specs.declared.case.Case.{Case}
 use Rattle.tsa_rules.specs.declared.status.Status.{Status}
 use Rattle.tsa_rules.specs.declared.statuses.Statuses.{Statuses}
 use Rattle.tsa_rules.specs.Sets.{Has, IsImage}
-use Rattle.tsa_reach.specs.declared.images.Left.{Left}
 use Rattle.tsa_reach.specs.Agreeing.{Agrees, AreArrivalsCompared, AreExitsCompared, Arrival, at_entry, brings_by, by_exit, IsBlockCompared, IsOneCompared, leads_by}
-use Rattle.tsa_reach.specs.Changes.{effect_by, IsLeft}
-use Rattle.tsa_reach.specs.Courses.{Carried, Leaves, leaving}
-use Rattle.tsa_reach.specs.Fronts.{set_at}
+use Rattle.tsa_reach.specs.Courses.{Leaves, leaving}
+use Rattle.tsa_reach.specs.Passing.{IsCarried}
+use Rattle.tsa_reach.specs.Rows.{set_at}
 use Rattle.tsa_reach.specs.Joining.{IsInPlace}
-use Rattle.tsa_reach.specs.Stops.{AreStopsFrom}
-use Rattle.tsa_reach.proofs.Changed.{makes}
 use Rattle.tsa_reach.proofs.Compared.{and_then, as_others, none_compared, Same}
 use Rattle.tsa_reach.proofs.Slots.{one_there}
 
@@ -72,20 +69,17 @@ module _ (cases : ℕ → Case) (blocks : Blocks) (number : ℕ) (rows : List St
       (λ e c l. absurd (other e.0 l.0.is_there l.0.stands))
 
   -- the exits of one that is
-  pub block_compared : (b : Block) → IsInPlace blocks number b → (stops : List ℕ) (left : Left) → IsLeft cases b stops (set_at rows number) left → AreStopsFrom cases b 0 stops → (old new : List Bool)
-      → AreExitsCompared (effect_by left.change) left.last b.exits.items rows old new → IsBlockCompared cases blocks number rows old new
-  block_compared b h stops left is are old new =
+  pub block_compared : (b : Block) → IsInPlace blocks number b → (last : Statuses) → IsCarried cases b (set_at rows number) (last_in b) last → (old new : List Bool)
+      → AreExitsCompared (leaving cases b) last b.exits.items rows old new → IsBlockCompared cases blocks number rows old new
+  block_compared b h last gets old new =
       as_others Exit (Block × Exit) (λ x c. Contains b.exits.items x × (x.to ≡ c)) Brings (λ e c. IsInPlace blocks number e.0 × (Contains e.0.exits.items e.1 × (e.1.to ≡ c)))
       (λ e s. Leaves cases e.0 (set_at rows number) (outcome_of e.1.outcome) s) rows old new split back
     where
       Brings : Exit → Status → Type 0
-      Brings x s = IsImage (effect_by left.change (outcome_of x.outcome)) left.last s
+      Brings x s = IsImage (leaving cases b (outcome_of x.outcome)) last s
 
       makes_it : (x : Exit) → Same (Brings x) (Leaves cases b (set_at rows number) (outcome_of x.outcome))
-      makes_it x s = (λ y. (y.0, ((is.gets are y.0).0 y.1.0, sym (makes (cases (point_in b (last_in b))) left.last left.change (is.makes are) (outcome_of x.outcome) y.0 y.1.0) ∙ y.1.1)), λ y. back_to y.0 y.1.0 y.1.1)
-        where
-          back_to : (t : Status) → Carried cases b (set_at rows number) (last_in b) t → leaving cases b (outcome_of x.outcome) t ≡ s → Brings x s
-          back_to t carried e = let has = (is.gets are t).1 carried in (t, (has, makes (cases (point_in b (last_in b))) left.last left.change (is.makes are) (outcome_of x.outcome) t has ∙ e))
+      makes_it x s = (λ y. (y.0, ((gets y.0).0 y.1.0, y.1.1)), λ y. (y.0, ((gets y.0).1 y.1.0, y.1.1)))
 
       split : (e : Block × Exit) (c : ℕ) → IsInPlace blocks number e.0 × (Contains e.0.exits.items e.1 × (e.1.to ≡ c))
           → (x : Exit) × ((Contains b.exits.items x × (x.to ≡ c)) × Same (Leaves cases e.0 (set_at rows number) (outcome_of e.1.outcome)) (Brings x))

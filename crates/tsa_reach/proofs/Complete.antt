@@ -15,7 +15,7 @@ use Rattle.tsa_rules.specs.Sets.{Has}
 use Rattle.tsa_rules.specs.declared.status.Status.{Status}
 use Rattle.tsa_rules.specs.Walks.{ReachAt}
 use Rattle.tsa_reach.specs.Courses.{Carried, leaving}
-use Rattle.tsa_reach.specs.Fronts.{set_at}
+use Rattle.tsa_reach.specs.Rows.{set_at}
 use Rattle.tsa_reach.specs.Joining.{IsInPlace}
 use Rattle.tsa_reach.specs.Turns.{AreClosed, AreOpen, AreSound, HaveBegun, IsClosedBy}
 use Rattle.tsa_reach.proofs.Slots.{one_there}

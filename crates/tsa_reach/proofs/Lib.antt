@@ -1,10 +1,13 @@
 pub mod Slots
 pub mod Lacking
-pub mod Plain
-pub mod Passing
-pub mod Picking
-pub mod Changed
+pub mod Taking
+pub mod Grids
+pub mod Paid
+pub mod Still
+pub mod Pending
+pub mod Carrying
 pub mod Joined
+pub mod Spreading
 pub mod Stepped
 pub mod Turning
 pub mod Standing

@@ -15,12 +15,11 @@ use Rattle.tsa_rules.specs.declared.status.Status.{Status}
 use Rattle.tsa_rules.specs.declared.statuses.Statuses.{Statuses}
 use Rattle.tsa_rules.specs.Sets.{Has}
 use Rattle.tsa_rules.specs.Walks.{Agree, along, Edge, edge_from, entry_edge, IsReached, IsWalk, Reach, ReachAt}
-use Rattle.tsa_reach.specs.declared.joins.Joins.{Joins}
 use Rattle.tsa_reach.specs.Agreeing.{Agrees, AreArrivalsCompared, Arrival, at_entry, brings_by, by_exit, Differs, leads_by}
 use Rattle.tsa_reach.specs.Courses.{Carried, Leaves}
 use Rattle.tsa_reach.specs.Disagreeing.{Disagree}
-use Rattle.tsa_reach.specs.Fronts.{set_at}
-use Rattle.tsa_reach.specs.Joining.{AreJoined, flag_at, IsInPlace}
+use Rattle.tsa_reach.specs.Joining.{AreJoined, IsInPlace}
+use Rattle.tsa_reach.specs.Rows.{flag_at, set_at}
 use Rattle.tsa_reach.proofs.Slots.{all_there, one_there}
 use Rattle.tsa_reach.proofs.Standing.{at_place, exact_along, first_stands, not_entered, only_from, is_passed, same_block, same_index}
 use Rattle.tsa_reach.proofs.Stepped.{at_start, walks}
@@ -203,10 +202,10 @@ module _ (n : ℕ) (es : List control.Edge) (entry : Status) (cases : ℕ → Ca
               absurd (x.lacks (agree x.one x.other x.status x.brings x.reached))
 
     -- what is worked out is what walks bring
-    pub all_joined : (joins : Joins) (first : List Bool) → joins.rows.items ≡ rows → ((i : ℕ) → flag_at first i ≡ true)
-        → AreArrivalsCompared entry cases r (length r.blocks.items) rows first joins.agreeing.items → AreJoined (walks es entry cases) r joins
-    all_joined joins first same begun compared = record {
-      sets = λ c b h s. subst (λ ys. Has (set_at ys c) s ↔ ReachAt (walks es entry cases) (point_in b 0) s) (sym same) (exact c b h s);
-      agrees = λ c b h. agrees_first (length r.blocks.items) (omega arith) c b h first joins.agreeing.items begun compared;
-      disagrees = λ c b h. disagrees_first (length r.blocks.items) (omega arith) c b h first joins.agreeing.items begun compared;
+    pub all_joined : (flags first : List Bool) → ((i : ℕ) → flag_at first i ≡ true) → AreArrivalsCompared entry cases r (length r.blocks.items) rows first flags
+        → AreJoined (walks es entry cases) r rows flags
+    all_joined flags first begun compared = record {
+      sets = exact;
+      agrees = λ c b h. agrees_first (length r.blocks.items) (omega arith) c b h first flags begun compared;
+      disagrees = λ c b h. disagrees_first (length r.blocks.items) (omega arith) c b h first flags begun compared;
     }

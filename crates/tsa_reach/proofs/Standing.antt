@@ -1,5 +1,5 @@
 -- Where the points of a block stand, and which edges lead into them.
-use Rattle.std.proofs.Common.{◌≡◌, ◌∙◌, ℕ, zero, suc, ◌+◌, ◌<◌, ◌≤◌, ◌↔◌, List, [], Contains, get_or, Some, slice_get, sym, ap, subst, arith, add-one}
+use Rattle.std.proofs.Common.{◌≡◌, ◌∙◌, ℕ, zero, suc, ◌+◌, ◌<◌, ◌≤◌, ◌↔◌, List, Contains, Some, slice_get, sym, ap, subst, arith, add-one}
 use Rattle.std.proofs.lemmas.List.Elements.{All-contains}
 use Rattle.tsa_core.specs.Control.{Edge, edge, Outcome}
 use Rattle.tsa_blocks.specs.declared.blocks.Block.{Block}
@@ -13,10 +13,9 @@ use Rattle.tsa_rules.specs.Sets.{Has}
 use Rattle.tsa_rules.specs.declared.status.Status.{Status}
 use Rattle.tsa_rules.specs.Walks.{ReachAt}
 use Rattle.tsa_reach.specs.Courses.{Carried}
-use Rattle.tsa_reach.specs.Fronts.{set_at}
+use Rattle.tsa_reach.specs.Rows.{set_at}
 use Rattle.tsa_reach.specs.Joining.{IsInPlace}
-use Rattle.tsa_reach.specs.Stops.{AreStops, AreStopsFrom}
-use Rattle.tsa_reach.proofs.Slots.{all_there, one_there, stops_at}
+use Rattle.tsa_reach.proofs.Slots.{all_there, one_there}
 use Rattle.tsa_reach.proofs.Stepped.{at_entry, by_edge, LastEdge, last_edge, carried_sound, walks}
 
 pub same_index : {c d i j : ℕ} → place c i ≡ place d j → i ≡ j
@@ -120,12 +119,12 @@ module _ (n : ℕ) (es : List Edge) (r : Blocks) (are : AreBlocksOf n es r) wher
 
   -- what is worked out along a block from exact sets is what walks bring to a point
   pub exact_at : (entry : Status) (cases : ℕ → Case) (rows : List Statuses) → ((c : ℕ) (b : Block) → IsInPlace r c b → (s : Status) → Has (set_at rows c) s ↔ ReachAt (walks es entry cases) (point_in b 0) s)
-      → (stops : List (List ℕ)) → AreStops cases r.blocks.items stops → (p : ℕ) (at : Place) (out : Statuses) → slice_get r.places.items p ≡ Some at
-      → ((b : Block) → slice_get r.blocks.items at.block ≡ Some b → AreStopsFrom cases b 0 (get_or stops at.block []) → at.index ≤ last_in b → (s : Status) → Has out s ↔ Carried cases b (set_at rows at.block) at.index s)
+      → (p : ℕ) (at : Place) (out : Statuses) → slice_get r.places.items p ≡ Some at
+      → ((b : Block) → slice_get r.blocks.items at.block ≡ Some b → at.index ≤ last_in b → (s : Status) → Has out s ↔ Carried cases b (set_at rows at.block) at.index s)
       → (s : Status) → Has out s ↔ ReachAt (walks es entry cases) p s
-  exact_at entry cases rows sets stops st p at out hp told s =
+  exact_at entry cases rows sets p at out hp told s =
       let x = are.stands p at hp in
       let stands : IsInPlace r at.block x.block = first_stands at.block at.index x.block x.is_there x.index (subst (λ q. slice_get r.places.items q ≡ Some at) (sym x.point_is) hp) in
       let along = exact_along entry cases at.block x.block (set_at rows at.block) stands (sets at.block x.block stands) at.index x.index s in
-      let here = told x.block x.is_there (stops_at cases r.blocks.items stops at.block x.block st x.is_there) x.index s in
+      let here = told x.block x.is_there x.index s in
       subst (λ q. Has out s ↔ ReachAt (walks es entry cases) q s) x.point_is (λ h. along.0 (here.0 h), λ h. here.1 (along.1 h))

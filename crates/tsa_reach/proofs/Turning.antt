@@ -1,10 +1,8 @@
 -- A block is worked out: what then waits, and what is known of the sets.
-use Rattle.std.proofs.Common.{◌≡◌, ◌∙◌, ℕ, ◌<◌, ◌↔◌, inl, inr, List, [], ◌∷◌, ◌++◌, length, get_or, All, Contains, Some, slice_get, refl, sym, subst, arith}
+use Rattle.std.proofs.Common.{◌≡◌, ℕ, inl, inr, List, [], ◌∷◌, ◌++◌, All, Contains, Some, slice_get, sym, subst, arith}
 use Rattle.std.proofs.Math.Decide.{ℕ_discrete}
-use Rattle.std.proofs.lemmas.List.{get_or_default}
-use Rattle.std.proofs.lemmas.Option.{slice_get_read}
 use Rattle.std.proofs.lemmas.List.Elements.{All-contains, All-weaker, Contains-push_cases}
-use Rattle.tsa_core.specs.Control.{Edge, Outcome}
+use Rattle.tsa_core.specs.Control.{Edge}
 use Rattle.tsa_links.specs.Links.{outcome_of}
 use Rattle.tsa_blocks.specs.declared.blocks.Block.{Block}
 use Rattle.tsa_blocks.specs.declared.blocks.Exit.{Exit}
@@ -14,48 +12,22 @@ use Rattle.tsa_rules.specs.declared.statuses.Statuses.{Statuses}
 use Rattle.tsa_rules.specs.Sets.{Has}
 use Rattle.tsa_rules.specs.declared.status.Status.{Status}
 use Rattle.tsa_rules.specs.Walks.{ReachAt}
-use Rattle.tsa_reach.specs.declared.images.Left.{Left}
-use Rattle.tsa_reach.specs.Changes.{effect_by, IsLeft}
 use Rattle.tsa_reach.specs.Courses.{Carried, leaving}
-use Rattle.tsa_reach.specs.Fronts.{IsBrought, no_statuses, set_at, WorkedOut}
-use Rattle.tsa_reach.specs.Stops.{AreStops, AreStopsFrom}
+use Rattle.tsa_reach.specs.Fronts.{IsBrought}
+use Rattle.tsa_reach.specs.Rows.{set_at}
 use Rattle.tsa_reach.specs.Turns.{AreOpen, AreSound, IsClosedBy, IsTurn}
-use Rattle.tsa_reach.proofs.Changed.{makes}
-use Rattle.tsa_reach.proofs.Slots.{all_there, one_there, stops_at}
+use Rattle.tsa_reach.proofs.Slots.{all_there, one_there}
 use Rattle.tsa_reach.proofs.Stepped.{carried_sound, one_edge_more, walks}
 
--- the parts of a turn
-pub turn_of : (cases : ℕ → Case) (blocks : List Block) (stops : List (List ℕ)) (number : ℕ) (old new : List Statuses) (work work' : List ℕ) (block : Block) (at : List ℕ) (set : Statuses) (left : Left) (exits : List Exit)
-    → number < length blocks → number < length old → block ≡ get_or blocks number block → at ≡ get_or stops number [] → set ≡ get_or old number set → IsLeft cases block at set left
-    → exits ≡ block.exits.items → WorkedOut (effect_by left.change) left.last exits old new work work' → IsTurn cases blocks stops number old new work work'
-turn_of cases blocks stops number old new work work' block at set left exits within inside is found has leaves same out = record {
-  block = block;
-  is_there = slice_get_read blocks (length blocks) number block refl within is;
-  left = left;
-  is_left = subst (λ xs. IsLeft cases block xs (set_at old number) left) found (subst (λ z. IsLeft cases block at z left) (has ∙ get_or_default old number set no_statuses inside) leaves);
-  out = subst (λ xs. WorkedOut (effect_by left.change) left.last xs old new work work') same out;
-}
-
-module _ (cases : ℕ → Case) (blocks : List Block) (stops : List (List ℕ)) (number : ℕ) (old new : List Statuses) (work work' : List ℕ) (turn : IsTurn cases blocks stops number old new work work') (are : AreStops cases blocks stops) where
+module _ (cases : ℕ → Case) (blocks : List Block) (number : ℕ) (old new : List Statuses) (work work' : List ℕ) (turn : IsTurn cases blocks number old new work work') (keeps : (c : ℕ) → Contains work c → Contains work' c) where
   abbrev b : Block
   b = turn.block
 
-  here : AreStopsFrom cases b 0 (get_or stops number [])
-  here = stops_at cases blocks stops number b are turn.is_there
-
-  gets : (s : Status) → Has turn.left.last s ↔ Carried cases b (set_at old number) (last_in b) s
-  gets = turn.is_left.gets here
-
-  makes_it : (o : Outcome) (s : Status) → Has turn.left.last s → effect_by turn.left.change o s ≡ leaving cases b o s
-  makes_it = makes (cases (point_in b (last_in b))) turn.left.last turn.left.change (turn.is_left.makes here)
-
   -- the block itself, where its own set stays
   closed_here : set_at new number ≡ set_at old number → IsClosedBy cases b (set_at new number) new
-  closed_here same = All-weaker (λ x. (s : Status) → Has turn.left.last s → Has (set_at new x.to) (effect_by turn.left.change (outcome_of x.outcome) s)) (λ x. (s : Status) → Carried cases b (set_at new number) (last_in b) s → Has (set_at new x.to) (leaving cases b (outcome_of x.outcome) s)) (λ x h s y. taken x h s ((gets s).1 (subst (λ r. Carried cases b r (last_in b) s) same y))) b.exits.items turn.out.takes
-    where
-      taken : (x : Exit) → ((s : Status) → Has turn.left.last s → Has (set_at new x.to) (effect_by turn.left.change (outcome_of x.outcome) s))
-          → (s : Status) → Has turn.left.last s → Has (set_at new x.to) (leaving cases b (outcome_of x.outcome) s)
-      taken x h s z = subst (Has (set_at new x.to)) (makes_it (outcome_of x.outcome) s z) (h s z)
+  closed_here same = All-weaker (λ x. (s : Status) → Has turn.last s → Has (set_at new x.to) (leaving cases b (outcome_of x.outcome) s))
+      (λ x. (s : Status) → Carried cases b (set_at new number) (last_in b) s → Has (set_at new x.to) (leaving cases b (outcome_of x.outcome) s))
+      (λ x h s y. h s ((turn.gets s).1 (subst (λ r. Carried cases b r (last_in b) s) same y))) b.exits.items turn.out.takes
 
   -- another block, where its set stays
   closed_still : (c : ℕ) (d : Block) → set_at new c ≡ set_at old c → IsClosedBy cases d (set_at old c) old → IsClosedBy cases d (set_at new c) new
@@ -67,7 +39,7 @@ module _ (cases : ℕ → Case) (blocks : List Block) (stops : List (List ℕ)) 
     | inl same ↦ elim (ℕ_discrete c number) [
       | yes e ↦ inr (own e same)
       | no e ↦ elim (before c d at) [
-        | inl m ↦ inl (turn.out.keeps c (elim (Contains-push_cases work number c m) [ inl x ↦ x | inr x ↦ absurd (e (sym x)) ]))
+        | inl m ↦ inl (keeps c (elim (Contains-push_cases work number c m) [ inl x ↦ x | inr x ↦ absurd (e (sym x)) ]))
         | inr h ↦ inr (closed_still c d same h)
       ]
     ]
@@ -83,18 +55,18 @@ module _ (cases : ℕ → Case) (blocks : List Block) (stops : List (List ℕ)) 
       → AreSound (walks es entry cases) blocks old → AreSound (walks es entry cases) blocks new
   sound_on n es entry runs exits before c d at s h = elim (turn.out.only c s h) [ inl x ↦ before c d at s x | inr x ↦ brought x ]
     where
-      last : (t : Status) → Has turn.left.last t → ReachAt (walks es entry cases) (point_in b (last_in b)) t
+      last : (t : Status) → Has turn.last t → ReachAt (walks es entry cases) (point_in b (last_in b)) t
       last t y =
           carried_sound es entry cases n b (set_at old number) (all_there (IsRun n es) blocks number b runs turn.is_there) (before number b turn.is_there) (last_in b) (omega arith) t
-          ((gets t).0 y)
+          ((turn.gets t).0 y)
 
       leads : (x : Exit) → Contains b.exits.items x → LeadsOn es blocks b x
       leads x m = All-contains (LeadsOn es blocks b) b.exits.items x (all_there (λ y. All (LeadsOn es blocks y) y.exits.items) blocks number b exits turn.is_there) m
 
-      brought : IsBrought (effect_by turn.left.change) turn.left.last b.exits.items c s → ReachAt (walks es entry cases) (point_in d 0) s
+      brought : IsBrought (leaving cases b) turn.last b.exits.items c s → ReachAt (walks es entry cases) (point_in d 0) s
       brought x =
           let on = leads x.by x.among in
           let same : on.to ≡ d = one_there blocks c on.to d (subst (λ i. slice_get blocks i ≡ Some on.to) x.leads on.is_there) at in
           subst (λ y. ReachAt (walks es entry cases) (point_in y 0) s) same
-          (subst (ReachAt (walks es entry cases) (point_in on.to 0)) (sym (makes_it (outcome_of x.by.outcome) x.before x.gets) ∙ x.makes)
+          (subst (ReachAt (walks es entry cases) (point_in on.to 0)) x.makes
           (one_edge_more es entry cases (point_in b (last_in b)) (point_in on.to 0) (outcome_of x.by.outcome) x.before on.leads (last x.before x.gets)))

@@ -1,5 +1,5 @@
 -- Edges that are compared with all that is brought where they lead.
-use Rattle.std.specs.Prelude.{ℕ, ◌<◌, ◌≡◌, ◌⊎◌, Bool, true, false, List, Contains, length, Some, slice_get}
+use Rattle.std.specs.Prelude.{ℕ, ◌<◌, ◌≡◌, ◌⊎◌, Bool, true, false, List, All, Contains, length, Some, slice_get}
 use Rattle.tsa_core.specs.Control.{Outcome}
 use Rattle.tsa_links.specs.Links.{outcome_of}
 use Rattle.tsa_blocks.specs.declared.blocks.Block.{Block}
@@ -11,8 +11,8 @@ use Rattle.tsa_rules.specs.declared.status.Status.{Status}
 use Rattle.tsa_rules.specs.declared.statuses.Statuses.{Statuses}
 use Rattle.tsa_rules.specs.Sets.{Has, IsEmpty, IsImage}
 use Rattle.tsa_reach.specs.Courses.{Leaves}
-use Rattle.tsa_reach.specs.Fronts.{set_at}
-use Rattle.tsa_reach.specs.Joining.{flag_at, IsInPlace}
+use Rattle.tsa_reach.specs.Joining.{IsInPlace}
+use Rattle.tsa_reach.specs.Rows.{AreWide, flag_at, set_at}
 
 -- an edge that brings some status brings all of a set
 abbrev pub Agrees : Statuses → (Status → Type 0) → Type 0
@@ -36,6 +36,26 @@ IsApart set brought = (IsEmpty set → ⊥) × (set ≡ brought → ⊥)
 
 abbrev pub IsAlike : (set brought : Statuses) → Type 0
 IsAlike set brought = IsEmpty set ⊎ (set ≡ brought)
+
+-- In a lane of so many the statuses that an edge brings are compared with all that are brought.
+pub data IsLaneCompared (set brought : Statuses) (old new : Bool) : Type 0 where
+  stays : IsAlike set brought → new ≡ old → IsLaneCompared set brought old new
+  goes : Differs brought (Has set) → new ≡ false → IsLaneCompared set brought old new
+
+pub record AreLanesCompared (count : ℕ) (set brought : List Statuses) (old new : List Bool) : Type 0 where
+  pub long : length new ≡ length old
+  pub each : (l : ℕ) → l < count → IsLaneCompared (set_at set l) (set_at brought l) (flag_at old l) (flag_at new l)
+
+-- rows and flags for so many lanes and blocks; and flags that stay as many
+pub record IsSized (count blocks : ℕ) (rows : List (List Statuses)) (flags : List (List Bool)) : Type 0 where
+  pub many_rows : length rows ≡ blocks
+  pub many_flags : length flags ≡ blocks
+  pub wide : AreWide count rows
+  pub flagged : All (λ row. length row ≡ count) flags
+
+pub record AreFlagged (count : ℕ) (old new : List (List Bool)) : Type 0 where
+  pub long : length new ≡ length old
+  pub wide : All (λ row. length row ≡ count) new
 
 -- Some edges are compared: a block keeps its flag where all of them that lead there agree with its set, and loses it only where one differs.
 pub record AreCompared (E : Type 0) (leads : E → ℕ → Type 0) (brings : E → Status → Type 0) (rows : List Statuses) (old new : List Bool) : Type 0 where

@@ -1,25 +1,22 @@
 -- What is worked out of a body is what walks bring to the first points of its blocks, and whether edges agree there.
-use Rattle.std.specs.Prelude.{ℕ, ◌≡◌, ◌↔◌, Bool, true, false, List, Some, slice_get, slice_index_or}
+use Rattle.std.specs.Prelude.{ℕ, ◌≡◌, ◌↔◌, Bool, true, false, List, Some, slice_get}
 use Rattle.tsa_blocks.specs.declared.blocks.Block.{Block}
 use Rattle.tsa_blocks.specs.declared.blocks.Blocks.{Blocks}
 use Rattle.tsa_blocks.specs.Rows.{place, point_in}
 use Rattle.tsa_rules.specs.Sets.{Has}
 use Rattle.tsa_rules.specs.declared.status.Status.{Status}
 use Rattle.tsa_rules.specs.Walks.{Agree, Course, ReachAt}
-use Rattle.tsa_reach.specs.declared.joins.Joins.{Joins}
 use Rattle.tsa_reach.specs.Disagreeing.{Disagree}
-use Rattle.tsa_reach.specs.Fronts.{set_at}
+use Rattle.tsa_rules.specs.declared.statuses.Statuses.{Statuses}
+use Rattle.tsa_reach.specs.Rows.{flag_at, set_at}
 
 -- a block of the body: its first point stands at its beginning
 pub record IsInPlace (blocks : Blocks) (c : ℕ) (b : Block) : Type 0 where
   pub is_there : slice_get blocks.blocks.items c ≡ Some b
   pub stands : slice_get blocks.places.items (point_in b 0) ≡ Some (place c 0)
 
--- whether no edges disagree at a block
-abbrev pub flag_at : List Bool → (block : ℕ) → Bool
-flag_at flags c = slice_index_or flags c true
-
-pub record AreJoined (k : Course) (blocks : Blocks) (joins : Joins) : Type 0 where
-  pub sets : (c : ℕ) (b : Block) → IsInPlace blocks c b → (s : Status) → Has (set_at joins.rows.items c) s ↔ ReachAt k (point_in b 0) s
-  pub agrees : (c : ℕ) (b : Block) → IsInPlace blocks c b → (flag_at joins.agreeing.items c ≡ true) ↔ Agree k (point_in b 0)
-  pub disagrees : (c : ℕ) (b : Block) → IsInPlace blocks c b → flag_at joins.agreeing.items c ≡ false → Disagree k (point_in b 0)
+-- in one lane, by the sets of blocks and their flags
+pub record AreJoined (k : Course) (blocks : Blocks) (rows : List Statuses) (flags : List Bool) : Type 0 where
+  pub sets : (c : ℕ) (b : Block) → IsInPlace blocks c b → (s : Status) → Has (set_at rows c) s ↔ ReachAt k (point_in b 0) s
+  pub agrees : (c : ℕ) (b : Block) → IsInPlace blocks c b → (flag_at flags c ≡ true) ↔ Agree k (point_in b 0)
+  pub disagrees : (c : ℕ) (b : Block) → IsInPlace blocks c b → flag_at flags c ≡ false → Disagree k (point_in b 0)

@@ -1,10 +1,10 @@
+pub mod Rows
 pub mod Courses
-pub mod Stops
-pub mod Behind
-pub mod Changes
+pub mod Passing
 pub mod Fronts
 pub mod Turns
 pub mod Disagreeing
 pub mod Joining
+pub mod Stages
 pub mod Reaching
 pub mod Agreeing

@@ -1,17 +1,17 @@
--- What is worked out of a body for one path is what walks bring to its points.
-use Rattle.std.specs.Prelude.{ℕ, List}
+-- What is worked out of a body in lanes is what walks bring to its points.
+use Rattle.std.specs.Prelude.{ℕ, ◌<◌, List}
 use Rattle.tsa_core.specs.Control.{Edge}
 use Rattle.tsa_blocks.specs.declared.blocks.Blocks.{Blocks}
 use Rattle.tsa_rules.specs.declared.case.Case.{Case}
 use Rattle.tsa_rules.specs.declared.status.Status.{Status}
 use Rattle.tsa_reach.specs.declared.sets.Reached.{Reached}
-use Rattle.tsa_reach.specs.Behind.{AreAllBehind}
 use Rattle.tsa_reach.specs.Courses.{course_by}
 use Rattle.tsa_reach.specs.Joining.{AreJoined}
-use Rattle.tsa_reach.specs.Stops.{AreStops}
+use Rattle.tsa_reach.specs.Rows.{flags_of, lane_of}
+use Rattle.tsa_reach.specs.Stages.{AreStaged}
 
--- by the edges of the body, the status of the path at the entry, and what each point is to the rules for the path
-pub record AreReached (es : List Edge) (entry : Status) (cases : ℕ → Case) (blocks : Blocks) (reached : Reached) : Type 0 where
-  pub stops : AreStops cases blocks.blocks.items reached.stops
-  pub joins : AreJoined (course_by es entry cases) blocks reached.joins
-  pub behind : AreAllBehind cases blocks.blocks.items reached.joins.rows.items reached.stops reached.behind
+-- by the edges of the body, and for each of so many lanes by the status at the entry and by what each point is to the rules
+pub record AreReached (es : List Edge) (count : ℕ) (enters : ℕ → Status) (cases : ℕ → ℕ → Case) (blocks : Blocks) (reached : Reached) : Type 0 where
+  pub joins : (lane : ℕ) → lane < count
+      → AreJoined (course_by es (enters lane) (cases lane)) blocks (lane_of reached.joins.rows.items lane) (flags_of reached.joins.agreeing.items lane)
+  pub stages : (lane : ℕ) → lane < count → AreStaged (cases lane) blocks.blocks.items reached.joins.rows.items lane reached.stages

@@ -1,5 +1,5 @@
 -- What is known of sets of statuses while blocks are worked out one by one.
-use Rattle.std.specs.Prelude.{ℕ, ◌<◌, ◌≡◌, ◌⊎◌, [], List, All, Contains, length, Some, slice_get, slice_index_or}
+use Rattle.std.specs.Prelude.{ℕ, ◌<◌, ◌≡◌, ◌⊎◌, List, All, Contains, length, Some, slice_get}
 use Rattle.tsa_links.specs.Links.{outcome_of}
 use Rattle.tsa_blocks.specs.declared.blocks.Block.{Block}
 use Rattle.tsa_blocks.specs.declared.blocks.Blocks.{Blocks}
@@ -10,27 +10,36 @@ use Rattle.tsa_rules.specs.declared.statuses.Statuses.{Statuses}
 use Rattle.tsa_rules.specs.Sets.{Has}
 use Rattle.tsa_rules.specs.declared.status.Status.{Status}
 use Rattle.tsa_rules.specs.Walks.{Course, ReachAt}
-use Rattle.tsa_reach.specs.declared.images.Left.{Left}
-use Rattle.tsa_reach.specs.Changes.{effect_by, IsLeft}
 use Rattle.tsa_reach.specs.Courses.{Carried, leaving}
-use Rattle.tsa_reach.specs.Fronts.{AreSmall, set_at, WorkedOut}
+use Rattle.tsa_reach.specs.Fronts.{IsPaid, WorkedOut}
+use Rattle.tsa_reach.specs.Passing.{ArePoints, IsCarried}
+use Rattle.tsa_reach.specs.Rows.{AreAllSmall, AreWide, lane_of, set_at}
 
--- the beginning: the block of the first point waits with the status at the entry
+-- rows for so many lanes and blocks, and blocks that wait
+pub record IsReady (count blocks : ℕ) (rows : List (List Statuses)) (work : List ℕ) : Type 0 where
+  pub long : length rows ≡ blocks
+  pub wide : AreWide count rows
+  pub small : AreAllSmall rows
+  pub within : All (λ c. c < blocks) work
+
+-- the beginning in one lane: the block of the first point waits with the status at the entry
 pub record HaveBegun (entry : Status) (blocks : Blocks) (rows : List Statuses) (work : List ℕ) : Type 0 where
-  pub long : length rows ≡ length blocks.blocks.items
-  pub small : AreSmall rows
-  pub within : All (λ c. c < length blocks.blocks.items) work
   pub waits : (at : Place) → slice_get blocks.places.items 0 ≡ Some at → Contains work at.block
   pub begins : (at : Place) → slice_get blocks.places.items 0 ≡ Some at → Has (set_at rows at.block) entry
   pub only : (c : ℕ) (s : Status) → Has (set_at rows c) s → (s ≡ entry) × ((at : Place) × ((slice_get blocks.places.items 0 ≡ Some at) × (at.block ≡ c)))
 
--- one block is worked out
-pub record IsTurn (cases : ℕ → Case) (blocks : List Block) (stops : List (List ℕ)) (number : ℕ) (old new : List Statuses) (work work' : List ℕ) : Type 0 where
+-- one block is worked out in one lane
+pub record IsTurn (cases : ℕ → Case) (blocks : List Block) (number : ℕ) (old new : List Statuses) (work work' : List ℕ) : Type 0 where
   pub block : Block
   pub is_there : slice_get blocks number ≡ Some block
-  pub left : Left
-  pub is_left : IsLeft cases block (slice_index_or stops number []) (set_at old number) left
-  pub out : WorkedOut (effect_by left.change) left.last block.exits.items old new work work'
+  pub last : Statuses
+  pub gets : IsCarried cases block (set_at old number) (last_in block) last
+  pub out : WorkedOut (leaving cases block) last block.exits.items old new work work'
+
+-- and in all lanes
+pub record AreTurned (count points : ℕ) (cases : ℕ → ℕ → Case) (blocks : List Block) (number : ℕ) (old new : List (List Statuses)) (work work' : List ℕ) : Type 0 where
+  pub paid : IsPaid count old new work work'
+  pub lanes : (l : ℕ) → All (ArePoints points) blocks → l < count → IsTurn (cases l) blocks number (lane_of old l) (lane_of new l) work work'
 
 -- what a block makes of a set is in the sets where its exits lead
 abbrev pub IsClosedBy : (ℕ → Case) → Block → Statuses → List Statuses → Type 0

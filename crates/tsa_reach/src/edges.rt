@@ -1,102 +1,133 @@
 //! Whether the edges that lead to a block bring the same statuses there.
-ghost use Rattle.std.specs.Prelude.{◌≡◌, ◌<◌, ℕ, All, length, IfOk, IsFalse, IsTrue};
-ghost use Rattle.tsa_reach.specs.Agreeing.{AreArrivalsCompared, AreExitsCompared, IsAlike, IsApart, IsBlockCompared, IsOneCompared};
-ghost use Rattle.tsa_reach.specs.Changes.{effect_by, IsSmallChange};
-ghost use Rattle.tsa_reach.specs.Joining.{flag_at};
-ghost use Rattle.tsa_reach.specs.Stops.{AreStops};
-ghost use Rattle.tsa_rules.specs.Sets.{HasPlace};
-ghost use Rattle.tsa_rules.specs.declared.case.Case.{Case as PointCase};
+ghost use Rattle.std.specs.Prelude.{◌≡◌, ◌+◌, ◌<◌, ℕ, All, length, IfOk, OnOk, true};
+ghost use Rattle.tsa_reach.specs.Agreeing.{AreArrivalsCompared, AreExitsCompared, AreFlagged, IsBlockCompared, IsOneCompared, IsSized};
+ghost use Rattle.tsa_reach.specs.Courses.{leaving};
+ghost use Rattle.tsa_reach.specs.Passing.{ArePoints};
+ghost use Rattle.tsa_reach.specs.Rows.{flag_at, flags_of, lane_of, set_at};
 
-use crate::cases::Cases;
-use crate::images::{Left, leave};
+use crate::flags::Flags;
+use crate::front::entries;
 use crate::joins::Joins;
+use crate::lanes::Lanes;
+use crate::passing::{along, leave};
 use crate::places::{is_in_place, place_of};
-use crate::stops::Stops;
+use crate::row::Row;
 use std::alloc::Global;
 use tsa_base::NoMemory;
-use tsa_blocks::{Blocks, Exit};
-use tsa_rules::{Status, Statuses};
+use tsa_blocks::{Block, Blocks};
 
-/// Whether an edge brings some statuses, and not all that are brought where it leads.
-fn differs(set: Statuses, brought: Statuses) -> bool
-    ensures yes { IsTrue result → IsApart set brought }
-    ensures no { IsFalse result → IsAlike set brought }
+/// Flags for each block and each lane, which say that no edges disagree so far.
+pub(crate) fn all_agreeing(
+    alloc: Global,
+    blocks: &Blocks,
+    count: u32,
+) -> Result<Vec<Flags>, NoMemory>
+    ensures long { IfOk result (λ grid. length grid.items ≡ length blocks.now.blocks.items) }
+    ensures wide { IfOk result (λ grid. All (λ flags. length flags ≡ count) grid.items) }
+    ensures all { IfOk result (λ grid. (l c : ℕ) → flag_at (flags_of grid.items l) c ≡ true) }
 {
-    !set.is_empty() && set.bits != brought.bits
-}
-
-/// A flag for each block, which says that no edges disagree there so far.
-pub(crate) fn all_agreeing(alloc: Global, blocks: &Blocks) -> Result<Vec<bool>, NoMemory>
-    ensures long { IfOk result (λ flags. length flags.items ≡ length blocks.now.blocks.items) }
-    ensures all { IfOk result (λ flags. (c : ℕ) → IsTrue (flag_at flags.items c)) }
-{
-    let flags = vec![in alloc; true; blocks.blocks.len()]?;
-    Ok(flags)
+    let mut grid = Vec::new(alloc);
+    'each: for _ in 0..blocks.blocks.len() {
+        grid.push(Flags::all(alloc, count)?)?;
+    }
+    Ok(grid)
 }
 
 impl Joins {
     /// Compares the statuses that an edge brings to a block with all that are brought there.
-    fn compare(&mut self, block: u32, set: Statuses)
-        requires { block < length self.old.agreeing.items }
+    fn compare(&mut self, count: u32, block: u32, set: &Row)
+        requires sized { (blocks : ℕ) × IsSized count blocks self.old.rows.items self.old.agreeing.items }
+        requires block { block < length self.old.agreeing.items }
         ensures rows { self.new.rows.items ≡ self.old.rows.items }
-        ensures flags { IsOneCompared block set self.old.rows.items self.old.agreeing.items self.new.agreeing.items }
+        ensures wide { AreFlagged count self.old.agreeing.items self.new.agreeing.items }
+        ensures flags { (lane : ℕ) → lane < count → IsOneCompared block (set_at set.now lane) (lane_of self.old.rows.items lane) (flags_of self.old.agreeing.items lane) (flags_of self.new.agreeing.items lane) }
     {
-        if differs(set, self.row(block as usize)) {
-            self.agreeing[block as usize] = false;
-        }
+        let at = block as usize;
+        self.agreeing[at].compare(count, set, &self.rows[at]);
     }
 
     /// Compares what the exits of a block bring.
-    fn compare_exits(&mut self, left: &Left, exits: &[Exit])
-        requires small { IsSmallChange left.now.change }
-        requires exits { All (λ x. x.to < length self.old.agreeing.items) exits.now }
-        ensures rows { self.new.rows.items ≡ self.old.rows.items }
-        ensures flags { AreExitsCompared (effect_by left.now.change) left.now.last exits.now self.old.rows.items self.old.agreeing.items self.new.agreeing.items }
+    fn compare_exits<L: Lanes>(
+        &mut self,
+        lanes: &L,
+        block: &Block,
+        last: &Row,
+    ) -> Result<(), NoMemory>
+        requires sized { (blocks : ℕ) × IsSized (L.count lanes.now) blocks self.old.rows.items self.old.agreeing.items }
+        requires last { length last.now ≡ L.count lanes.now }
+        requires long { length block.now.points.items ≡ length block.now.inner.items + 1 }
+        requires exits { All (λ x. x.to < length self.old.agreeing.items) block.now.exits.items }
+        ensures rows { OnOk result (self.new.rows.items ≡ self.old.rows.items) }
+        ensures wide { OnOk result (AreFlagged (L.count lanes.now) self.old.agreeing.items self.new.agreeing.items) }
+        ensures flags { OnOk result ((lane : ℕ) → ArePoints (L.points lanes.now) block.now → lane < L.count lanes.now
+            → AreExitsCompared (leaving (L.cases lanes.now lane) block.now) (set_at last.now lane) block.now.exits.items (lane_of self.old.rows.items lane) (flags_of self.old.agreeing.items lane) (flags_of self.new.agreeing.items lane)) }
     {
-        'exits: for exit in exits {
-            self.compare(exit.to, left.image(exit.outcome));
+        'exits: for exit in &block.exits {
+            let set = leave(lanes, block, exit.outcome, last)?;
+            self.compare(lanes.count(), exit.to, &set);
         }
+        Ok(())
     }
 
     /// Compares what a block brings where it leads, if it is one of the body.
-    fn compare_block<C: Cases>(&mut self, cases: &C, blocks: &Blocks, stops: &Stops, number: usize)
-        requires rows { length self.old.rows.items ≡ length blocks.now.blocks.items }
-        requires flags { length self.old.agreeing.items ≡ length blocks.now.blocks.items }
+    fn compare_block<L: Lanes>(
+        &mut self,
+        lanes: &L,
+        blocks: &Blocks,
+        number: usize,
+    ) -> Result<(), NoMemory>
+        requires sized { IsSized (L.count lanes.now) (length blocks.now.blocks.items) self.old.rows.items self.old.agreeing.items }
         requires number { number < length blocks.now.blocks.items }
-        ensures rows { self.new.rows.items ≡ self.old.rows.items }
-        ensures long { length self.new.agreeing.items ≡ length self.old.agreeing.items }
-        ensures flags { AreStops (C.cases cases.now) blocks.now.blocks.items stops.now → IsBlockCompared (C.cases cases.now) blocks.now number self.old.rows.items self.old.agreeing.items self.new.agreeing.items }
+        ensures rows { OnOk result (self.new.rows.items ≡ self.old.rows.items) }
+        ensures wide { OnOk result (AreFlagged (L.count lanes.now) self.old.agreeing.items self.new.agreeing.items) }
+        ensures flags { OnOk result ((lane : ℕ) → All (ArePoints (L.points lanes.now)) blocks.now.blocks.items → lane < L.count lanes.now
+            → IsBlockCompared (L.cases lanes.now lane) blocks.now number (lane_of self.old.rows.items lane) (flags_of self.old.agreeing.items lane) (flags_of self.new.agreeing.items lane)) }
     {
-        if is_in_place(blocks, number) {
-            let block = &blocks.blocks[number];
-            let set = self.rows[number];
-            let left = leave(cases, block, stops.at(number), set);
-            self.compare_exits(&left, &block.exits);
+        if !is_in_place(blocks, number) {
+            return Ok(());
         }
+        let block = &blocks.blocks[number];
+        let mut last = self.rows[number].copy()?;
+        along(lanes, block, &mut last);
+        self.compare_exits(lanes, block, &last)
     }
 
-    /// Compares the status with which the body is entered.
-    fn compare_entry(&mut self, blocks: &Blocks, entry: Status)
-        requires place { HasPlace entry }
-        requires flags { length self.old.agreeing.items ≡ length blocks.now.blocks.items }
-        ensures rows { self.new.rows.items ≡ self.old.rows.items }
-        ensures flags { (cases : ℕ → PointCase) → AreArrivalsCompared entry cases blocks.now 0 self.old.rows.items self.old.agreeing.items self.new.agreeing.items }
+    /// Compares the statuses with which the body is entered.
+    fn compare_entry<L: Lanes>(
+        &mut self,
+        alloc: Global,
+        lanes: &L,
+        blocks: &Blocks,
+    ) -> Result<(), NoMemory>
+        requires sized { IsSized (L.count lanes.now) (length blocks.now.blocks.items) self.old.rows.items self.old.agreeing.items }
+        ensures rows { OnOk result (self.new.rows.items ≡ self.old.rows.items) }
+        ensures wide { OnOk result (AreFlagged (L.count lanes.now) self.old.agreeing.items self.new.agreeing.items) }
+        ensures flags { OnOk result ((lane : ℕ) → lane < L.count lanes.now
+            → AreArrivalsCompared (L.enters lanes.now lane) (L.cases lanes.now lane) blocks.now 0 (lane_of self.old.rows.items lane) (flags_of self.old.agreeing.items lane) (flags_of self.new.agreeing.items lane)) }
     {
+        let set = entries(alloc, lanes)?;
         if let Some(place) = place_of(blocks, 0) {
-            self.compare(place.block, Statuses::only(entry));
+            self.compare(lanes.count(), place.block, &set);
         }
+        Ok(())
     }
 
     /// Compares what all edges of the body bring.
-    pub(crate) fn compare_all<C: Cases>(&mut self, cases: &C, blocks: &Blocks, stops: &Stops)
-        requires rows { length self.old.rows.items ≡ length blocks.now.blocks.items }
-        requires flags { length self.old.agreeing.items ≡ length blocks.now.blocks.items }
-        ensures rows { self.new.rows.items ≡ self.old.rows.items }
-        ensures flags { AreStops (C.cases cases.now) blocks.now.blocks.items stops.now → AreArrivalsCompared (C.enters cases.now) (C.cases cases.now) blocks.now (length blocks.now.blocks.items) self.old.rows.items self.old.agreeing.items self.new.agreeing.items }
+    pub(crate) fn compare_all<L: Lanes>(
+        &mut self,
+        alloc: Global,
+        lanes: &L,
+        blocks: &Blocks,
+    ) -> Result<(), NoMemory>
+        requires sized { IsSized (L.count lanes.now) (length blocks.now.blocks.items) self.old.rows.items self.old.agreeing.items }
+        ensures rows { OnOk result (self.new.rows.items ≡ self.old.rows.items) }
+        ensures flags { OnOk result ((lane : ℕ) → All (ArePoints (L.points lanes.now)) blocks.now.blocks.items → lane < L.count lanes.now
+            → AreArrivalsCompared (L.enters lanes.now lane) (L.cases lanes.now lane) blocks.now (length blocks.now.blocks.items) (lane_of self.old.rows.items lane) (flags_of self.old.agreeing.items lane) (flags_of self.new.agreeing.items lane)) }
     {
-        self.compare_entry(blocks, cases.entry());
+        self.compare_entry(alloc, lanes, blocks)?;
         'each: for number in 0..blocks.blocks.len() {
-            self.compare_block(cases, blocks, stops, number);
+            self.compare_block(lanes, blocks, number)?;
         }
+        Ok(())
     }
 }

@@ -1,128 +1,123 @@
 //! The sets of statuses that are worked out so far, and the blocks whose sets have grown since they were worked out.
-ghost use Rattle.std.specs.Prelude.{◌≡◌, ◌^◌, ◌<◌, ℕ, All, length, slice_set, List, IfOk, OnOk, IsTrue, IsFalse};
+ghost use Rattle.std.specs.Prelude.{◌≡◌, ◌+◌, ◌<◌, ◌↔◌, ℕ, All, length, List, IfOk, OnOk};
 ghost use Rattle.tsa_blocks.specs.Rows.{AreBlocksOf};
 ghost use Rattle.tsa_core.specs.Control.{Edge};
-ghost use Rattle.tsa_reach.specs.Changes.{effect_by, IsSmallChange};
 ghost use Rattle.tsa_reach.specs.Courses.{course_by};
-ghost use Rattle.tsa_reach.specs.Fronts.{HasMore, union, set_at, Waits, WorkedOut};
-ghost use Rattle.tsa_reach.specs.Stops.{AreStops};
-ghost use Rattle.tsa_reach.specs.Turns.{AreClosed, AreOpen, AreSound, HaveBegun, IsTurn};
-ghost use Rattle.tsa_rules.specs.Sets.{HasPlace};
+ghost use Rattle.tsa_reach.specs.Fronts.{AreSpread, HasMore, HasTakenIn};
+ghost use Rattle.tsa_reach.specs.Rows.{AreWide, lane_of, no_statuses, row_at, set_at};
+ghost use Rattle.tsa_reach.specs.Turns.{AreClosed, AreSound, AreTurned, HaveBegun, IsReady};
+ghost use Rattle.tsa_rules.specs.Sets.{Has};
 
-use crate::cases::Cases;
-use crate::images::{Left, leave};
+use crate::lanes::Lanes;
+use crate::passing::{along, leave};
 use crate::places::place_of;
-use crate::stops::Stops;
+use crate::row::Row;
 use std::alloc::Global;
 use tsa_base::NoMemory;
-use tsa_blocks::{Blocks, Exit};
-use tsa_rules::{Status, Statuses};
+use tsa_blocks::{Block, Blocks};
+use tsa_rules::Statuses;
 
-/// The sets of statuses at the first points of blocks, and the blocks that wait since theirs have grown.
+/// The statuses at the first points of blocks, and the blocks that wait since some set of theirs has grown.
 #[derive(Drop)]
 pub struct Front {
-    pub rows: Vec<Statuses>,
+    pub rows: Vec<Row>,
     work: Vec<u32>,
 }
 
-/// Adds statuses to a set, and tells whether it has grown.
-fn join(rows: &mut [Statuses], at: usize, set: Statuses) -> bool
-    requires { at < length rows.old }
-    ensures rows { rows.new ≡ slice_set rows.old at (union (set_at rows.old at) set) }
-    ensures small { (union (set_at rows.old at) set).bits < 2 ^ 64 }
-    ensures same { IsFalse result → union (set_at rows.old at) set ≡ set_at rows.old at }
-    ensures grown { IsTrue result → (set_at rows.old at).bits < (union (set_at rows.old at) set).bits }
-{
-    let before = rows[at].bits;
-    let bits = before | set.bits;
-    rows[at] = Statuses { bits };
-    bits != before
-}
-
-/// As many empty sets as there are blocks.
-fn empty_rows(alloc: Global, blocks: &Blocks) -> Result<Vec<Statuses>, NoMemory>
+/// As many rows without statuses as there are blocks.
+fn empty_rows(alloc: Global, blocks: &Blocks, count: u32) -> Result<Vec<Row>, NoMemory>
     ensures long { IfOk result (λ rows. length rows.items ≡ length blocks.now.blocks.items) }
-    ensures empty { IfOk result (λ rows. (c : ℕ) → set_at rows.items c ≡ record { bits = 0 }) }
+    ensures wide { IfOk result (λ rows. AreWide count rows.items) }
+    ensures none { IfOk result (λ rows. (c l : ℕ) → set_at (row_at rows.items c) l ≡ no_statuses) }
 {
-    let rows = vec![in alloc; Statuses { bits: 0 }; blocks.blocks.len()]?;
+    let mut rows = Vec::new(alloc);
+    'each: for _ in 0..blocks.blocks.len() {
+        rows.push(Row::empty(alloc, count)?)?;
+    }
     Ok(rows)
 }
 
+/// The statuses of all lanes at the function's entry.
+pub(crate) fn entries<L: Lanes>(alloc: Global, lanes: &L) -> Result<Row, NoMemory>
+    ensures long { IfOk result (λ row. length row ≡ L.count lanes.now) }
+    ensures only { IfOk result (λ row. (lane : ℕ) → lane < L.count lanes.now → (s : _) → Has (set_at row lane) s ↔ (s ≡ L.enters lanes.now lane)) }
+{
+    let mut row = Row::empty(alloc, lanes.count())?;
+    'lanes: for lane in 0..lanes.count() {
+        row.put(lane, Statuses::only(lanes.entry(lane)));
+    }
+    Ok(row)
+}
+
 impl Front {
-    /// The beginning: the status at the entry, in the block of the first point, which waits.
-    pub fn new(alloc: Global, blocks: &Blocks, entry: Status) -> Result<Front, NoMemory>
-        requires { HasPlace entry }
-        ensures { IfOk result (λ front. HaveBegun entry blocks.now front.rows.items front.work.items) }
+    /// The statuses at the entry, at the block of the first point.
+    pub fn new<L: Lanes>(alloc: Global, blocks: &Blocks, lanes: &L) -> Result<Front, NoMemory>
+        ensures ready { IfOk result (λ front. IsReady (L.count lanes.now) (length blocks.now.blocks.items) front.rows.items front.work.items) }
+        ensures begun { IfOk result (λ front. (lane : ℕ) → lane < L.count lanes.now → HaveBegun (L.enters lanes.now lane) blocks.now (lane_of front.rows.items lane) front.work.items) }
     {
         let mut front = Front {
-            rows: empty_rows(alloc, blocks)?,
+            rows: empty_rows(alloc, blocks, lanes.count())?,
             work: Vec::new(alloc),
         };
         if let Some(place) = place_of(blocks, 0) {
-            front.take_in(place.block, Statuses::only(entry))?;
+            let entry = entries(alloc, lanes)?;
+            front.take_in(place.block, &entry)?;
         }
         Ok(front)
     }
 
-    /// Takes statuses in at a block, which waits where its set has grown.
-    fn take_in(&mut self, block: u32, set: Statuses) -> Result<(), NoMemory>
-        requires { block < length self.old.rows.items }
-        ensures rows { OnOk result (self.new.rows.items ≡ slice_set self.old.rows.items block (union (set_at self.old.rows.items block) set)) }
-        ensures small { OnOk result ((union (set_at self.old.rows.items block) set).bits < 2 ^ 64) }
-        ensures work { OnOk result (Waits (set_at self.old.rows.items block) (union (set_at self.old.rows.items block) set) block self.old.work.items self.new.work.items) }
+    /// Takes statuses in at a block, lane by lane; it waits where some set has grown.
+    fn take_in(&mut self, block: u32, row: &Row) -> Result<(), NoMemory>
+        requires block { block < length self.old.rows.items }
+        requires long { length (row_at self.old.rows.items block) ≡ length row.now }
+        ensures { OnOk result (HasTakenIn block row.now self.old.rows.items self.new.rows.items self.old.work.items self.new.work.items) }
     {
-        if join(&mut self.rows, block as usize, set) {
+        if self.rows[block as usize].take_in(row) {
             self.work.push(block)?;
         }
         Ok(())
     }
 
-    /// Takes in along the exits of a block what its last point makes of statuses.
-    fn spread(&mut self, left: &Left, exits: &[Exit]) -> Result<(), NoMemory>
-        requires small { IsSmallChange left.now.change }
-        requires exits { All (λ x. x.to < length self.old.rows.items) exits.now }
-        ensures { OnOk result (WorkedOut (effect_by left.now.change) left.now.last exits.now self.old.rows.items self.new.rows.items self.old.work.items self.new.work.items) }
+    /// Takes in along the exits of a block what its last point makes of the statuses there.
+    fn spread<L: Lanes>(&mut self, lanes: &L, block: &Block, last: &Row) -> Result<(), NoMemory>
+        requires wide { AreWide (L.count lanes.now) self.old.rows.items }
+        requires last { length last.now ≡ L.count lanes.now }
+        requires long { length block.now.points.items ≡ length block.now.inner.items + 1 }
+        requires exits { All (λ x. x.to < length self.old.rows.items) block.now.exits.items }
+        ensures { OnOk result (AreSpread (L.count lanes.now) (L.points lanes.now) (L.cases lanes.now) block.now block.now.exits.items last.now self.old.rows.items self.new.rows.items self.old.work.items self.new.work.items) }
     {
-        'exits: for exit in exits {
-            self.take_in(exit.to, left.image(exit.outcome))?;
+        'exits: for exit in &block.exits {
+            let out = leave(lanes, block, exit.outcome, last)?;
+            self.take_in(exit.to, &out)?;
         }
         Ok(())
     }
 
     /// Works out a block by its number.
-    fn turn<C: Cases>(
-        &mut self,
-        cases: &C,
-        blocks: &Blocks,
-        stops: &Stops,
-        number: u32,
-    ) -> Result<(), NoMemory>
+    fn turn<L: Lanes>(&mut self, lanes: &L, blocks: &Blocks, number: u32) -> Result<(), NoMemory>
         requires long { length self.old.rows.items ≡ length blocks.now.blocks.items }
+        requires wide { AreWide (L.count lanes.now) self.old.rows.items }
         requires number { number < length blocks.now.blocks.items }
-        ensures { OnOk result (IsTurn (C.cases cases.now) blocks.now.blocks.items stops.now number self.old.rows.items self.new.rows.items self.old.work.items self.new.work.items) }
+        ensures { OnOk result (AreTurned (L.count lanes.now) (L.points lanes.now) (L.cases lanes.now) blocks.now.blocks.items number self.old.rows.items self.new.rows.items self.old.work.items self.new.work.items) }
     {
         let block = &blocks.blocks[number as usize];
-        let set = self.rows[number as usize];
-        let left = leave(cases, block, stops.at(number as usize), set);
-        self.spread(&left, &block.exits)?;
-        Ok(())
+        let mut last = self.rows[number as usize].copy()?;
+        along(lanes, block, &mut last);
+        self.spread(lanes, block, &last)
     }
 
     /// Works out blocks until none waits.
-    pub fn settle<C: Cases>(
-        &mut self,
-        cases: &C,
-        blocks: &Blocks,
-        stops: &Stops,
-    ) -> Result<(), NoMemory>
-        requires { HaveBegun (C.enters cases.now) blocks.now self.old.rows.items self.old.work.items }
+    pub fn settle<L: Lanes>(&mut self, lanes: &L, blocks: &Blocks) -> Result<(), NoMemory>
+        requires ready { IsReady (L.count lanes.now) (length blocks.now.blocks.items) self.old.rows.items self.old.work.items }
+        requires begun { (lane : ℕ) → lane < L.count lanes.now → HaveBegun (L.enters lanes.now lane) blocks.now (lane_of self.old.rows.items lane) self.old.work.items }
         ensures long { OnOk result (length self.new.rows.items ≡ length blocks.now.blocks.items) }
-        ensures more { OnOk result (HasMore self.old.rows.items self.new.rows.items) }
-        ensures sound { OnOk result ((n : ℕ) (es : List Edge) → AreBlocksOf n es blocks.now → AreStops (C.cases cases.now) blocks.now.blocks.items stops.now → AreSound (course_by es (C.enters cases.now) (C.cases cases.now)) blocks.now.blocks.items self.new.rows.items) }
-        ensures closed { OnOk result (AreStops (C.cases cases.now) blocks.now.blocks.items stops.now → AreClosed (C.cases cases.now) blocks.now.blocks.items self.new.rows.items) }
+        ensures wide { OnOk result (AreWide (L.count lanes.now) self.new.rows.items) }
+        ensures more { OnOk result ((es : List Edge) (lane : ℕ) → AreBlocksOf (L.points lanes.now) es blocks.now → lane < L.count lanes.now → HasMore (lane_of self.old.rows.items lane) (lane_of self.new.rows.items lane)) }
+        ensures sound { OnOk result ((es : List Edge) (lane : ℕ) → AreBlocksOf (L.points lanes.now) es blocks.now → lane < L.count lanes.now → AreSound (course_by es (L.enters lanes.now lane) (L.cases lanes.now lane)) blocks.now.blocks.items (lane_of self.new.rows.items lane)) }
+        ensures closed { OnOk result ((es : List Edge) (lane : ℕ) → AreBlocksOf (L.points lanes.now) es blocks.now → lane < L.count lanes.now → AreClosed (L.cases lanes.now lane) blocks.now.blocks.items (lane_of self.new.rows.items lane)) }
     {
         'waiting: while let Some(number) = self.work.pop() {
-            self.turn(cases, blocks, stops, number)?;
+            self.turn(lanes, blocks, number)?;
         }
         Ok(())
     }

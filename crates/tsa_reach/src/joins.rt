@@ -1,89 +1,74 @@
 //! What walks bring to the first points of blocks.
-ghost use Rattle.std.specs.Prelude.{◌≡◌, ℕ, List, IfOk};
+ghost use Rattle.std.specs.Prelude.{◌≡◌, ◌<◌, ℕ, List, length, true, IfOk, IsTrue};
 ghost use Rattle.tsa_blocks.specs.Rows.{AreBlocksOf};
 ghost use Rattle.tsa_core.specs.Control.{Edge};
-ghost use Rattle.tsa_reach.specs.Behind.{AreAllBehind};
 ghost use Rattle.tsa_reach.specs.Courses.{course_by};
-ghost use Rattle.tsa_reach.specs.Fronts.{set_at};
-ghost use Rattle.tsa_reach.specs.Joining.{AreJoined, flag_at};
-ghost use Rattle.tsa_reach.specs.Stops.{AreStops};
+ghost use Rattle.tsa_reach.specs.Joining.{AreJoined};
+ghost use Rattle.tsa_reach.specs.Rows.{AreWide, flag_at, flags_of, lane_of, set_at};
 
-use crate::behind::{Behind, Passage, sets_behind};
-use crate::cases::Cases;
 use crate::edges::all_agreeing;
+use crate::flags::Flags;
 use crate::front::Front;
-use crate::stops::Stops;
+use crate::lanes::Lanes;
+use crate::row::Row;
 use std::alloc::Global;
 use tsa_base::NoMemory;
 use tsa_blocks::Blocks;
 use tsa_rules::Statuses;
 
-/// What walks bring to the first point of each block: the statuses, and whether all edges that are reached there bring the same.
+/// What walks bring to the first point of each block, lane by lane: the statuses, and whether all edges that are reached there bring the same.
 #[derive(Drop)]
 pub struct Joins {
-    pub(crate) rows: Vec<Statuses>,
-    pub(crate) agreeing: Vec<bool>,
+    pub(crate) rows: Vec<Row>,
+    pub(crate) agreeing: Vec<Flags>,
 }
 
 /// What walks bring to the first points of the blocks of a body.
-pub fn join<C: Cases>(
-    alloc: Global,
-    blocks: &Blocks,
-    cases: &C,
-    stops: &Stops,
-) -> Result<Joins, NoMemory>
-    ensures { IfOk result (λ r. (n : ℕ) (es : List Edge) → AreBlocksOf n es blocks.now → AreStops (C.cases cases.now) blocks.now.blocks.items stops.now → AreJoined (course_by es (C.enters cases.now) (C.cases cases.now)) blocks.now r) }
+pub fn join<L: Lanes>(alloc: Global, blocks: &Blocks, lanes: &L) -> Result<Joins, NoMemory>
+    ensures long { IfOk result (λ r. length r.rows.items ≡ length blocks.now.blocks.items) }
+    ensures wide { IfOk result (λ r. AreWide (L.count lanes.now) r.rows.items) }
+    ensures joined { IfOk result (λ r. (es : List Edge) (lane : ℕ) → AreBlocksOf (L.points lanes.now) es blocks.now → lane < L.count lanes.now
+        → AreJoined (course_by es (L.enters lanes.now lane) (L.cases lanes.now lane)) blocks.now (lane_of r.rows.items lane) (flags_of r.agreeing.items lane)) }
 {
-    let mut front = Front::new(alloc, blocks, cases.entry())?;
-    front.settle(cases, blocks, stops)?;
-    let agreeing = all_agreeing(alloc, blocks)?;
+    let mut front = Front::new(alloc, blocks, lanes)?;
+    front.settle(lanes, blocks)?;
+    let agreeing = all_agreeing(alloc, blocks, lanes.count())?;
     let mut joins = Joins {
         rows: front.rows,
         agreeing,
     };
-    joins.compare_all(cases, blocks, stops);
+    joins.compare_all(alloc, lanes, blocks)?;
     Ok(joins)
 }
 
 impl Joins {
-    /// The statuses at the first point of a block by its number.
-    pub(crate) fn row(&self, block: usize) -> Statuses
-        ensures { result ≡ set_at self.now.rows.items block }
+    /// The statuses of a lane at the first point of a block by its number.
+    pub(crate) fn set(&self, block: u32, lane: u32) -> Statuses
+        ensures { result ≡ set_at (lane_of self.now.rows.items lane) block }
     {
-        match self.rows.get(block) {
-            Some(set) => *set,
+        match self.rows.get(block as usize) {
+            Some(row) => row.at(lane),
             None => Statuses { bits: 0 },
         }
     }
 
-    /// Whether no edges disagree at the first point of a block.
-    pub(crate) fn flag(&self, block: u32) -> bool
-        ensures { result ≡ flag_at self.now.agreeing.items block }
+    /// Whether no edges disagree in a lane at the first point of a block.
+    pub(crate) fn flag(&self, block: u32, lane: u32) -> bool
+        ensures { result ≡ flag_at (flags_of self.now.agreeing.items lane) block }
     {
         match self.agreeing.get(block as usize) {
-            Some(flag) => *flag,
+            Some(flags) => flags.at(lane),
             None => true,
         }
     }
 
-    /// The statuses behind the stops of each block.
-    pub(crate) fn behind<C: Cases>(
-        &self,
-        alloc: Global,
-        blocks: &Blocks,
-        cases: &C,
-        stops: &Stops,
-    ) -> Result<Behind, NoMemory>
-        ensures { IfOk result (λ sets. AreAllBehind (C.cases cases.now) blocks.now.blocks.items self.now.rows.items stops.now sets) }
+    /// Whether no edges disagree in any lane at the first point of a block.
+    pub(crate) fn flags_hold(&self, block: u32) -> bool
+        ensures { IsTrue result → (lane : ℕ) → flag_at (flags_of self.now.agreeing.items lane) block ≡ true }
     {
-        let mut behind = Behind::new(alloc);
-        'each: for number in 0..blocks.blocks.len() {
-            let passage = Passage {
-                stops: stops.at(number),
-                from: self.row(number),
-            };
-            behind.add(sets_behind(alloc, cases, &blocks.blocks[number], passage)?)?;
+        match self.agreeing.get(block as usize) {
+            Some(flags) => flags.hold(),
+            None => true,
         }
-        Ok(behind)
     }
 }

@@ -1,16 +1,16 @@
-//! The statuses that walks bring to the points of a body, for one path.
+//! The statuses that walks bring to the points of a body, for several paths at once.
 #![tactic(auto)]
 
-mod behind;
-mod cases;
 mod edges;
+mod flags;
 mod front;
-mod images;
 mod joins;
+mod lanes;
+mod passing;
 mod places;
+mod row;
 mod sets;
-mod stops;
+mod stages;
 
-pub use cases::Cases;
-pub use sets::{Reached, reach};
-pub use stops::Stops;
+pub use lanes::Lanes;
+pub use sets::{Reached, Spot, reach};

@@ -1,2 +1,2 @@
 pub mod Claimed
-pub mod Stopping
+pub mod Laning

@@ -56,7 +56,7 @@ impl Claims {
     }
 
     /// So many paths, which nothing claims or tries.
-    fn new(alloc: Global, paths: u32) -> Result<Claims, NoMemory>
+    pub(crate) fn new(alloc: Global, paths: u32) -> Result<Claims, NoMemory>
         ensures { IfOk result (λ claims. claims ≡ replicate paths []) }
     {
         let mut claims = Claims::empty(alloc);
@@ -67,7 +67,7 @@ impl Claims {
     }
 
     /// A point at which something claims or tries the path of a number; nothing changes where there is no such path.
-    fn note(&mut self, number: u32, point: u32) -> Result<(), NoMemory>
+    pub(crate) fn note(&mut self, number: u32, point: u32) -> Result<(), NoMemory>
         ensures { OnOk result (self.new ≡ slice_set self.old number (slice_index_or self.old number [] ++ point ∷ [])) }
     {
         match self.lists.get_mut(number as usize) {

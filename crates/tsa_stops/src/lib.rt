@@ -1,8 +1,8 @@
-//! The places of a body at which a path has to be looked at.
+//! The points of a body at which paths have to be looked at.
 #![tactic(auto)]
 
 mod claims;
-mod places;
+mod lanes;
 
 pub use claims::{Claims, claims_of};
-pub use places::{flags_of, stops_of};
+pub use lanes::{count_of, lanes_at};

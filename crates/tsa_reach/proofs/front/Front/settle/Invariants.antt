@@ -1,11 +1,16 @@
-use Rattle.std.proofs.Common.{◌+◌, ◌-◌, ◌*◌, length}
-use Rattle.tsa_reach.specs.Fronts.{weight}
+use Rattle.std.proofs.Common.{◌+◌, ◌-◌, ◌*◌, ◌<◌, ℕ, length}
+use Rattle.tsa_reach.specs.Rows.{lane_of, total}
+use Rattle.tsa_reach.specs.Turns.{IsReady}
 use Rattle.tsa_reach.proofs.Settling.{Settling}
 use Rattle.tsa_reach.proofs.front.Front.settle.Given as goal
 
 abbrev pub invariant-waiting : goal.invariant-waiting
-invariant-waiting g l = Settling (g.C.Cases.enters l.cases) (g.C.Cases.cases l.cases) l.blocks l.stops l.fn.self.rows.items l.self.rows.items l.self.work.items
+invariant-waiting g l = record {
+  ready : IsReady (g.L.Lanes.count l.lanes) (length l.blocks.blocks.items) l.self.rows.items l.self.work.items;
+  lanes : (lane : ℕ) → lane < g.L.Lanes.count l.lanes
+      → Settling (g.L.Lanes.enters l.lanes lane) (g.L.Lanes.cases l.lanes lane) (g.L.Lanes.points l.lanes) l.blocks (lane_of l.fn.self.rows.items lane) (lane_of l.self.rows.items lane) l.self.work.items;
+}
 
 -- each block that is put on the list has paid by a greater set
 abbrev pub decreases-waiting : goal.decreases-waiting
-decreases-waiting g l = (length l.self.rows.items * 18446744073709551616 - weight l.self.rows.items) + length l.self.work.items
+decreases-waiting g l = (length l.self.rows.items * (g.L.Lanes.count l.lanes * 18446744073709551616) - total l.self.rows.items) + length l.self.work.items

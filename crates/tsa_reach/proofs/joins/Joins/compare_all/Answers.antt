@@ -1,37 +1,34 @@
 use Rattle.std.proofs.Common.{◌≡◌, ◌∙◌, List, length, arith, subst}
 use Rattle.tsa_rules.specs.declared.statuses.Statuses.{Statuses}
 use Rattle.tsa_reach.specs.Agreeing.{AreArrivalsCompared, IsBlockCompared}
+use Rattle.tsa_reach.specs.Rows.{flags_of, lane_of}
 use Rattle.tsa_reach.proofs.Comparing.{one_block_more}
 use Rattle.tsa_reach.proofs.joins.Joins.compare_all.Goals as goal
 
 pub each-init : goal.each-init
-each-init g c =
-    let cases = g.C.Cases.cases c.args.cases.now in
-    let compared = c.compare_entry.ensures.flags cases in
-    record {
-      rows = c.compare_entry.ensures.rows;
-      long = compared.long;
-      flags = λ stops. subst (λ s. AreArrivalsCompared s cases c.args.blocks.now 0 c.args.self.now.rows.items c.args.self.now.agreeing.items c.compare_entry.new.self.agreeing.items) c.entry.ensures.entry compared;
-    }
+each-init g c = record {
+  rows = c.in_ok-compare_entry.ensures.rows;
+  wide = c.in_ok-compare_entry.ensures.wide;
+  flags = λ lane are less. c.in_ok-compare_entry.ensures.flags lane less;
+}
 
 pub each-preserved : goal.each-preserved
-each-preserved g c =
-    let cases = g.C.Cases.cases c.args.cases.now in
-    record {
-      rows = ◌∙◌ {A = List Statuses} c.compare_block.ensures.rows c.each.invariant.rows;
-      long = c.compare_block.ensures.long ∙ c.each.invariant.long;
-      flags = λ stops. one_block_more (g.C.Cases.enters c.args.cases.now) cases c.args.blocks.now c.args.self.now.rows.items c.each.number c.args.self.now.agreeing.items c.each.self.agreeing.items
-          c.compare_block.new.self.agreeing.items (c.each.invariant.flags stops)
-          (subst (λ ys. IsBlockCompared cases c.args.blocks.now c.each.number ys c.each.self.agreeing.items c.compare_block.new.self.agreeing.items) c.each.invariant.rows (c.compare_block.ensures.flags stops));
-    }
+each-preserved g c = record {
+  rows = ◌∙◌ {A = List (List Statuses)} c.in_ok-compare_block.ensures.rows c.each.invariant.rows;
+  wide = record { long = c.in_ok-compare_block.ensures.wide.long ∙ c.each.invariant.wide.long; wide = c.in_ok-compare_block.ensures.wide.wide };
+  flags = λ lane are less.
+      one_block_more (g.L.Lanes.enters c.args.lanes.now lane) (g.L.Lanes.cases c.args.lanes.now lane) c.args.blocks.now (lane_of c.args.self.now.rows.items lane) c.each.number
+      (flags_of c.args.self.now.agreeing.items lane) (flags_of c.each.self.agreeing.items lane) (flags_of c.compare_block.new.self.agreeing.items lane) (c.each.invariant.flags lane are less)
+      (subst (λ ys. IsBlockCompared (g.L.Lanes.cases c.args.lanes.now lane) c.args.blocks.now c.each.number (lane_of ys lane) (flags_of c.each.self.agreeing.items lane) (flags_of c.compare_block.new.self.agreeing.items lane))
+      c.each.invariant.rows (c.in_ok-compare_block.ensures.flags lane are less));
+}
 
 pub returns-clause-flags : goal.returns-clause-flags
-returns-clause-flags g c stops =
-    let cases = g.C.Cases.cases c.args.cases.now in
+returns-clause-flags g c lane are less =
     let past = c.each-test.false in
     let most = c.each.auto.number-end in
     let end = c.len-number-end.ensures in
     let size = c.args.blocks.now.blocks.ok.0 in
     let all : c.each.number ≡ length c.args.blocks.now.blocks.items = omega (arith, past, most, end, size) in
-    subst (λ m. AreArrivalsCompared (g.C.Cases.enters c.args.cases.now) cases c.args.blocks.now m c.args.self.now.rows.items c.args.self.now.agreeing.items c.each.self.agreeing.items) all
-    (c.each.invariant.flags stops)
+    subst (λ m. AreArrivalsCompared (g.L.Lanes.enters c.args.lanes.now lane) (g.L.Lanes.cases c.args.lanes.now lane) c.args.blocks.now m (lane_of c.args.self.now.rows.items lane)
+    (flags_of c.args.self.now.agreeing.items lane) (flags_of c.each.self.agreeing.items lane)) all (c.each.invariant.flags lane are less)

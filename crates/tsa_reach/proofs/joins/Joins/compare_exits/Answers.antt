@@ -1,8 +1,11 @@
-use Rattle.std.proofs.Common.{◌∙◌, get_or, subst}
+use Rattle.std.proofs.Common.{◌∙◌, ◌<◌, List, get_or, length, subst, sym}
 use Rattle.tsa_blocks.specs.declared.blocks.Exit.{Exit}
 use Rattle.tsa_links.specs.declared.link.Outcome.TheVariants.{Next}
-use Rattle.tsa_reach.specs.Agreeing.{IsOneCompared}
-use Rattle.tsa_reach.specs.Changes.{effect_by}
+use Rattle.tsa_rules.specs.declared.statuses.Statuses.{Statuses}
+use Rattle.tsa_reach.specs.Agreeing.{AreFlagged, IsOneCompared}
+use Rattle.tsa_reach.specs.Courses.{leaving}
+use Rattle.tsa_reach.specs.Passing.{IsLeft}
+use Rattle.tsa_reach.specs.Rows.{flags_of, lane_of, set_at}
 use Rattle.tsa_reach.proofs.Comparing.{exit_compared}
 use Rattle.tsa_reach.proofs.joins.Joins.compare_exits.Goals as goal
 
@@ -11,9 +14,21 @@ abbrev absent : Exit
 absent = record { outcome = Next; to = 0 }
 
 pub exits-preserved : goal.exits-preserved
-exits-preserved c = record {
-  rows = c.compare.ensures.rows ∙ c.exits.invariant.rows;
-  flags = exit_compared (effect_by c.args.left.now.change) c.args.left.now.last c.args.exits.now c.exits.exit-index absent c.exits-test.true c.image.result c.image.ensures c.args.self.now.rows.items
-      c.args.self.now.agreeing.items c.exits.self.agreeing.items c.compare.new.self.agreeing.items c.exits.invariant.flags
-      (subst (λ ys. IsOneCompared (get_or c.args.exits.now c.exits.exit-index absent).to c.image.result ys c.exits.self.agreeing.items c.compare.new.self.agreeing.items) c.exits.invariant.rows c.compare.ensures.flags);
-}
+exits-preserved g c =
+    let wide : AreFlagged (g.L.Lanes.count c.args.lanes.now) c.exits.self.agreeing.items c.compare.new.self.agreeing.items =
+    subst (λ n. AreFlagged n c.exits.self.agreeing.items c.compare.new.self.agreeing.items) c.count.ensures c.compare.ensures.wide in
+    let there : c.exits.exit-index < length c.args.block.now.exits.items = subst (λ xs. c.exits.exit-index < length xs) c.deref-exit-items.ensures.value c.exits-test.true in
+    record {
+      rows = ◌∙◌ {A = List (List Statuses)} c.compare.ensures.rows c.exits.invariant.rows;
+      wide = record { long = wide.long ∙ c.exits.invariant.wide.long; wide = wide.wide };
+      flags = λ lane are less.
+          exit_compared (leaving (g.L.Lanes.cases c.args.lanes.now lane) c.args.block.now) (set_at c.args.last.now lane) c.args.block.now.exits.items c.exits.exit-index absent there
+          (set_at c.in_ok-set.set lane)
+          (subst (λ xs. IsLeft (g.L.Lanes.cases c.args.lanes.now lane) c.args.block.now (get_or xs c.exits.exit-index absent).outcome (set_at c.args.last.now lane) (set_at c.in_ok-set.set lane)) c.deref-exit-items.ensures.value
+          (c.in_ok-set.ensures.each lane are less)) (lane_of c.args.self.now.rows.items lane) (flags_of c.args.self.now.agreeing.items lane)
+          (flags_of c.exits.self.agreeing.items lane) (flags_of c.compare.new.self.agreeing.items lane) (c.exits.invariant.flags lane are less)
+          (subst (λ xs. IsOneCompared (get_or xs c.exits.exit-index absent).to (set_at c.in_ok-set.set lane) (lane_of c.args.self.now.rows.items lane) (flags_of c.exits.self.agreeing.items lane) (flags_of c.compare.new.self.agreeing.items lane))
+          c.deref-exit-items.ensures.value
+          (subst (λ ys. IsOneCompared (get_or c.deref-exit-items.result.now c.exits.exit-index absent).to (set_at c.in_ok-set.set lane) (lane_of ys lane) (flags_of c.exits.self.agreeing.items lane) (flags_of c.compare.new.self.agreeing.items lane))
+          c.exits.invariant.rows (c.compare.ensures.flags lane (subst (λ n. lane < n) (sym c.count.ensures) less))));
+    }
