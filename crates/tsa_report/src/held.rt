@@ -1,9 +1,12 @@
 //! The lines of the held sets of a unit.
-ghost use Rattle.std.specs.Prelude.{◌≡◌, ◌≤◌, ◌<◌, ◌++◌, ℕ, List, length, OnOk, OnErr, IsErrOf};
+ghost use Rattle.std.specs.Prelude.{◌≡◌, ◌≤◌, ◌<◌, ◌++◌, ℕ, [], List, length, OnOk, OnErr, IsErrOf};
 ghost use Rattle.std.specs.Io.KnownBytes.{Appends};
 ghost use Rattle.tsa_base.specs.Causes.{Rose};
 ghost use Rattle.tsa_base.specs.Transfer.{AppendsFront};
 ghost use Rattle.tsa_bodies.specs.Bodies.{BodyText, IsToldBody};
+ghost use Rattle.tsa_bodies.specs.Coursed.{course_of};
+ghost use Rattle.tsa_bodies.specs.Courses.{course_outset};
+ghost use Rattle.tsa_profile.specs.Units.{unit_of};
 ghost use Rattle.tsa_report.specs.Held.{Account, IsAccountHeld, IsBodyHeld, IsHeld, IsPathLine, IsPointText, paths_in};
 ghost use Rattle.tsa_report.specs.Pages.{IsPageOf};
 ghost use Rattle.tsa_tree.specs.units.Shapes.{HaveTheirPoints, item_shapes};
@@ -124,6 +127,37 @@ fn write_body<'s, O: Sink>(
     page.write(alloc, out)
 }
 
+/// What lines are written with: memory, and where the lines of the text begin.
+#[derive(Clone, Copy)]
+struct Desk<'s> {
+    alloc: Global,
+    starts: &'s LineStarts<'s>,
+}
+
+/// Writes the lines of the held sets of all bodies of a unit, item by item. The course is that in front of the first item.
+fn write_bodies<'s, 'a, O: Sink>(
+    desk: Desk<'s>,
+    teller: &Teller<'_, 'a>,
+    course: &mut Course<'a>,
+    out: &mut O,
+) -> Result<(), WriteRefusal>
+    requires begun { course_of course.old ≡ course_outset (unit_of [] (item_shapes teller.now.pass.ground.items.now)) }
+    requires points { HaveTheirPoints teller.now.pass.ground.items.now }
+    ensures all { OnOk result ((lines : List ℕ) × (IsHeld desk.entry.starts.now (item_shapes teller.now.pass.ground.items.now) lines × Appends (O.taken out.old) (O.taken out.new) lines)) }
+    ensures front { OnErr result ((lines : List ℕ) → IsHeld desk.entry.starts.now (item_shapes teller.now.pass.ground.items.now) lines → AppendsFront (O.taken out.old) (O.taken out.new) lines) }
+    ensures fault { IsErrOf result WriteRefusal.SinkFailed → Rose (O.faults out.old) (O.faults out.new) }
+    ensures later { O.faults out.old ≤ O.faults out.new }
+{
+    'each: for item in teller.pass.ground.items {
+        if let Some(body) = teller.item(course, item)? {
+            let written = write_body(desk.alloc, desk.starts, &body, out);
+            drop(body);
+            written?;
+        }
+    }
+    Ok(())
+}
+
 /// Writes the lines of the held sets of a unit in the profile, body by body as they are worked out. After a refusal a first part of them is written.
 pub fn write_held<O: Sink>(
     alloc: Global,
@@ -143,12 +177,9 @@ pub fn write_held<O: Sink>(
         pass: tables.pass(&ready.fit),
     };
     let mut course = Course::new(alloc, &teller.pass.ground)?;
-    'each: for item in teller.pass.ground.items {
-        if let Some(body) = teller.item(&mut course, item)? {
-            let written = write_body(alloc, &starts, &body, out);
-            drop(body);
-            written?;
-        }
-    }
-    Ok(())
+    let desk = Desk {
+        alloc,
+        starts: &starts,
+    };
+    write_bodies(desk, &teller, &mut course, out)
 }

@@ -1,9 +1,12 @@
 //! The lines of the warnings of a unit.
-ghost use Rattle.std.specs.Prelude.{◌≡◌, ◌+◌, ◌++◌, List, IfOk, OnOk};
+ghost use Rattle.std.specs.Prelude.{◌≡◌, ◌+◌, ◌++◌, [], List, IfOk, OnOk};
 ghost use Rattle.std.specs.List.{flat_map};
 ghost use Rattle.tsa_bodies.specs.Bodies.{BodyText, IsToldBody, names_of};
+ghost use Rattle.tsa_bodies.specs.Coursed.{course_of};
+ghost use Rattle.tsa_bodies.specs.Courses.{course_outset};
 ghost use Rattle.tsa_bodies.specs.Paths.{paths_of};
 ghost use Rattle.tsa_core.specs.Programs.{program_of};
+ghost use Rattle.tsa_profile.specs.Units.{unit_of};
 ghost use Rattle.tsa_report.specs.Lined.{warned_of};
 ghost use Rattle.tsa_report.specs.Lines.{warning_line};
 ghost use Rattle.tsa_report.specs.Warned.{IsBodyWarned, IsWarned, Warned as Lines, both};
@@ -88,6 +91,28 @@ impl UnitLines {
         self.count = sum(self.count, failures.len())?;
         Ok(())
     }
+
+    /// Adds the lines of all bodies of a unit, item by item, where none are there yet. The course is that in front of the first item.
+    fn add_bodies<'a>(
+        &mut self,
+        starts: &LineStarts<'_>,
+        teller: &Teller<'_, 'a>,
+        course: &mut Course<'a>,
+    ) -> Result<(), NoMemory>
+        requires begun { course_of course.old ≡ course_outset (unit_of [] (item_shapes teller.now.pass.ground.items.now)) }
+        requires points { HaveTheirPoints teller.now.pass.ground.items.now }
+        ensures { OnOk result (warned_of self.old ≡ record { text = []; count = 0 } → IsWarned starts.now (item_shapes teller.now.pass.ground.items.now) (warned_of self.new)) }
+    {
+        let alloc = *self.text.allocator();
+        'each: for item in teller.pass.ground.items {
+            if let Some(body) = teller.item(course, item)? {
+                let added = self.add_body(alloc, starts, &body);
+                drop(body);
+                added?;
+            }
+        }
+        Ok(())
+    }
 }
 
 /// The lines of the warnings of a unit in the profile, in order.
@@ -105,12 +130,6 @@ pub fn unit_lines(alloc: Global, ready: &Ready<'_>, bytes: &[u8]) -> Result<Unit
         text: Vec::new(alloc),
         count: 0,
     };
-    'each: for item in teller.pass.ground.items {
-        if let Some(body) = teller.item(&mut course, item)? {
-            let added = lines.add_body(alloc, &starts, &body);
-            drop(body);
-            added?;
-        }
-    }
+    lines.add_bodies(&starts, &teller, &mut course)?;
     Ok(lines)
 }

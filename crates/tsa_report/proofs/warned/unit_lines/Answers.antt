@@ -1,53 +1,21 @@
-use Rattle.std.proofs.Common.{◌∙◌, [], ◌∷◌, ◌++◌, suc, drop, sym, ap, subst}
-use Rattle.std.proofs.Math.Seq.{drop-cons}
-use Rattle.std.proofs.lemmas.List.{drop_all}
-use Rattle.tsa_bodies.specs.Bodies.{Tells, body_by}
-use Rattle.tsa_bodies.specs.Coursed.{course_of}
-use Rattle.tsa_tree.specs.units.Shapes.{item_shape, item_shapes}
+use Rattle.std.proofs.Common.{◌∙◌, sym, ap, subst}
+use Rattle.tsa_bodies.specs.Courses.{course_outset}
+use Rattle.tsa_profile.specs.Units.{unit_of}
+use Rattle.tsa_tree.specs.units.Shapes.{HaveTheirPoints, item_shapes}
 use Rattle.tsa_report.specs.Lined.{warned_of}
-use Rattle.tsa_report.specs.Warned.{AreWarned, IsBodyWarned, IsWarned}
-use Rattle.tsa_report.proofs.Lines.{body_added, no_body_added}
-use Rattle.tsa_report.proofs.Progress.{all_told, no_body, one_told, outset_told, the_body}
+use Rattle.tsa_report.specs.Warned.{IsWarned}
 use Rattle.tsa_report.proofs.warned.unit_lines.Goals as goal
-use Rattle.tsa_report.proofs.warned.unit_lines.Goals.{in-Some+in_ok-added, in_default}
 
-pub each-init : goal.each-init
-each-init c =
-    let trees = ap (λ s. s.now) (c.pass.result.judged ∙ sym c.pass.result.fits ∙ ap (λ f. f.typed.unit.now.items) c.pass.ensures) in
-    record {
-      done = [];
-      told = outset_told c.pass.result.ground.items.now c.args.ready.now.fit.typed.unit.now.items.now trees c.pass.result.ground.outside.now c.pass.result.inside (course_of c.in_ok-course.course) c.in_ok-course.ensures c.requires;
-      lines = ap (λ t. record { text = t; count = 0 }) c.new-4.ensures.items;
-    }
+pub add_bodies-requires-clause-begun : goal.add_bodies-requires-clause-begun
+add_bodies-requires-clause-begun c =
+    c.in_ok-course.ensures ∙ ap (λ outside. course_outset (unit_of outside (item_shapes c.pass.result.ground.items.now))) c.pass.result.inside
 
-pub each-preserved : goal.each-preserved
-each-preserved c =
-    let trees = c.pass.result.ground.items.now in
-    let items = item_shapes trees in
-    let x = c.item-item.result in
-    let i = c.each.item-index in
-    let h = c.each.invariant in
-    let k = course_of c.each.course in
-    let new = body_by k.known.here (item_shape x) in
-    let at_i = drop-cons trees i x c.each-test.true ∙ ap (λ y. y ∷ drop (suc i) trees) (sym c.item-item.is) in
-    record {
-      done = h.done ++ new;
-      told = one_told trees i x k h.done at_i h.told (course_of c.item.new.course) c.in_ok-body.ensures.behind;
-      lines = elim c.match-branch-5.branch [
-        | in-Some+in_ok-added w ↦
-            let found = the_body items new w.in-Some.body (subst (Tells items new) w.in-Some.is c.in_ok-body.ensures.told) in
-            let told = w.in_ok-added.ensures items found.0 found.1.1 in
-            body_added c.args.bytes.now items h.done new found.0 (warned_of c.each.lines) told.0 (warned_of c.match-branch-5.lines) found.1.0 (ap warned_of w.lines-is ∙ told.1.1) h.lines (subst (λ bytes. IsBodyWarned bytes items found.0 told.0) c.in_ok-starts.ensures told.1.0)
-        | in_default w ↦
-            subst (λ l. AreWarned c.args.bytes.now items (h.done ++ new) (warned_of l)) (sym w.lines-is)
-            (no_body_added c.args.bytes.now items h.done new (warned_of c.each.lines) (no_body items new (subst (Tells items new) w.in_default.is c.in_ok-body.ensures.told)) h.lines)
-      ];
-    }
+pub add_bodies-requires-clause-points : goal.add_bodies-requires-clause-points
+add_bodies-requires-clause-points c =
+    subst HaveTheirPoints (sym (ap (λ s. s.now) (c.pass.result.judged ∙ sym c.pass.result.fits ∙ ap (λ f. f.typed.unit.now.items) c.pass.ensures))) c.requires
 
 pub returns : goal.returns
 returns c =
-    let trees = c.pass.result.ground.items.now in
-    let h = c.each.invariant in
-    let end = all_told trees c.each.item-index (course_of c.each.course) h.done (drop_all c.each.item-index trees c.each-test.false) h.told in
-    subst (λ t. IsWarned c.args.bytes.now (item_shapes t) (warned_of c.each.lines)) (ap (λ s. s.now) (c.pass.result.judged ∙ sym c.pass.result.fits ∙ ap (λ f. f.typed.unit.now.items) c.pass.ensures))
-    (subst (λ bs. AreWarned c.args.bytes.now (item_shapes trees) bs (warned_of c.each.lines)) (sym end) h.lines)
+    subst (λ t. IsWarned c.args.bytes.now (item_shapes t) (warned_of c.add_bodies.new.self)) (ap (λ s. s.now) (c.pass.result.judged ∙ sym c.pass.result.fits ∙ ap (λ f. f.typed.unit.now.items) c.pass.ensures))
+    (subst (λ bytes. IsWarned bytes (item_shapes c.pass.result.ground.items.now) (warned_of c.add_bodies.new.self)) c.in_ok-starts.ensures
+    (c.in_ok-add_bodies.ensures (ap (λ t. record { text = t; count = 0 }) c.new-4.ensures.items)))

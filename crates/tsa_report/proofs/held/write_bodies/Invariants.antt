@@ -6,7 +6,7 @@ use Rattle.tsa_tree.specs.units.Shapes.{item_shapes}
 use Rattle.tsa_report.specs.Held.{IsBodyHeld}
 use Rattle.tsa_report.specs.Pieces.{Pieces}
 use Rattle.tsa_report.proofs.Progress.{IsTold}
-use Rattle.tsa_report.proofs.held.write_held.Given as goal
+use Rattle.tsa_report.proofs.held.write_bodies.Given as goal
 
 -- the lines of the bodies that are told are written
 abbrev pub invariant-each : goal.invariant-each
@@ -15,6 +15,6 @@ invariant-each g l = record {
   done : List BodyText;
   told : IsTold l.teller.pass.ground.items.now l.item-index (course_of l.course) done;
   lines : List ℕ;
-  held : Pieces (IsBodyHeld l.bytes (item_shapes l.teller.pass.ground.items.now)) done lines;
+  held : Pieces (IsBodyHeld l.desk.starts.now (item_shapes l.teller.pass.ground.items.now)) done lines;
   written : Appends (g.O.Sink.taken l.fn.out) (g.O.Sink.taken l.out) lines;
 }
