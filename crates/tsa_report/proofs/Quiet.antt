@@ -1,13 +1,14 @@
--- Where no line is told, no rule fails.
-use Rattle.std.proofs.Common.{◌≡◌, ◌∙◌, ℕ, zero, suc, arith, List, [], ◌∷◌, length, Contains, Some, sym, ap, subst}
+-- Where no line is told, no rule fails, and the other way.
+use Rattle.std.proofs.Common.{◌≡◌, ◌∙◌, ℕ, zero, suc, arith, List, [], ◌∷◌, length, Contains, Some, slice_get, refl, sym, ap, subst}
 use Rattle.tsa_tree.specs.units.Syntax.{UnitItem}
 use Rattle.tsa_core.specs.Programs.{Function, Program, program_of}
+use Rattle.tsa_rules.specs.Warnings.{HasNoWarnings, Warning}
 use Rattle.tsa_failures.specs.Failures.{FailsThere}
 use Rattle.tsa_failures.specs.declared.failure.RuleFailure.{RuleFailure}
-use Rattle.tsa_bodies.specs.Bodies.{BodyText, bodies_of}
+use Rattle.tsa_bodies.specs.Bodies.{BodyText, bodies_of, names_of}
 use Rattle.tsa_bodies.specs.Paths.{paths_of}
-use Rattle.tsa_report.specs.Laws.{UnitsWithoutLinesHaveNoWarnings}
-use Rattle.tsa_report.specs.Warned.{AreWarned, IsBodyWarned, Warned}
+use Rattle.tsa_report.specs.Laws.{UnitsWithoutLinesHaveNoWarnings, UnitsWithoutWarningsHaveNoLines}
+use Rattle.tsa_report.specs.Warned.{AreWarned, IsBodyWarned, Warned, both, lines_of, no_lines}
 use Rattle.tsa_report.proofs.Told.{rules_that_fail_are_told}
 
 same : {A : Type 0} {x y : A} → Some x ≡ Some y → x ≡ y
@@ -45,3 +46,27 @@ units_without_lines bytes items lines typed h none w fails =
     let there = there_too (program_of items) t.function q.of.function x (same (sym t.is_there ∙ q.of.is_there)) t.fails in
     let count : length q.of.failures ≡ 0 = sym (ap (λ y. y.count) q.of.lines) ∙ q.none in
     nothing_among q.of.failures x count (q.of.told.all x there)
+
+-- The other way.
+
+module _ (bytes : List ℕ) (items : List UnitItem) (quiet : HasNoWarnings (program_of items)) where
+  -- a rule that fails in a function is one that fails in the program
+  no_failures : (n : ℕ) (f : Function) → slice_get (program_of items).functions n ≡ Some f → (xs : List RuleFailure)
+      → ((x : RuleFailure) → Contains xs x → FailsThere (program_of items) f (paths_of (program_of items) f) x) → xs ≡ []
+  no_failures n f is [] told = refl
+  no_failures n f is (x ∷ xs) told =
+      let there = told x (zero, omega arith, refl) in
+      let w : Warning = record { function = n; point = x.point; rule = x.rule; path = there.path } in
+      absurd (quiet w (record { function = f; is_there = is; fails = there.fails }))
+
+  no_lines_of : (b : BodyText) (v : Warned) → IsBodyWarned bytes items b v → v ≡ no_lines
+  no_lines_of b v h =
+      h.lines ∙ ap (lines_of bytes (program_of items) h.function (names_of items b.number) b) (no_failures b.number h.function h.is_there h.failures h.told.told)
+
+  no_lines_among : (bodies : List BodyText) (w : Warned) → AreWarned bytes items bodies w → w ≡ no_lines
+  no_lines_among [] w h = h
+  no_lines_among (b ∷ bodies) w (v, rest, of_b, of_rest, whole) =
+      whole ∙ ap (λ y. both y rest) (no_lines_of b v of_b) ∙ ap (both no_lines) (no_lines_among bodies rest of_rest)
+
+pub units_without_warnings : UnitsWithoutWarningsHaveNoLines
+units_without_warnings bytes items w quiet h = no_lines_among bytes items quiet (bodies_of items) w h

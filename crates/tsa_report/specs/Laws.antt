@@ -7,7 +7,7 @@ use Rattle.tsa_rules.specs.Warnings.{FailsIn, HasNoWarnings, Warning}
 use Rattle.tsa_failures.specs.Failures.{FailsThere}
 use Rattle.tsa_bodies.specs.Bodies.{BodyText, bodies_of}
 use Rattle.tsa_bodies.specs.Paths.{paths_of}
-use Rattle.tsa_report.specs.Warned.{IsWarned, Warned}
+use Rattle.tsa_report.specs.Warned.{IsWarned, Warned, no_lines}
 
 -- A rule that fails is told in the body of its function, for a path of that by its number.
 pub record IsToldIn (items : List UnitItem) (w : Warning) : Type 0 where
@@ -28,3 +28,7 @@ RulesThatFailAreTold = (items : List UnitItem) (w : Warning) → first_failing i
 abbrev pub UnitsWithoutLinesHaveNoWarnings : Type 0
 UnitsWithoutLinesHaveNoWarnings = (bytes : List ℕ) (items : List UnitItem) (w : Warned) → first_failing items ≡ None → IsWarned bytes items w → w.count ≡ 0
     → HasNoWarnings (program_of items)
+
+-- And where no rule fails, no line is told.
+abbrev pub UnitsWithoutWarningsHaveNoLines : Type 0
+UnitsWithoutWarningsHaveNoLines = (bytes : List ℕ) (items : List UnitItem) (w : Warned) → HasNoWarnings (program_of items) → IsWarned bytes items w → w ≡ no_lines

@@ -10,7 +10,10 @@ mod unit;
 mod warned;
 
 pub use held::write_held;
-pub use laws::{rules_that_fail_are_told, units_without_lines_have_no_warnings};
+pub use laws::{
+    rules_that_fail_are_told, units_without_lines_have_no_warnings,
+    units_without_warnings_have_no_lines,
+};
 pub use refusal::WriteRefusal;
 pub use unit::Ready;
 pub use warned::{UnitLines, unit_lines};

@@ -1,21 +1,23 @@
--- A text that is answered by `accepted` is a unit in the profile that breaks no rule.
-use Rattle.std.proofs.Common.{◌≡◌, ◌∙◌, ℕ, Bool, true, false, List, length, Result, Ok, Err, ◌==◌, if◌then◌else◌, nat_lt, eqb-true, refl, sym, ap}
+-- A text that is answered by `accepted` is a unit in the profile that breaks no rule, and the other way.
+use Rattle.std.proofs.Common.{◌≡◌, ◌∙◌, ◌≤◌, arith, ℕ, Bool, true, false, List, length, Result, Ok, Err, ◌==◌, if◌then◌else◌, nat_lt, eqb-true, ltb-true, refl, sym, ap, subst}
 use Rattle.tsa_base.specs.declared.limits.TheConstants.{INPUT_LIMIT}
 use Rattle.tsa_tree.specs.units.Syntax.{UnitItem}
 use Rattle.tsa_expr.specs.declared.refusal.SyntaxCode.{SyntaxCode}
 use Rattle.tsa_expr.specs.declared.refusal.SyntaxCode.TheVariants.{SY1, AT1, AT2, LM2, LM3, LM5}
 use Rattle.tsa_seen.specs.declared.premise.ProfileCode.{ProfileCode}
 use Rattle.tsa_seen.specs.declared.premise.ProfileCode.TheVariants.{PF1, PF2, PF3, PF4, PF5, PF6, PF7, PF8, PF9, LM4, LM7}
+use Rattle.tsa_core.specs.Programs.{program_of}
+use Rattle.tsa_rules.specs.Warnings.{HasNoWarnings}
 use Rattle.tsa_report.specs.Warned.{Warned}
-use Rattle.tsa_report.proofs.Quiet.{units_without_lines}
+use Rattle.tsa_report.proofs.Quiet.{units_without_lines, units_without_warnings}
 use Rattle.tsa_tool.specs.Checks.{fit_in}
 use Rattle.tsa_tool.specs.Reports.{IsCheckOf, IsReportBy, OfUnit, Report, accepted, profile_status, refused_report, syntax_status, warned_report}
-use Rattle.tsa_tool.specs.Units.{AcceptedUnitsBreakNoRule, IsAccepted}
+use Rattle.tsa_tool.specs.Units.{AcceptedUnitsBreakNoRule, IsAccepted, UnitsThatBreakNoRuleAreAccepted}
 use Rattle.tsa_tool.specs.declared.answer.Status.TheVariants.{Accepted, Warned as Warns}
 use Rattle.tsa_tool.specs.declared.check.Refusal.{Refusal}
 use Rattle.tsa_tool.specs.declared.check.Refusal.TheVariants.{Lex, Syntax, Types, Places, Profile}
 use Rattle.tsa_tool.specs.declared.command.Command.TheVariants.{Check}
-use Rattle.tsa_tool.proofs.Fitting.{it_fits}
+use Rattle.tsa_tool.proofs.Fitting.{fit, it_fits}
 
 -- without lines
 warns : Warns ≡ Accepted → ⊥
@@ -74,3 +76,27 @@ module _ (text : List ℕ) (report : Report) (accepts : report.status ≡ Accept
 
 pub accepted_units : AcceptedUnitsBreakNoRule
 accepted_units text report is accepts = by_length text report accepts (nat_lt INPUT_LIMIT (length text)) is
+
+-- The other way.
+
+same_unit : (text : List ℕ) (a : IsAccepted text) (items : List UnitItem) → fit_in text ≡ Ok items → a.items ≡ items
+same_unit text a items is = let fits = fit text a.items a.fit in cc
+
+no_refusal : (text : List ℕ) (a : IsAccepted text) (refusal : Refusal) → fit_in text ≡ Err refusal → ⊥
+no_refusal text a refusal is = let fits = fit text a.items a.fit in cc
+
+too_long : (text : List ℕ) → length text ≤ INPUT_LIMIT → nat_lt INPUT_LIMIT (length text) ≡ true → ⊥
+too_long text short long = let more = ltb-true INPUT_LIMIT (length text) long in omega (arith, more, short)
+
+module _ (text : List ℕ) (report : Report) (a : IsAccepted text) where
+  of_quiet : (r : Result (List UnitItem) Refusal) → fit_in text ≡ r → OfUnit text (IsCheckOf text) r report → report ≡ accepted
+  of_quiet (Ok items) is (w, (of_w, report_is)) =
+      report_is ∙ ap warned_report (units_without_warnings text items w (subst (λ xs. HasNoWarnings (program_of xs)) (same_unit text a items is) a.quiet) of_w)
+  of_quiet (Err refusal) is report_is = absurd (no_refusal text a refusal is)
+
+  of_short : (long : Bool) → nat_lt INPUT_LIMIT (length text) ≡ long → length text ≤ INPUT_LIMIT → IsReportBy long Check text report → report ≡ accepted
+  of_short true is short h = absurd (too_long text short is)
+  of_short false is short h = of_quiet (fit_in text) refl h
+
+pub quiet_units : UnitsThatBreakNoRuleAreAccepted
+quiet_units text report short a h = of_short text report a (nat_lt INPUT_LIMIT (length text)) refl short h

@@ -71,7 +71,7 @@ it_fits text items e = fit_there text items (fit_in text) e (by_tokens text (tok
 
 -- The other way.
 
-fit : (text : List ℕ) (items : List UnitItem) → IsFit text items → fit_in text ≡ Ok items
+pub fit : (text : List ℕ) (items : List UnitItem) → IsFit text items → fit_in text ≡ Ok items
 unfolding fit_in sized_in typed_in tree_in
 fit text items h = rw (h.lexed, h.parsed, h.typed, h.placed, h.profiled) refl
 

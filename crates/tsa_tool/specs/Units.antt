@@ -1,5 +1,6 @@
 -- What `check` answers to a text says of its unit.
-use Rattle.std.specs.Prelude.{◌≡◌, ℕ, List, Some, None, Ok, Err}
+use Rattle.std.specs.Prelude.{◌≡◌, ◌≤◌, ℕ, List, length, Some, None, Ok, Err}
+use Rattle.tsa_base.specs.declared.limits.TheConstants.{INPUT_LIMIT}
 use Rattle.tsa_base.specs.declared.token.Span.{Span}
 use Rattle.tsa_base.specs.Tokens.{BadByte, Lexeme, tokens_of}
 use Rattle.tsa_expr.specs.declared.refusal.SyntaxCode.{SyntaxCode}
@@ -18,7 +19,7 @@ use Rattle.tsa_tool.specs.Checks.{byte_of, fit_in}
 use Rattle.tsa_tool.specs.declared.answer.Status.TheVariants.{Accepted}
 use Rattle.tsa_tool.specs.declared.check.Refusal.TheVariants.{Lex, Syntax, Types, Places, Profile}
 use Rattle.tsa_tool.specs.declared.command.Command.TheVariants.{Check}
-use Rattle.tsa_tool.specs.Reports.{IsReport, Report}
+use Rattle.tsa_tool.specs.Reports.{IsReport, Report, accepted}
 
 -- The tokens of a text spell a unit of right types, with no more places than it may have, that is in the profile.
 pub record IsFit (text : List ℕ) (items : List UnitItem) : Type 0 where
@@ -39,6 +40,10 @@ pub record IsAccepted (text : List ℕ) : Type 0 where
 -- A text that `check` answers by `accepted` is such a unit.
 abbrev pub AcceptedUnitsBreakNoRule : Type 0
 AcceptedUnitsBreakNoRule = (text : List ℕ) (report : Report) → IsReport (Some Check) text report → report.status ≡ Accepted → IsAccepted text
+
+-- And such a unit is answered by `accepted`, where its text is no longer than an input may be.
+abbrev pub UnitsThatBreakNoRuleAreAccepted : Type 0
+UnitsThatBreakNoRuleAreAccepted = (text : List ℕ) (report : Report) → length text ≤ INPUT_LIMIT → IsAccepted text → IsReport (Some Check) text report → report ≡ accepted
 
 -- Such a unit is judged, and another text is refused by what fails first: a byte, a token or a function, a node by its types, a declarator with too many
 -- places, or a node by the profile.

@@ -2,7 +2,7 @@
 ghost use Rattle.tsa_tool.specs.CheckExamples.{ChecksAreAsWritten};
 ghost use Rattle.tsa_tool.specs.PrintedAgain.{PrintedIsPrintedAgain};
 ghost use Rattle.tsa_tool.specs.Reports.{OneReportIsRight};
-ghost use Rattle.tsa_tool.specs.Units.{AcceptedUnitsBreakNoRule, TextsAreRefusedByWhatFailsFirst};
+ghost use Rattle.tsa_tool.specs.Units.{AcceptedUnitsBreakNoRule, TextsAreRefusedByWhatFailsFirst, UnitsThatBreakNoRuleAreAccepted};
 
 /// There is one report at most for each command and input.
 #[tactic(auto, using(crate::proofs::OneReport::one_report))]
@@ -15,6 +15,12 @@ pub fn one_report_is_right()
 #[tactic(auto, using(crate::proofs::Accepted::accepted_units))]
 pub fn accepted_units_break_no_rule()
     ensures { AcceptedUnitsBreakNoRule }
+{}
+
+/// And such a unit is answered by `accepted`, where its text is no longer than an input may be.
+#[tactic(auto, using(crate::proofs::Accepted::quiet_units))]
+pub fn units_that_break_no_rule_are_accepted()
+    ensures { UnitsThatBreakNoRuleAreAccepted }
 {}
 
 /// A unit that is fit is judged, and another text is refused by what fails first, in the order of the stages.
