@@ -1,0 +1,15 @@
+//! The laws of locks.
+ghost use Rattle.tsa_locks.specs.Examples.{LocksAreAsWritten};
+ghost use Rattle.tsa_locks.specs.Laws.{HoldsChange};
+
+/// Whoever takes a lock holds it once more, and whoever gives it back once less; nobody else's holds change. Who is in the way holds the lock.
+#[tactic(auto, using(crate::proofs::Holding::holds_change))]
+pub fn holds_change_as_taken_and_given()
+    ensures { HoldsChange }
+{}
+
+/// Takings and givings of single locks are as they are written out.
+#[tactic(auto, using(crate::proofs::Written::as_written))]
+pub fn locks_are_as_written()
+    ensures { LocksAreAsWritten }
+{}

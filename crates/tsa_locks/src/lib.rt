@@ -1,0 +1,6 @@
+//! Reader-writer locks as the machine has them, in definitions and laws alone.
+#![tactic(auto)]
+
+mod laws;
+
+pub use laws::{holds_change_as_taken_and_given, locks_are_as_written};
