@@ -1,0 +1,9 @@
+pub mod Lists
+pub mod Safety
+pub mod Turns
+pub mod Reading
+pub mod Atomic
+pub mod Starting
+pub mod Worked
+pub mod WorkedFurther
+pub mod Unsound

@@ -1,0 +1,99 @@
+-- A unit that isn't sound, and a start of one that takes a lock.
+use Rattle.std.proofs.Common.{◌≡◌, ℕ, zero, true, false, List, [], ◌∷◌, refl, subst, arith}
+use Rattle.std.specs.Prelude.{All, pos}
+use Rattle.tsa_base.specs.declared.value.Value.TheVariants.{Int}
+use Rattle.tsa_lex.specs.Quick.{quick_tokens_of}
+use Rattle.tsa_lex.proofs.Quick.{tokens_are}
+use Rattle.tsa_tree.specs.types.Texts.{unit_in}
+use Rattle.tsa_tree.specs.units.Syntax.{UnitItem}
+use Rattle.tsa_core.specs.Programs.{Program, program_of}
+use Rattle.tsa_sched.specs.declared.event.EventKind.TheVariants.{Stepped}
+use Rattle.tsa_mean.specs.Examples.{LockedWritesCanStart, UnlockedWritesAreUnsound}
+use Rattle.tsa_mean.specs.Sound.{IsPick, Race, Sound, Start}
+use Rattle.tsa_mean.specs.Starts.{Begin, BeginsWell, first_state}
+use Rattle.tsa_mean.specs.Texts.{turns, without}
+use Rattle.tsa_mean.specs.Traces.{locked_write, twice, unlocked_write}
+use Rattle.tsa_mean.proofs.Lists.{all_more, all_none}
+use Rattle.tsa_mean.proofs.Starting.{first_states_are_starts, well_typed}
+use Rattle.tsa_mean.proofs.Worked.{turned}
+
+impossible : {A : Type 0} → true ≡ false → A
+impossible e = absurd cc
+
+some_first : {A : Type 0} (x : A) (xs : List A) → x ∷ xs ≡ [] → ⊥
+some_first x xs e = cc
+
+apart : ◌≡◌ {A = ℕ} 0 1 → ⊥
+apart e = omega arith
+
+abbrev unlocked_items : List UnitItem
+unlocked_items = unit_in (quick_tokens_of unlocked_write)
+
+abbrev unlocked_program : Program
+unlocked_program = program_of unlocked_items
+
+abbrev locked_items : List UnitItem
+locked_items = unit_in (quick_tokens_of locked_write)
+
+abbrev locked_program : Program
+locked_program = program_of locked_items
+
+abbrev second : Begin
+second = record { function = 2; args = [] }
+
+-- two threads that begin with function 2 begin well
+two_begin : (u : Program) → BeginsWell u second → All (BeginsWell u) (twice 2)
+two_begin u well = all_more (BeginsWell u) second (second ∷ []) well (all_more (BeginsWell u) second [] well (all_none (BeginsWell u)))
+
+unlocked_begins : BeginsWell unlocked_program second
+unfolding turned
+unlocked_begins = record { with_body = refl; unbound = refl; fitting = refl }
+
+locked_begins : BeginsWell locked_program second
+unfolding turned
+locked_begins = record { with_body = refl; unbound = refl; fitting = refl }
+
+unlocked_starts : Start unlocked_program (first_state unlocked_program (twice 2))
+unfolding turned
+unlocked_starts = first_states_are_starts unlocked_program (twice 2) (two_begin unlocked_program unlocked_begins) (well_typed unlocked_program.layout refl)
+
+locked_starts : Start locked_program (first_state locked_program (twice 2))
+unfolding turned
+locked_starts = first_states_are_starts locked_program (twice 2) (two_begin locked_program locked_begins) (well_typed locked_program.layout refl)
+
+one_pick : All IsPick (turns (0 ∷ []))
+one_pick = all_more IsPick (record { thread = 0; answer = pos 0 }) [] (record { thread = omega arith; answer = refl }) (all_none IsPick)
+
+unlocked_violates : Sound unlocked_items → ⊥
+unfolding turned
+unlocked_violates sound =
+    let e : true ≡ false = (sound (first_state unlocked_program (twice 2)) unlocked_starts (turns (0 ∷ [])) one_pick).safe zero (without 0 Stepped) (omega arith) in impossible e
+
+unlocked_races : Race unlocked_program (first_state unlocked_program (twice 2))
+unfolding turned
+unlocked_races = record {
+  one = 0;
+  other = 1;
+  apart = apart;
+  frame = _;
+  below = [];
+  runs = refl;
+  other_frame = _;
+  other_below = [];
+  other_runs = refl;
+  cell = 2;
+  value = Int (pos 1);
+  writes = refl;
+  touches = refl;
+  guarded = some_first _ _;
+}
+
+pub unlocked_writes_are_unsound : UnlockedWritesAreUnsound
+unlocked_writes_are_unsound = record {
+  unsound = subst (λ tokens. Sound (unit_in tokens) → ⊥) (tokens_are unlocked_write) unlocked_violates;
+  race = subst (λ tokens. Race (program_of (unit_in tokens)) (first_state (program_of (unit_in tokens)) (twice 2))) (tokens_are unlocked_write) unlocked_races;
+}
+
+pub locked_writes_can_start : LockedWritesCanStart
+locked_writes_can_start =
+    subst (λ tokens. Start (program_of (unit_in tokens)) (first_state (program_of (unit_in tokens)) (twice 2))) (tokens_are locked_write) locked_starts

@@ -1,0 +1,103 @@
+-- Further runs: loops and switches, readers, constants and initial values, tries, releases without a mode, calls and their answers.
+use Rattle.std.specs.Prelude.{◌≡◌, ℕ, pos, negsuc, true, false, Some, None, List, [], ◌∷◌, ◌++◌, replicate, codes}
+use Rattle.tsa_base.specs.declared.value.Value.TheVariants.{Int, Unsigned, Pointer}
+use Rattle.tsa_sched.specs.declared.event.EventKind.TheVariants.{Read, Write, Took, Waits, Tried, Gave, NotHeld, Environment, Called, Returned, Branched, Switched, Stepped, Trap, AlreadyEnded, AlreadyTrapped}
+use Rattle.tsa_sched.specs.declared.event.Mode.TheVariants.{Exclusive, Shared}
+use Rattle.tsa_sched.specs.declared.event.TrapKind.TheVariants.{Division}
+use Rattle.tsa_mean.specs.Texts.{a_lock_with_tries, at, begin, events, turn, turns, violating, without}
+use Rattle.tsa_mean.specs.Traces.{twice}
+
+-- the array `a` stands from place 0 on, `u` at place 3; `sum` is function 0 and `w` function 1
+abbrev loops : List ℕ
+loops =
+    codes "enum { two = 2, three };\nint a[three];\nunsigned u;\nint sum(int n) {\n  int s = 0;\n"
+    ++ (codes "  for (int i = 0; i < n; ++i) { if (i == 1) continue; s += i * two; if (s > 5) break; }\n  do s = s - 1; while (s > 2);\n"
+    ++ (codes "  while (s) { s -= 1; if (s == 1) goto out; }\nout:\n"
+    ++ (codes "  switch (n) { case 0: s = 7; break; case three: a[n - 1] = s; case 5: s = -s; default: s = s * 10; }\n  return s;\n}\n"
+    ++ codes "void w(void) {\n  u = u - 1;\n  a[0] = sum(3);\n  u = -7 / 2 + -7 % 2;\n  a[1] = a[0] + a[2] * 3;\n}\n")))
+
+pub record LoopsGoRound : Type 0 where
+  pub and_switches_choose : events loops (begin 1 [] ∷ []) (turns (replicate 40 0)) ≡
+      at 0 1 0 (Read 3 (Unsigned 0)) ∷ at 0 1 0 (Write 3 (Unsigned 4294967295)) ∷ at 0 1 1 (Called 0) ∷ at 0 0 0 Stepped ∷ at 0 0 1 Stepped
+      ∷ at 0 0 2 (Branched true) ∷ at 0 0 4 (Branched false) ∷ at 0 0 6 Stepped ∷ at 0 0 7 (Branched false) ∷ at 0 0 3 Stepped
+      ∷ at 0 0 2 (Branched true) ∷ at 0 0 4 (Branched true) ∷ at 0 0 5 Stepped ∷ at 0 0 3 Stepped ∷ at 0 0 2 (Branched true)
+      ∷ at 0 0 4 (Branched false) ∷ at 0 0 6 Stepped ∷ at 0 0 7 (Branched false) ∷ at 0 0 3 Stepped ∷ at 0 0 2 (Branched false) ∷ at 0 0 9 Stepped
+      ∷ at 0 0 10 (Branched true) ∷ at 0 0 9 Stepped ∷ at 0 0 10 (Branched false) ∷ at 0 0 11 (Branched true) ∷ at 0 0 12 Stepped
+      ∷ at 0 0 13 (Branched true) ∷ at 0 0 14 Stepped ∷ at 0 0 15 (Switched (Int (pos 3))) ∷ at 0 0 18 (Write 2 (Int (pos 1))) ∷ at 0 0 19 Stepped
+      ∷ at 0 0 20 Stepped ∷ at 0 0 21 (Returned 0) ∷ at 0 1 1 (Write 0 (Int (negsuc 9))) ∷ at 0 1 2 (Write 3 (Unsigned 4294967292))
+      ∷ at 0 1 3 (Read 0 (Int (negsuc 9))) ∷ at 0 1 3 (Read 2 (Int (pos 1))) ∷ at 0 1 3 (Write 1 (Int (negsuc 6))) ∷ at 0 1 4 (Returned 1)
+      ∷ without 0 AlreadyEnded ∷ []
+
+-- an account is five places: itself, its lock, the lock's member, `x` and `y`; accounts stand at 3 and 8, and a pointer to the second that never changes at 13
+abbrev accounts : List ℕ
+accounts =
+    a_lock_with_tries
+    ++ (codes "struct acc { struct lock mu; int x GUARDED_BY(mu); int y; };\nstruct acc two[2] = { { { 3 }, 4 }, { { 0 }, -1, 9 } };\n"
+    ++ (codes "struct acc *const first = &two[1];\nvoid r(struct acc *p, int k) {\n  acqs(&two[k].mu);\n  two[k].y = two[k].x + p->y;\n  rels(&two[k].mu);\n"
+    ++ (codes "  acqs(&first->mu);\n  first->y = first->x;\n  first->x = 5;\n  rels(&first->mu);\n}\n"
+    ++ codes "void w(struct acc *p) {\n  acq(&p->mu);\n  p->x = (*p).x + 1;\n  rel(&p->mu);\n  rel(&p->mu);\n}\n")))
+
+pub record ReadersShareALock : Type 0 where
+  pub beside_writers : events accounts
+      (begin 5 (Pointer (Some 3) ∷ Int (pos 0) ∷ []) ∷ begin 5 (Pointer (Some 8) ∷ Int (pos 1) ∷ []) ∷ begin 6 (Pointer (Some 3) ∷ []) ∷ begin 6 (Pointer (Some 8) ∷ []) ∷ [])
+      (turns (0 ∷ 1 ∷ 2 ∷ 2 ∷ 0 ∷ 1 ∷ 2 ∷ 3 ∷ 0 ∷ 1 ∷ 2 ∷ 3 ∷ 0 ∷ 1 ∷ 2 ∷ 3 ∷ 0 ∷ 1 ∷ 2 ∷ 3 ∷ 0 ∷ 1 ∷ 2 ∷ 3 ∷ 0 ∷ 1 ∷ 2 ∷ 3 ∷ 0 ∷ 1 ∷ 2 ∷ 3 ∷ 0 ∷ 1 ∷ 2 ∷ 3 ∷ 0 ∷ 1 ∷ 2 ∷ 3 ∷ 0 ∷ 1 ∷ 2 ∷ 3 ∷ 0 ∷ 1 ∷ 0 ∷ 1 ∷ 0 ∷ 1 ∷ 0 ∷ 1 ∷ [])) ≡
+      at 0 5 0 (Took 4 Shared) ∷ at 1 5 0 (Took 9 Shared) ∷ at 2 6 0 (Waits 4 0) ∷ at 2 6 0 (Waits 4 0) ∷ at 0 5 1 (Read 6 (Int (pos 4)))
+      ∷ at 1 5 1 (Read 11 (Int (negsuc 0))) ∷ at 2 6 0 (Waits 4 0) ∷ at 3 6 0 (Waits 9 1) ∷ at 0 5 1 (Read 7 (Int (pos 0)))
+      ∷ at 1 5 1 (Read 12 (Int (pos 9))) ∷ at 2 6 0 (Waits 4 0) ∷ at 3 6 0 (Waits 9 1) ∷ at 0 5 1 (Write 7 (Int (pos 4)))
+      ∷ at 1 5 1 (Write 12 (Int (pos 8))) ∷ at 2 6 0 (Waits 4 0) ∷ at 3 6 0 (Waits 9 1) ∷ at 0 5 2 (Gave 4 Shared) ∷ at 1 5 2 (Gave 9 Shared)
+      ∷ at 2 6 0 (Took 4 Exclusive) ∷ at 3 6 0 (Took 9 Exclusive) ∷ at 0 5 3 (Read 13 (Pointer (Some 8))) ∷ at 1 5 3 (Read 13 (Pointer (Some 8)))
+      ∷ at 2 6 1 (Read 6 (Int (pos 4))) ∷ at 3 6 1 (Read 11 (Int (negsuc 0))) ∷ at 0 5 3 (Waits 9 3) ∷ at 1 5 3 (Waits 9 3)
+      ∷ at 2 6 1 (Write 6 (Int (pos 5))) ∷ at 3 6 1 (Write 11 (Int (pos 0))) ∷ at 0 5 3 (Waits 9 3) ∷ at 1 5 3 (Waits 9 3)
+      ∷ at 2 6 2 (Gave 4 Exclusive) ∷ at 3 6 2 (Gave 9 Exclusive) ∷ at 0 5 3 (Took 9 Shared) ∷ at 1 5 3 (Took 9 Shared) ∷ violating 2 6 3 (NotHeld 4)
+      ∷ violating 3 6 3 (NotHeld 9) ∷ at 0 5 4 (Read 13 (Pointer (Some 8))) ∷ at 1 5 4 (Read 13 (Pointer (Some 8))) ∷ at 2 6 4 (Returned 6)
+      ∷ at 3 6 4 (Returned 6) ∷ at 0 5 4 (Read 11 (Int (pos 0))) ∷ at 1 5 4 (Read 11 (Int (pos 0))) ∷ without 2 AlreadyEnded ∷ without 3 AlreadyEnded
+      ∷ at 0 5 4 (Read 13 (Pointer (Some 8))) ∷ at 1 5 4 (Read 13 (Pointer (Some 8))) ∷ at 0 5 4 (Write 12 (Int (pos 0)))
+      ∷ at 1 5 4 (Write 12 (Int (pos 0))) ∷ at 0 5 5 (Read 13 (Pointer (Some 8))) ∷ at 1 5 5 (Read 13 (Pointer (Some 8)))
+      ∷ violating 0 5 5 (Write 11 (Int (pos 5))) ∷ violating 1 5 5 (Write 11 (Int (pos 5))) ∷ []
+
+-- two reentrant locks at places 0 and 2, `c` at 4 under the second, and a pointer to that at 5
+abbrev forms : List ℕ
+forms =
+    codes "typedef struct CAPABILITY(\"reentrant lock\") lock { int s; } lock_t;\ntypedef lock_t *handle;\nvoid take(lock_t *m) ACQUIRE(m);\n"
+    ++ (codes "int try(const lock_t *m) TRY_ACQUIRE_SHARED(0, m);\nvoid both(lock_t *m) RELEASE_GENERIC(m);\nint read(void);\nunsigned rnd(int a);\n"
+    ++ (codes "lock_t l[2];\nint c GUARDED_BY(l[1]);\nhandle const h = &l[1];\nint inc(int by) REQUIRES(l[1]) { c = c + by; return c; }\n"
+    ++ (codes "void w(void) {\n  take(h); take(&l[1]);\n  int v = inc(3);\n  both(&l[1]); both(h);\n  if (!try(&l[0])) { if (h && v > 2 || c) ; both(&l[0]); }\n"
+    ++ codes "  unsigned q = rnd(v + 1);\n  v = read();\n  v += inc(1);\n  int z = read();\n  v = v / z;\n}\n")))
+
+-- a call without the lock that it requires is no violation by itself, but what its function reads and writes is
+pub record CallsAreAnswered : Type 0 where
+  pub in_all_places : events forms (twice 6)
+      (turns (0 ∷ 1 ∷ 0 ∷ 0 ∷ 0 ∷ 0 ∷ 0 ∷ 0 ∷ 0 ∷ 0 ∷ 0 ∷ 0 ∷ 0 ∷ 0 ∷ 0 ∷ 0 ∷ 0 ∷ []) ++ turn 0 (negsuc 0) ∷ turns (0 ∷ 0 ∷ 0 ∷ 0 ∷ 0 ∷ 0 ∷ 0 ∷ 1 ∷ 1 ∷ 1 ∷ 1 ∷ 1 ∷ 1 ∷ 0 ∷ 0 ∷ 0 ∷ 0 ∷ [])) ≡
+      at 0 6 0 (Read 5 (Pointer (Some 2))) ∷ at 1 6 0 (Read 5 (Pointer (Some 2))) ∷ at 0 6 0 (Took 2 Exclusive) ∷ at 0 6 1 (Took 2 Exclusive)
+      ∷ at 0 6 2 (Called 5) ∷ at 0 5 0 (Read 4 (Int (pos 0))) ∷ at 0 5 0 (Write 4 (Int (pos 3))) ∷ at 0 5 1 (Read 4 (Int (pos 3)))
+      ∷ at 0 5 1 (Returned 5) ∷ at 0 6 3 (Gave 2 Exclusive) ∷ at 0 6 4 (Read 5 (Pointer (Some 2))) ∷ at 0 6 4 (Gave 2 Exclusive)
+      ∷ at 0 6 5 (Tried 0 Shared true) ∷ at 0 6 6 (Read 5 (Pointer (Some 2))) ∷ at 0 6 6 (Branched true) ∷ at 0 6 7 Stepped ∷ at 0 6 8 (Gave 0 Shared)
+      ∷ at 0 6 9 (Environment 4 (Some (Unsigned 4294967295))) ∷ at 0 6 10 (Environment 3 (Some (Int (pos 0)))) ∷ at 0 6 10 Stepped
+      ∷ at 0 6 11 (Called 5) ∷ violating 0 5 0 (Read 4 (Int (pos 3))) ∷ violating 0 5 0 (Write 4 (Int (pos 4)))
+      ∷ violating 0 5 1 (Read 4 (Int (pos 4))) ∷ at 0 5 1 (Returned 5) ∷ at 1 6 0 (Took 2 Exclusive) ∷ at 1 6 1 (Took 2 Exclusive)
+      ∷ at 1 6 2 (Called 5) ∷ at 1 5 0 (Read 4 (Int (pos 4))) ∷ at 1 5 0 (Write 4 (Int (pos 7))) ∷ at 1 5 1 (Read 4 (Int (pos 7))) ∷ at 0 6 11 Stepped
+      ∷ at 0 6 12 (Environment 3 (Some (Int (pos 0)))) ∷ at 0 6 13 (Trap Division) ∷ without 0 AlreadyTrapped ∷ []
+
+-- a function that tries two locks, of which `nu` stands at place 3, and one that calls it: functions 5 and 6
+abbrev a_try_of_two : List ℕ
+a_try_of_two =
+    a_lock_with_tries
+    ++ (codes "int both(struct lock *a, struct lock *b) TRY_ACQUIRE(1, a, b) {\n  if (!tr(a)) return 0;\n  if (tr(b)) return 1;\n  rel(a);\n  return 0;\n}\n"
+    ++ codes "struct lock nu;\nvoid w(void) { if (both(&mu, &nu)) { g = 1; rel(&nu); rel(&mu); } }")
+
+pub record ReturnsAreJudged : Type 0 where
+  pub as_tried : events a_try_of_two (begin 6 [] ∷ []) (turns (replicate 8 0)) ≡
+      at 0 6 0 (Called 5) ∷ at 0 5 0 (Tried 0 Exclusive true) ∷ at 0 5 2 (Tried 3 Exclusive true) ∷ at 0 5 3 (Returned 5) ∷ at 0 6 1 (Write 2 (Int (pos 1)))
+      ∷ at 0 6 2 (Gave 3 Exclusive) ∷ at 0 6 3 (Gave 0 Exclusive) ∷ at 0 6 4 (Returned 6) ∷ []
+  -- the first try fails while the other thread holds the lock
+  pub in_vain : events a_try_of_two (twice 6) (turns (0 ∷ 0 ∷ 1 ∷ 1 ∷ 1 ∷ 1 ∷ [])) ≡
+      at 0 6 0 (Called 5) ∷ at 0 5 0 (Tried 0 Exclusive true) ∷ at 1 6 0 (Called 5) ∷ at 1 5 0 (Tried 0 Exclusive false) ∷ at 1 5 1 (Returned 5) ∷ at 1 6 4 (Returned 6) ∷ []
+  pub still_held : events (a_lock_with_tries ++ codes "void w(void) { acqs(&mu); }") (begin 5 [] ∷ []) (turns (0 ∷ 0 ∷ [])) ≡
+      at 0 5 0 (Took 0 Shared) ∷ violating 0 5 1 (Returned 5) ∷ []
+  -- a path that meets null names no lock
+  pub of_null : events (a_lock_with_tries ++ codes "void f(struct lock *p) REQUIRES(p) { }\nvoid w(struct lock *q) { f(q); }") (begin 6 (Pointer None ∷ []) ∷ []) (turns (0 ∷ 0 ∷ 0 ∷ [])) ≡
+      at 0 6 0 (Called 5) ∷ violating 0 5 0 (Returned 5) ∷ at 0 6 1 (Returned 6) ∷ []
+  -- the answer of a lock function is 0, and is written in a turn of its own
+  pub of_a_lock_function : events (a_lock_with_tries ++ codes "int take(struct lock *m) ACQUIRE(m);\nint n;\nvoid w(void) { n = take(&mu); n += 2; rel(&mu); }") (begin 6 [] ∷ []) (turns (replicate 6 0)) ≡
+      at 0 6 0 (Took 0 Exclusive) ∷ at 0 6 0 (Write 3 (Int (pos 0))) ∷ at 0 6 1 (Read 3 (Int (pos 0))) ∷ at 0 6 1 (Write 3 (Int (pos 2))) ∷ at 0 6 2 (Gave 0 Exclusive)
+      ∷ at 0 6 3 (Returned 6) ∷ []

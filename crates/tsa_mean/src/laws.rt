@@ -1,0 +1,110 @@
+//! Laws of the machine.
+ghost use Rattle.tsa_mean.specs.Examples.{LockedWritesCanStart, UnlockedWritesAreUnsound};
+ghost use Rattle.tsa_mean.specs.FurtherTraces.{CallsAreAnswered, LoopsGoRound, ReadersShareALock, ReturnsAreJudged};
+ghost use Rattle.tsa_mean.specs.Laws.{FirstStatesAreStarts, NothingIsDoneWhereNoneRuns, NothingIsDoneWhileWaiting, RunsGoTurnByTurn, TurnsAreAtomic, WhatIsNotHeldIsAViolation};
+ghost use Rattle.tsa_mean.specs.Traces.{AnswersCome, HoldersTakeTheirLockAgain, ThreadsTrap, ThreadsWait, TransfersLockTheirAccounts, UnlockedWritesAreViolations};
+ghost use Rattle.tsa_mean.specs.Violations.{WhatIsNoViolationIsSafe};
+
+/// A turn of a thread that isn't there, has ended, has stopped for good or waits changes nothing.
+#[tactic(auto, using(crate::proofs::Turns::nothing_is_done_where_none_runs, crate::proofs::Turns::nothing_is_done_while_waiting))]
+pub fn some_turns_change_nothing()
+    ensures none_runs { NothingIsDoneWhereNoneRuns }
+    ensures waiting { NothingIsDoneWhileWaiting }
+{}
+
+/// A turn reads one cell at most, writes one cell or changes one lock at most, and leaves all other threads as they were.
+#[tactic(auto, using(crate::proofs::Atomic::turns_are_atomic))]
+pub fn turns_are_atomic()
+    ensures { TurnsAreAtomic }
+{}
+
+/// Each pick has one turn, of its thread, and a run goes on where the last one ended.
+#[tactic(auto, using(crate::proofs::Atomic::runs_go_turn_by_turn))]
+pub fn runs_go_turn_by_turn()
+    ensures { RunsGoTurnByTurn }
+{}
+
+/// An act is worked out to be no violation exactly where it is safe, and a giving is one exactly where the thread doesn't hold what it gives.
+#[tactic(auto, using(crate::proofs::Safety::what_is_no_violation_is_safe, crate::proofs::Atomic::what_is_not_held_is_a_violation))]
+pub fn violations_are_unsafe()
+    ensures safe { WhatIsNoViolationIsSafe }
+    ensures not_held { WhatIsNotHeldIsAViolation }
+{}
+
+/// Threads that begin well, with the initial values in all cells, are a start.
+#[tactic(auto, using(crate::proofs::Starting::first_states_are_starts))]
+pub fn first_states_are_starts()
+    ensures { FirstStatesAreStarts }
+{}
+
+/// A thread waits while another one holds the lock that it takes.
+#[tactic(auto, using(crate::proofs::Worked::threads_wait))]
+pub fn threads_wait()
+    ensures { ThreadsWait }
+{}
+
+/// Writes without the lock that guards a cell are violations of each thread that makes them.
+#[tactic(auto, using(crate::proofs::Worked::unlocked_writes_are_violations))]
+pub fn unlocked_writes_are_violations()
+    ensures { UnlockedWritesAreViolations }
+{}
+
+/// A transfer locks both accounts, and from an account to itself waits for itself.
+#[tactic(auto, using(crate::proofs::Worked::transfers_lock_their_accounts))]
+pub fn transfers_lock_their_accounts()
+    ensures { TransfersLockTheirAccounts }
+{}
+
+/// Overflow, division by zero, null, an index out of range and a call too deep stop a thread for good.
+#[tactic(auto, using(crate::proofs::Worked::threads_trap))]
+pub fn threads_trap()
+    ensures { ThreadsTrap }
+{}
+
+/// The environment answers what the pick says, and a try whether it took the lock.
+#[tactic(auto, using(crate::proofs::Worked::answers_come))]
+pub fn answers_come()
+    ensures { AnswersCome }
+{}
+
+/// The holder of a reentrant lock takes it again, and it is free once it is given back as often.
+#[tactic(auto, using(crate::proofs::Worked::holders_take_their_lock_again))]
+pub fn holders_take_their_lock_again()
+    ensures { HoldersTakeTheirLockAgain }
+{}
+
+/// A unit that writes without the lock isn't sound: it races from its first state on.
+#[tactic(auto, using(crate::proofs::Unsound::unlocked_writes_are_unsound))]
+pub fn unlocked_writes_are_unsound()
+    ensures { UnlockedWritesAreUnsound }
+{}
+
+/// A unit that takes a lock has a start.
+#[tactic(auto, using(crate::proofs::Unsound::locked_writes_can_start))]
+pub fn locked_writes_can_start()
+    ensures { LockedWritesCanStart }
+{}
+
+/// Loops and switches go where their values lead.
+#[tactic(auto, using(crate::proofs::WorkedFurther::loops_go_round))]
+pub fn loops_go_round()
+    ensures { LoopsGoRound }
+{}
+
+/// Readers hold a lock together, and a writer waits for them.
+#[tactic(auto, using(crate::proofs::WorkedFurther::readers_share_a_lock))]
+pub fn readers_share_a_lock()
+    ensures { ReadersShareALock }
+{}
+
+/// What a call gives back goes where the call stands: into an assignment, a declaration, a test or a return.
+#[tactic(auto, using(crate::proofs::WorkedFurther::calls_are_answered))]
+pub fn calls_are_answered()
+    ensures { CallsAreAnswered }
+{}
+
+/// A return is judged by what its function's attributes say of its answer.
+#[tactic(auto, using(crate::proofs::WorkedFurther::returns_are_judged))]
+pub fn returns_are_judged()
+    ensures { ReturnsAreJudged }
+{}
