@@ -105,8 +105,20 @@ unfolding run
 events_behind u s [] more = refl
 events_behind u s (pick ∷ picks) more = ap (λ events. (step u s pick).1 ∷ events) (events_behind u (step u s pick).0 picks more)
 
+at_its_point : (u : Program) (s : State) (pick : Pick) (frame : Frame) (below : List Frame) → thread_at s pick.thread ≡ Some (running frame below)
+    → (step u s pick).1.site ≡ Some (record { function = frame.function; point = frame.point })
+unfolding step
+at_its_point u s pick frame below runs = ap (λ x. (turn_of u s pick.thread pick.answer x).1.site) runs
+
 pub runs_go_turn_by_turn : RunsGoTurnByTurn
-runs_go_turn_by_turn = record { thread = of_its_thread; each = each_turn; state = state_behind; events = events_behind }
+runs_go_turn_by_turn = record {
+  total = λ u s pick. ((step u s pick).0, (step u s pick).1, refl);
+  point = at_its_point;
+  thread = of_its_thread;
+  each = each_turn;
+  state = state_behind;
+  events = events_behind;
+}
 
 -- givings of what isn't held
 none_held : (n : ℕ) → (not (nat_lt 0 n) ≡ true) ↔ (nat_eq n 0 ≡ true)

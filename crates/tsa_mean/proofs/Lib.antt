@@ -3,6 +3,7 @@ pub mod Safety
 pub mod Turns
 pub mod Reading
 pub mod Atomic
+pub mod Telling
 pub mod Starting
 pub mod Worked
 pub mod WorkedFurther

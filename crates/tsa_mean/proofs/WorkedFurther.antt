@@ -1,20 +1,20 @@
 -- Further runs worked out.
 use Rattle.std.proofs.Common.{refl}
 use Rattle.tsa_mean.specs.FurtherTraces.{CallsAreAnswered, LoopsGoRound, ReadersShareALock, ReturnsAreJudged}
-use Rattle.tsa_mean.proofs.Worked.{turned}
+use Rattle.tsa_mean.proofs.Worked.{quickly, turned}
 
 pub loops_go_round : LoopsGoRound
 unfolding turned
-loops_go_round = record { and_switches_choose = refl }
+loops_go_round = record { and_switches_choose = quickly _ _ _ _ refl }
 
 pub readers_share_a_lock : ReadersShareALock
 unfolding turned
-readers_share_a_lock = record { beside_writers = refl }
+readers_share_a_lock = record { beside_writers = quickly _ _ _ _ refl }
 
 pub calls_are_answered : CallsAreAnswered
 unfolding turned
-calls_are_answered = record { in_all_places = refl }
+calls_are_answered = record { in_all_places = quickly _ _ _ _ refl }
 
 pub returns_are_judged : ReturnsAreJudged
 unfolding turned
-returns_are_judged = record { as_tried = refl; in_vain = refl; still_held = refl; of_null = refl; of_a_lock_function = refl }
+returns_are_judged = record { as_tried = quickly _ _ _ _ refl; in_vain = quickly _ _ _ _ refl; still_held = quickly _ _ _ _ refl; of_null = quickly _ _ _ _ refl; of_a_lock_function = quickly _ _ _ _ refl }

@@ -1,18 +1,20 @@
 -- The shape of turns: what they leave as it was, and how much of the store and of the locks one of them reads and changes.
-use Rattle.std.specs.Prelude.{◌≡◌, ◌↔◌, ℕ, ℤ, ◌<◌, ◌++◌, true, Option, Some, None, List, length, slice_set, All}
+use Rattle.std.specs.Prelude.{◌≡◌, ◌↔◌, ℕ, ℤ, ◌<◌, ◌++◌, true, false, Option, Some, None, List, length, slice_set, All}
 use Rattle.tsa_base.specs.declared.value.Value.{Value}
 use Rattle.tsa_core.specs.Programs.{Program}
 use Rattle.tsa_core.specs.Stores.{IsWellTyped, start}
 use Rattle.tsa_locks.specs.Laws.{IsLock}
 use Rattle.tsa_locks.specs.Locks.{Lock, Mode, take, taken, give}
+use Rattle.tsa_sched.specs.declared.event.Event.{Event}
 use Rattle.tsa_sched.specs.declared.event.EventKind.{EventKind}
 use Rattle.tsa_sched.specs.declared.event.EventKind.TheVariants as event
 use Rattle.tsa_sched.specs.declared.pick.Pick.{Pick}
-use Rattle.tsa_mean.specs.Acts.{to_give}
+use Rattle.tsa_mean.specs.Acts.{act_of, to_give, to_write, touched_cell}
 use Rattle.tsa_mean.specs.Runs.{idle, run, step}
+use Rattle.tsa_mean.specs.Safe.{IsSafe}
 use Rattle.tsa_mean.specs.Sound.{Start}
 use Rattle.tsa_mean.specs.Starts.{Begin, BeginsWell, first_state}
-use Rattle.tsa_mean.specs.States.{Frame, State, trapped, ended, holds_of, lock_at, thread_at, value_at}
+use Rattle.tsa_mean.specs.States.{Frame, State, Thread, running, trapped, ended, holds_of, lock_at, thread_at, value_at}
 use Rattle.tsa_mean.specs.Steps.{is_reentrant_at, perform}
 use Rattle.tsa_mean.specs.Violations.{violates}
 
@@ -76,12 +78,35 @@ pub record TurnsAreAtomic : Type 0 where
   pub locks : (u : Program) (s : State) (pick : Pick) (store : List Value) → AgreeOn (step u s pick).1.kind s (over s store)
       → (step u (over s store) pick).0.locks ≡ (step u s pick).0.locks
 
--- Each pick has its turn, of its thread; and a run goes on where the last one ended.
+-- Each pick has its turn, which tells one event: of its thread, and where that runs, of the point at which it is. A run goes on where the last one ended.
 pub record RunsGoTurnByTurn : Type 0 where
+  pub total : (u : Program) (s : State) (pick : Pick) → (after : State) × (told : Event) × (step u s pick ≡ (after, told))
+  pub point : (u : Program) (s : State) (pick : Pick) (frame : Frame) (below : List Frame) → thread_at s pick.thread ≡ Some (running frame below)
+      → (step u s pick).1.site ≡ Some (record { function = frame.function; point = frame.point })
   pub thread : (u : Program) (s : State) (pick : Pick) → (step u s pick).1.thread ≡ pick.thread
   pub each : (u : Program) (s : State) (picks : List Pick) → length (run u s picks).1 ≡ length picks
   pub state : (u : Program) (s : State) (picks more : List Pick) → (run u s (picks ++ more)).0 ≡ (run u (run u s picks).0 more).0
   pub events : (u : Program) (s : State) (picks more : List Pick) → (run u s (picks ++ more)).1 ≡ (run u s picks).1 ++ (run u (run u s picks).0 more).1
+
+-- The next turn of a thread that runs tells its act: it reads or writes the cell that the act touches, and writes what the act does.
+abbrev pub cell_in : EventKind → Option ℕ
+cell_in (event.Read place v) = Some place
+cell_in (event.Write place v) = Some place
+cell_in kind = None
+
+pub record TurnsTellTheirActs : Type 0 where
+  pub touches : (u : Program) (s : State) (pick : Pick) (frame : Frame) (below : List Frame) → thread_at s pick.thread ≡ Some (running frame below)
+      → cell_in (step u s pick).1.kind ≡ touched_cell (act_of u frame)
+  pub writes : (u : Program) (s : State) (pick : Pick) (frame : Frame) (below : List Frame) (place : ℕ) (v : Value)
+      → thread_at s pick.thread ≡ Some (running frame below) → ((step u s pick).1.kind ≡ event.Write place v) ↔ (act_of u frame ≡ to_write place v)
+
+-- a turn is no violation exactly where the act of its thread is safe, and one of a thread that doesn't run is none
+abbrev pub IsSafeIn : Program → State → (thread : ℕ) → Option Thread → Type 0
+IsSafeIn u s t (Some (running frame below)) = IsSafe u (holds_of s t) frame (act_of u frame)
+IsSafeIn u s t other = Unit {0}
+
+abbrev pub TurnsAreSafeByTheirActs : Type 0
+TurnsAreSafeByTheirActs = (u : Program) (s : State) (pick : Pick) → ((step u s pick).1.violation ≡ false) ↔ IsSafeIn u s pick.thread (thread_at s pick.thread)
 
 -- a giving is a violation exactly where what is to be given isn't held
 abbrev pub WhatIsNotHeldIsAViolation : Type 0

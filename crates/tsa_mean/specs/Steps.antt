@@ -1,11 +1,13 @@
 -- What an act does to a state, and what is told of it.
-use Rattle.std.specs.Prelude.{ℕ, ◌+◌, ℤ, nat_lt, not, Bool, true, false, Option, Some, None, List, [], ◌∷◌, length, slice_set, if◌then◌else◌}
+use Rattle.std.specs.Prelude.{ℕ, ◌+◌, ℤ, pos, nat_lt, not, Bool, true, false, Option, Some, None, List, [], ◌∷◌, length, slice_set, if◌then◌else◌}
 use Rattle.tsa_base.specs.declared.value.Value.{Value}
-use Rattle.tsa_base.specs.declared.value.Value.TheVariants.{Int}
+use Rattle.tsa_base.specs.declared.value.Value.TheVariants.{Int, Unsigned, Pointer}
 use Rattle.tsa_tree.specs.declared.kind.Kind.{Kind}
 use Rattle.tsa_tree.specs.declared.kind.Kind.TheVariants as type
+use Rattle.tsa_tree.specs.declared.number.Number.TheVariants as numeral
 use Rattle.tsa_tree.specs.types.Arithmetic.{int_of}
 use Rattle.tsa_core.specs.Calls.{kind_at}
+use Rattle.tsa_core.specs.Items.{converted}
 use Rattle.tsa_core.specs.Control.{Next}
 use Rattle.tsa_core.specs.Programs.{LockKind, Program}
 use Rattle.tsa_rules.specs.Attributes.{lock_kind_at}
@@ -16,8 +18,8 @@ use Rattle.tsa_sched.specs.declared.event.EventKind.TheVariants as event
 use Rattle.tsa_sched.specs.declared.event.TrapKind.TheVariants as trap
 use Rattle.tsa_mean.specs.Acts.{Act, to_read, to_write, to_step, to_set, to_branch, to_choose, to_take, to_try, to_give, to_ask, to_enter, to_leave, to_trap}
 use Rattle.tsa_mean.specs.Frames.{frame_behind, frame_by_case, frame_of_call, frame_with_answer, outcome_of, with_work}
-use Rattle.tsa_mean.specs.Operators.{converted_to, number_of}
 use Rattle.tsa_mean.specs.Outs.{TrapKind}
+use Rattle.tsa_mean.specs.Working.{with_local}
 use Rattle.tsa_mean.specs.States.{Frame, State, Thread, running, trapped, ended, holds_of, lock_at, value_at, with_lock, with_thread, with_value}
 
 -- whether the holder of the lock at a place may take it again
@@ -31,6 +33,12 @@ is_reentrant_kind u _ = false
 
 abbrev pub is_reentrant_at : Program → (lock : ℕ) → Bool
 is_reentrant_at u lock = is_reentrant_kind u (kind_at u.layout lock)
+
+-- the `int` that equals the value of a switch modulo 2^32
+abbrev pub int_in : Value → ℤ
+int_in (Int z) = z
+int_in (Unsigned n) = int_of (numeral.Unsigned n)
+int_in (Pointer p) = pos 0
 
 -- a turn leaves a state, and tells what was done
 abbrev pub Turn : Type 0
@@ -72,10 +80,10 @@ module _ (u : Program) (s : State) (t : ℕ) (frame : Frame) (below : List Frame
   mode_or_held None lock = mode_to_give t (lock_at s lock)
   mode_or_held (Some mode) lock = mode
 
-  -- the environment answers with the pick's number, as the result's kind
+  -- the environment answers with the pick's number, converted to the result's kind (C11 6.3.1.3)
   abbrev pub asking : ℕ → Kind → ℤ → Turn
   asking f type.Void z = (with_top s (answering false), event.Environment f None)
-  asking f kind z = (with_top s (frame_with_answer u frame (converted_to kind (Int z))), event.Environment f (Some (converted_to kind (Int z))))
+  asking f kind z = (with_top s (frame_with_answer u frame (converted kind (numeral.Int z))), event.Environment f (Some (converted kind (numeral.Int z))))
 
   -- a trap stops the thread for good
   abbrev pub stops : TrapKind → Turn
@@ -96,9 +104,9 @@ module _ (u : Program) (s : State) (t : ℕ) (frame : Frame) (below : List Frame
   perform z (to_read place left) = (with_top s (with_work frame (left (value_at s place))), event.Read place (value_at s place))
   perform z (to_write place v) = (with_top (with_value s place v) next_frame, event.Write place v)
   perform z to_step = (with_top s next_frame, event.Stepped)
-  perform z (to_set n v) = (with_top s (frame_behind u frame (slice_set frame.locals n v) Next), event.Stepped)
+  perform z (to_set n v) = (with_top s (frame_behind u frame (with_local frame.locals n v) Next), event.Stepped)
   perform z (to_branch b) = (with_top s (frame_behind u frame frame.locals (outcome_of b)), event.Branched b)
-  perform z (to_choose v) = (with_top s (frame_by_case u frame (int_of (number_of v))), event.Switched v)
+  perform z (to_choose v) = (with_top s (frame_by_case u frame (int_in v)), event.Switched v)
   perform z (to_take mode lock) = after_take mode lock (take (is_reentrant_at u lock) mode t (lock_at s lock))
   perform z (to_try mode success lock) = after_try mode success lock (take (is_reentrant_at u lock) mode t (lock_at s lock))
   perform z (to_give mode lock) = giving lock (mode_or_held mode lock)

@@ -1,8 +1,9 @@
 -- How worked runs are written: which threads begin, which of them take turns, and what is told of each turn.
 use Rattle.std.specs.Prelude.{ℕ, ℤ, pos, true, false, Some, None, List, ◌++◌, map, codes}
 use Rattle.tsa_base.specs.declared.value.Value.{Value}
-use Rattle.tsa_core.specs.Examples.{program}
-use Rattle.tsa_core.specs.Programs.{Program}
+use Rattle.tsa_base.specs.Tokens.{tokens_of}
+use Rattle.tsa_tree.specs.types.Texts.{unit_in}
+use Rattle.tsa_core.specs.Programs.{Program, program_of}
 use Rattle.tsa_sched.specs.declared.event.Event.{Event}
 use Rattle.tsa_sched.specs.declared.event.EventKind.{EventKind}
 use Rattle.tsa_sched.specs.declared.pick.Pick.{Pick}
@@ -35,8 +36,8 @@ without t kind = record { thread = t; site = None; kind = kind; violation = fals
 abbrev pub events_in : Program → List Begin → List Pick → List Event
 events_in u begins picks = (run u (first_state u begins) picks).1
 
-abbrev pub events : List ℕ → List Begin → List Pick → List Event
-events text begins picks = events_in (program text) begins picks
+unfoldable pub events : List ℕ → List Begin → List Pick → List Event
+events text begins picks = events_in (program_of (unit_in (tokens_of text))) begins picks
 
 -- A lock `mu` of a kind with functions 0 and 1 that take and give one, and a number `g` under it: `mu` stands at place 0, and `g` at place 2. Then function 2,
 -- which tries a lock, and functions 3 and 4, which take and give one together with others.

@@ -1,5 +1,5 @@
 -- Terms are worked out from left to right (C11 6.5): to the first read of a cell, to a trap, or to the end.
-use Rattle.std.specs.Prelude.{ℕ, pos, Option, Some, None, List, [], ◌∷◌, slice_get}
+use Rattle.std.specs.Prelude.{ℕ, pos, Option, Some, None, List, [], ◌∷◌, slice_get, slice_set}
 use Rattle.tsa_base.specs.declared.value.Value.{Value}
 use Rattle.tsa_base.specs.declared.value.Value.TheVariants.{Int, Pointer}
 use Rattle.tsa_core.specs.Calls.{Layout, global_place, member_place, index_in}
@@ -20,8 +20,11 @@ or_zero (Some v) = v
 abbrev pub local_at : Locals → (number : ℕ) → Value
 local_at locals n = or_zero (slice_get locals n)
 
--- No term without a place is asked for one, and no call that isn't answered yet is worked out: these count as null. A pointer that is followed traps where it is null
--- (C11 6.5.3.2p4), and an index where it isn't below the length of its array (C11 6.5.6p8).
+abbrev pub with_local : Locals → (number : ℕ) → Value → Locals
+with_local locals n v = slice_set locals n v
+
+-- A pointer that is followed traps where it is null (C11 6.5.3.2p4), and an index where it isn't below the length of its array (C11 6.5.6p8). No place is asked of
+-- a term without one, and no value of a struct, of an array, and of a call that isn't answered: these count as null.
 module _ (l : Layout) (locals : Locals) where
   abbrev mutual
     -- where a term stands
@@ -45,15 +48,13 @@ module _ (l : Layout) (locals : Locals) where
     rvalue (variable n) = yields (local_at locals n)
     rvalue (load is_stable place) = bind (lvalue place) (λ p. reads p)
     rvalue (address place) = bind (lvalue place) (λ p. yields (Pointer (Some p)))
-    rvalue (converted kind inner) = bind (rvalue inner) (λ v. yields (converted_to kind v))
+    rvalue (converted kind inner) = bind (rvalue inner) (λ v. converted_to kind v)
     rvalue (prefixed o inner) = bind (rvalue inner) (λ v. prefix_on o v)
     rvalue (joined o left right) = bind (rvalue left) (λ v. joined_with o v (rvalue right))
-    -- a struct or an array that stands as a statement has no value, but its place is worked out
-    rvalue (global n) = bind (or_trap trap.NullPointer (global_place l n)) (λ p. yields (Pointer None))
-    rvalue (member base k) = bind (lvalue base) (λ place. bind (or_trap trap.NullPointer (member_place l place k)) (λ p. yields (Pointer None)))
-    rvalue (element base index) =
-        bind (lvalue base) (λ place. bind (rvalue index) (λ v. bind (or_trap trap.OutOfRange (at_index l (Some place) (index_in v))) (λ p. yields (Pointer None))))
-    rvalue (target pointer) = bind (rvalue pointer) (λ v. bind (or_trap trap.NullPointer (pointed_place v)) (λ p. yields (Pointer None)))
+    rvalue (global n) = traps trap.NullPointer
+    rvalue (member base k) = traps trap.NullPointer
+    rvalue (element base index) = traps trap.NullPointer
+    rvalue (target pointer) = traps trap.NullPointer
     rvalue answer = traps trap.NullPointer
 
   -- the values of terms in order

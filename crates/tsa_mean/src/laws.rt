@@ -1,7 +1,7 @@
 //! Laws of the machine.
 ghost use Rattle.tsa_mean.specs.Examples.{LockedWritesCanStart, UnlockedWritesAreUnsound};
 ghost use Rattle.tsa_mean.specs.FurtherTraces.{CallsAreAnswered, LoopsGoRound, ReadersShareALock, ReturnsAreJudged};
-ghost use Rattle.tsa_mean.specs.Laws.{FirstStatesAreStarts, NothingIsDoneWhereNoneRuns, NothingIsDoneWhileWaiting, RunsGoTurnByTurn, TurnsAreAtomic, WhatIsNotHeldIsAViolation};
+ghost use Rattle.tsa_mean.specs.Laws.{FirstStatesAreStarts, NothingIsDoneWhereNoneRuns, NothingIsDoneWhileWaiting, RunsGoTurnByTurn, TurnsAreAtomic, TurnsAreSafeByTheirActs, TurnsTellTheirActs, WhatIsNotHeldIsAViolation};
 ghost use Rattle.tsa_mean.specs.Traces.{AnswersCome, HoldersTakeTheirLockAgain, ThreadsTrap, ThreadsWait, TransfersLockTheirAccounts, UnlockedWritesAreViolations};
 ghost use Rattle.tsa_mean.specs.Violations.{WhatIsNoViolationIsSafe};
 
@@ -24,10 +24,17 @@ pub fn runs_go_turn_by_turn()
     ensures { RunsGoTurnByTurn }
 {}
 
-/// An act is worked out to be no violation exactly where it is safe, and a giving is one exactly where the thread doesn't hold what it gives.
-#[tactic(auto, using(crate::proofs::Safety::what_is_no_violation_is_safe, crate::proofs::Atomic::what_is_not_held_is_a_violation))]
+/// The next turn of a thread tells the act that its top frame decides: which cell it touches, and what it writes.
+#[tactic(auto, using(crate::proofs::Telling::turns_tell_their_acts))]
+pub fn turns_tell_their_acts()
+    ensures { TurnsTellTheirActs }
+{}
+
+/// An act is worked out to be no violation exactly where it is safe, and so is a turn; a giving is one exactly where the thread doesn't hold what it gives.
+#[tactic(auto, using(crate::proofs::Safety::what_is_no_violation_is_safe, crate::proofs::Telling::turns_are_safe_by_their_acts, crate::proofs::Atomic::what_is_not_held_is_a_violation))]
 pub fn violations_are_unsafe()
-    ensures safe { WhatIsNoViolationIsSafe }
+    ensures acts { WhatIsNoViolationIsSafe }
+    ensures turns { TurnsAreSafeByTheirActs }
     ensures not_held { WhatIsNotHeldIsAViolation }
 {}
 
