@@ -4,6 +4,8 @@ pub mod Turns
 pub mod Reading
 pub mod Atomic
 pub mod Telling
+pub mod Worths
+pub mod Filling
 pub mod Starting
 pub mod Worked
 pub mod WorkedFurther

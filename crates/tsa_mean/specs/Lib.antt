@@ -12,6 +12,7 @@ pub mod Runs
 pub mod Starts
 pub mod Sound
 pub mod Laws
+pub mod WorthLaws
 pub mod Texts
 pub mod Traces
 pub mod FurtherTraces

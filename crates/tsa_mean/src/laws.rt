@@ -4,6 +4,7 @@ ghost use Rattle.tsa_mean.specs.FurtherTraces.{CallsAreAnswered, LoopsGoRound, R
 ghost use Rattle.tsa_mean.specs.Laws.{FirstStatesAreStarts, NothingIsDoneWhereNoneRuns, NothingIsDoneWhileWaiting, RunsGoTurnByTurn, TurnsAreAtomic, TurnsAreSafeByTheirActs, TurnsTellTheirActs, WhatIsNotHeldIsAViolation};
 ghost use Rattle.tsa_mean.specs.Traces.{AnswersCome, HoldersTakeTheirLockAgain, ThreadsTrap, ThreadsWait, TransfersLockTheirAccounts, UnlockedWritesAreViolations};
 ghost use Rattle.tsa_mean.specs.Violations.{WhatIsNoViolationIsSafe};
+ghost use Rattle.tsa_mean.specs.WorthLaws.{ReadsKeepTheWorth, WhatIsWorkedOutIsWorthIt};
 
 /// A turn of a thread that isn't there, has ended, has stopped for good or waits changes nothing.
 #[tactic(auto, using(crate::proofs::Turns::nothing_is_done_where_none_runs, crate::proofs::Turns::nothing_is_done_while_waiting))]
@@ -36,6 +37,13 @@ pub fn violations_are_unsafe()
     ensures acts { WhatIsNoViolationIsSafe }
     ensures turns { TurnsAreSafeByTheirActs }
     ensures not_held { WhatIsNotHeldIsAViolation }
+{}
+
+/// What is worked out without a read is what a term is worth in any store, and what traps is worth nothing; a read that is replaced by what a store holds keeps what the term is worth there.
+#[tactic(auto, using(crate::proofs::Worths::what_is_worked_out_is_worth_it, crate::proofs::Filling::reads_keep_the_worth))]
+pub fn terms_come_to_their_worth()
+    ensures worked_out { WhatIsWorkedOutIsWorthIt }
+    ensures read { ReadsKeepTheWorth }
 {}
 
 /// Threads that begin well, with the initial values in all cells, are a start.
