@@ -4,6 +4,7 @@ pub mod Turns
 pub mod Reading
 pub mod Atomic
 pub mod Telling
+pub mod Keeping
 pub mod Worths
 pub mod Filling
 pub mod Starting

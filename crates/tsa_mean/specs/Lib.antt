@@ -13,6 +13,7 @@ pub mod Starts
 pub mod Sound
 pub mod Laws
 pub mod WorthLaws
+pub mod StateLaws
 pub mod Texts
 pub mod Traces
 pub mod FurtherTraces

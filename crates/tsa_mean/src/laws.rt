@@ -2,6 +2,7 @@
 ghost use Rattle.tsa_mean.specs.Examples.{LockedWritesCanStart, UnlockedWritesAreUnsound};
 ghost use Rattle.tsa_mean.specs.FurtherTraces.{CallsAreAnswered, LoopsGoRound, ReadersShareALock, ReturnsAreJudged};
 ghost use Rattle.tsa_mean.specs.Laws.{FirstStatesAreStarts, NothingIsDoneWhereNoneRuns, NothingIsDoneWhileWaiting, RunsGoTurnByTurn, TurnsAreAtomic, TurnsAreSafeByTheirActs, TurnsTellTheirActs, WhatIsNotHeldIsAViolation};
+ghost use Rattle.tsa_mean.specs.StateLaws.{StatesAreKept};
 ghost use Rattle.tsa_mean.specs.Traces.{AnswersCome, HoldersTakeTheirLockAgain, ThreadsTrap, ThreadsWait, TransfersLockTheirAccounts, UnlockedWritesAreViolations};
 ghost use Rattle.tsa_mean.specs.Violations.{WhatIsNoViolationIsSafe};
 ghost use Rattle.tsa_mean.specs.WorthLaws.{ReadsKeepTheWorth, WhatIsWorkedOutIsWorthIt};
@@ -17,6 +18,12 @@ pub fn some_turns_change_nothing()
 #[tactic(auto, using(crate::proofs::Atomic::turns_are_atomic))]
 pub fn turns_are_atomic()
     ensures { TurnsAreAtomic }
+{}
+
+/// In every start, and after every turn from a state where that is so, no lock is taken more often than it can be, and no thread has more frames than it may.
+#[tactic(auto, using(crate::proofs::Keeping::states_are_kept))]
+pub fn states_are_kept()
+    ensures { StatesAreKept }
 {}
 
 /// Each pick has one turn, of its thread, and a run goes on where the last one ended.
