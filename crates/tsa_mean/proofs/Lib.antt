@@ -10,4 +10,5 @@ pub mod Filling
 pub mod Starting
 pub mod Worked
 pub mod WorkedFurther
+pub mod WorkedOrder
 pub mod Unsound

@@ -17,4 +17,5 @@ pub mod StateLaws
 pub mod Texts
 pub mod Traces
 pub mod FurtherTraces
+pub mod OrderTraces
 pub mod Examples

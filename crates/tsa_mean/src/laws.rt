@@ -2,6 +2,7 @@
 ghost use Rattle.tsa_mean.specs.Examples.{LockedWritesCanStart, UnlockedWritesAreUnsound};
 ghost use Rattle.tsa_mean.specs.FurtherTraces.{CallsAreAnswered, LoopsGoRound, ReadersShareALock, ReturnsAreJudged};
 ghost use Rattle.tsa_mean.specs.Laws.{FirstStatesAreStarts, NothingIsDoneWhereNoneRuns, NothingIsDoneWhileWaiting, RunsGoTurnByTurn, TurnsAreAtomic, TurnsAreSafeByTheirActs, TurnsTellTheirActs, WhatIsNotHeldIsAViolation};
+ghost use Rattle.tsa_mean.specs.OrderTraces.{NumbersTurnAtTheirEdges, TermsAreWorkedOutInOrder};
 ghost use Rattle.tsa_mean.specs.StateLaws.{StatesAreKept};
 ghost use Rattle.tsa_mean.specs.Traces.{AnswersCome, HoldersTakeTheirLockAgain, ThreadsTrap, ThreadsWait, TransfersLockTheirAccounts, UnlockedWritesAreViolations};
 ghost use Rattle.tsa_mean.specs.Violations.{WhatIsNoViolationIsSafe};
@@ -129,4 +130,11 @@ pub fn calls_are_answered()
 #[tactic(auto, using(crate::proofs::WorkedFurther::returns_are_judged))]
 pub fn returns_are_judged()
     ensures { ReturnsAreJudged }
+{}
+
+/// Operands are worked out from left to right, the right side of an assignment before the left one, and numbers trap or wrap at their edges.
+#[tactic(auto, using(crate::proofs::WorkedOrder::terms_are_worked_out_in_order, crate::proofs::WorkedOrder::numbers_turn_at_their_edges))]
+pub fn terms_are_worked_out_in_order()
+    ensures order { TermsAreWorkedOutInOrder }
+    ensures edges { NumbersTurnAtTheirEdges }
 {}
