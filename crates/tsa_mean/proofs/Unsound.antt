@@ -8,7 +8,7 @@ use Rattle.tsa_tree.specs.types.Texts.{unit_in}
 use Rattle.tsa_tree.specs.units.Syntax.{UnitItem}
 use Rattle.tsa_core.specs.Programs.{Program, program_of}
 use Rattle.tsa_sched.specs.declared.event.EventKind.TheVariants.{Stepped}
-use Rattle.tsa_mean.specs.Examples.{LockedWritesCanStart, UnlockedWritesAreUnsound}
+use Rattle.tsa_mean.specs.Examples.{LockedWritesCanStart, ThreadsBeginWhereNothingIsAsked, UnlockedWritesAreUnsound}
 use Rattle.tsa_mean.specs.Sound.{IsPick, Race, Sound, Start}
 use Rattle.tsa_mean.specs.Starts.{Begin, BeginsWell, first_state}
 use Rattle.tsa_mean.specs.Texts.{turns, without}
@@ -97,3 +97,21 @@ unlocked_writes_are_unsound = record {
 pub locked_writes_can_start : LockedWritesCanStart
 locked_writes_can_start =
     subst (λ tokens. Start (program_of (unit_in tokens)) (first_state (program_of (unit_in tokens)) (twice 2))) (tokens_are locked_write) locked_starts
+
+pub threads_begin_where_nothing_is_asked : ThreadsBeginWhereNothingIsAsked
+unfolding turned
+threads_begin_where_nothing_is_asked = record {
+  bound = refl;
+  unbound = refl;
+  with_body = refl;
+  null = refl;
+  const_target = refl;
+  no_const_target = refl;
+  guarded_target = refl;
+  another_struct = refl;
+  no_struct = refl;
+  too_great = refl;
+  too_great_unsigned = refl;
+  too_few = refl;
+  of_another_kind = refl;
+}

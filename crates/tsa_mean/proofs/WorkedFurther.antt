@@ -1,6 +1,6 @@
 -- Further runs worked out.
 use Rattle.std.proofs.Common.{refl}
-use Rattle.tsa_mean.specs.FurtherTraces.{CallsAreAnswered, LoopsGoRound, ReadersShareALock, ReturnsAreJudged}
+use Rattle.tsa_mean.specs.FurtherTraces.{CallsAreAnswered, LoopsGoRound, ReadersShareALock, ReturnsAreJudged, ReturnsLeaveWhatIsDeclared}
 use Rattle.tsa_mean.proofs.Worked.{quickly, turned}
 
 pub loops_go_round : LoopsGoRound
@@ -18,3 +18,16 @@ calls_are_answered = record { in_all_places = quickly _ _ _ _ refl }
 pub returns_are_judged : ReturnsAreJudged
 unfolding turned
 returns_are_judged = record { as_tried = quickly _ _ _ _ refl; in_vain = quickly _ _ _ _ refl; still_held = quickly _ _ _ _ refl; of_null = quickly _ _ _ _ refl; of_a_lock_function = quickly _ _ _ _ refl }
+
+pub returns_leave_what_is_declared : ReturnsLeaveWhatIsDeclared
+unfolding turned
+returns_leave_what_is_declared = record {
+  each_as_declared = quickly _ _ _ _ refl;
+  in_another_mode = quickly _ _ _ _ refl;
+  not_given = quickly _ _ _ _ refl;
+  not_kept = quickly _ _ _ _ refl;
+  given_and_taken = quickly _ _ _ _ refl;
+  excluded = quickly _ _ _ _ refl;
+  neither = quickly _ _ _ _ refl;
+  success_for_nothing = quickly _ _ _ _ refl;
+}

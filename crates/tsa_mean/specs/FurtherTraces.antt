@@ -101,3 +101,30 @@ pub record ReturnsAreJudged : Type 0 where
   pub of_a_lock_function : events (a_lock_with_tries ++ codes "int take(struct lock *m) ACQUIRE(m);\nint n;\nvoid w(void) { n = take(&mu); n += 2; rel(&mu); }") (begin 6 [] ∷ []) (turns (replicate 6 0)) ≡
       at 0 6 0 (Took 0 Exclusive) ∷ at 0 6 0 (Write 3 (Int (pos 0))) ∷ at 0 6 1 (Read 3 (Int (pos 0))) ∷ at 0 6 1 (Write 3 (Int (pos 2))) ∷ at 0 6 2 (Gave 0 Exclusive)
       ∷ at 0 6 3 (Returned 6) ∷ []
+
+-- functions 5 to 8, which take and give the lock as they are declared, called by function 9
+abbrev declared : List ℕ
+declared =
+    a_lock_with_tries
+    ++ (codes "void lock(void) ACQUIRE(mu) { acq(&mu); }\nvoid unlock(void) RELEASE(mu) { rel(&mu); }\nvoid share(void) ACQUIRE_SHARED(mu) { acqs(&mu); }\n"
+    ++ codes "void leave(void) RELEASE_SHARED(mu) { rels(&mu); }\nvoid w(void) { lock(); unlock(); share(); leave(); }")
+
+pub record ReturnsLeaveWhatIsDeclared : Type 0 where
+  pub each_as_declared : events declared (begin 9 [] ∷ []) (turns (replicate 13 0)) ≡
+      at 0 9 0 (Called 5) ∷ at 0 5 0 (Took 0 Exclusive) ∷ at 0 5 1 (Returned 5) ∷ at 0 9 1 (Called 6) ∷ at 0 6 0 (Gave 0 Exclusive) ∷ at 0 6 1 (Returned 6)
+      ∷ at 0 9 2 (Called 7) ∷ at 0 7 0 (Took 0 Shared) ∷ at 0 7 1 (Returned 7) ∷ at 0 9 3 (Called 8) ∷ at 0 8 0 (Gave 0 Shared) ∷ at 0 8 1 (Returned 8)
+      ∷ at 0 9 4 (Returned 9) ∷ []
+  pub in_another_mode : events (a_lock_with_tries ++ codes "void lock(void) ACQUIRE(mu) { acqs(&mu); }") (begin 5 [] ∷ []) (turns (0 ∷ 0 ∷ [])) ≡
+      at 0 5 0 (Took 0 Shared) ∷ violating 0 5 1 (Returned 5) ∷ []
+  pub not_given : events (a_lock_with_tries ++ codes "void unlock(void) RELEASE(mu) { }\nvoid w(void) { acq(&mu); unlock(); }") (begin 6 [] ∷ []) (turns (replicate 4 0)) ≡
+      at 0 6 0 (Took 0 Exclusive) ∷ at 0 6 1 (Called 5) ∷ violating 0 5 0 (Returned 5) ∷ violating 0 6 2 (Returned 6) ∷ []
+  pub not_kept : events (a_lock_with_tries ++ codes "void f(void) REQUIRES(mu) { rel(&mu); }\nvoid w(void) { acq(&mu); f(); }") (begin 6 [] ∷ []) (turns (replicate 5 0)) ≡
+      at 0 6 0 (Took 0 Exclusive) ∷ at 0 6 1 (Called 5) ∷ at 0 5 0 (Gave 0 Exclusive) ∷ violating 0 5 1 (Returned 5) ∷ at 0 6 2 (Returned 6) ∷ []
+  pub given_and_taken : events (a_lock_with_tries ++ codes "void f(void) REQUIRES(mu) { rel(&mu); acq(&mu); }\nvoid w(void) { acq(&mu); f(); rel(&mu); }") (begin 6 [] ∷ []) (turns (replicate 7 0)) ≡
+      at 0 6 0 (Took 0 Exclusive) ∷ at 0 6 1 (Called 5) ∷ at 0 5 0 (Gave 0 Exclusive) ∷ at 0 5 1 (Took 0 Exclusive) ∷ at 0 5 2 (Returned 5) ∷ at 0 6 2 (Gave 0 Exclusive)
+      ∷ at 0 6 3 (Returned 6) ∷ []
+  -- what is excluded takes no part in a return
+  pub excluded : events (a_lock_with_tries ++ codes "void f(struct lock *p) EXCLUDES(p) { }") (begin 5 (Pointer None ∷ []) ∷ []) (turns (0 ∷ [])) ≡ at 0 5 0 (Returned 5) ∷ []
+  -- a try that gives neither 0 nor 1 has no success
+  pub neither : events (a_lock_with_tries ++ codes "int t(void) TRY_ACQUIRE(1, mu) { return 2; }") (begin 5 [] ∷ []) (turns (0 ∷ [])) ≡ at 0 5 0 (Returned 5) ∷ []
+  pub success_for_nothing : events (a_lock_with_tries ++ codes "int t(void) TRY_ACQUIRE(0, mu) { }") (begin 5 [] ∷ []) (turns (0 ∷ [])) ≡ violating 0 5 0 (Returned 5) ∷ []

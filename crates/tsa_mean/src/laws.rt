@@ -1,6 +1,6 @@
 //! Laws of the machine.
-ghost use Rattle.tsa_mean.specs.Examples.{LockedWritesCanStart, UnlockedWritesAreUnsound};
-ghost use Rattle.tsa_mean.specs.FurtherTraces.{CallsAreAnswered, LoopsGoRound, ReadersShareALock, ReturnsAreJudged};
+ghost use Rattle.tsa_mean.specs.Examples.{LockedWritesCanStart, ThreadsBeginWhereNothingIsAsked, UnlockedWritesAreUnsound};
+ghost use Rattle.tsa_mean.specs.FurtherTraces.{CallsAreAnswered, LoopsGoRound, ReadersShareALock, ReturnsAreJudged, ReturnsLeaveWhatIsDeclared};
 ghost use Rattle.tsa_mean.specs.Laws.{FirstStatesAreStarts, NothingIsDoneWhereNoneRuns, NothingIsDoneWhileWaiting, RunsGoTurnByTurn, TurnsAreAtomic, TurnsAreSafeByTheirActs, TurnsTellTheirActs, WhatIsNotHeldIsAViolation};
 ghost use Rattle.tsa_mean.specs.OrderTraces.{NumbersTurnAtTheirEdges, TermsAreWorkedOutInOrder};
 ghost use Rattle.tsa_mean.specs.StateLaws.{StatesAreKept};
@@ -126,10 +126,11 @@ pub fn calls_are_answered()
     ensures { CallsAreAnswered }
 {}
 
-/// A return is judged by what its function's attributes say of its answer.
-#[tactic(auto, using(crate::proofs::WorkedFurther::returns_are_judged))]
+/// A return is judged by what its function's attributes say of its answer, and of what is held then and was held at the call.
+#[tactic(auto, using(crate::proofs::WorkedFurther::returns_are_judged, crate::proofs::WorkedFurther::returns_leave_what_is_declared))]
 pub fn returns_are_judged()
-    ensures { ReturnsAreJudged }
+    ensures answers { ReturnsAreJudged }
+    ensures attributes { ReturnsLeaveWhatIsDeclared }
 {}
 
 /// Operands are worked out from left to right, the right side of an assignment before the left one, and numbers trap or wrap at their edges.
@@ -137,4 +138,10 @@ pub fn returns_are_judged()
 pub fn terms_are_worked_out_in_order()
     ensures order { TermsAreWorkedOutInOrder }
     ensures edges { NumbersTurnAtTheirEdges }
+{}
+
+/// Threads begin with functions that have a body and ask no lock of their callers, and with values of their parameters' types.
+#[tactic(auto, using(crate::proofs::Unsound::threads_begin_where_nothing_is_asked))]
+pub fn threads_begin_where_nothing_is_asked()
+    ensures { ThreadsBeginWhereNothingIsAsked }
 {}
