@@ -1,11 +1,15 @@
 -- Further runs worked out.
 use Rattle.std.proofs.Common.{refl}
-use Rattle.tsa_mean.specs.FurtherTraces.{CallsAreAnswered, LoopsGoRound, ReadersShareALock, ReturnsAreJudged, ReturnsLeaveWhatIsDeclared}
+use Rattle.tsa_mean.specs.FurtherTraces.{CallsAreAnswered, LoopsGoRound, ReadersShareALock, ReturnsAreJudged, ReturnsLeaveWhatIsDeclared, SwitchesGoOn}
 use Rattle.tsa_mean.proofs.Worked.{quickly, turned}
 
 pub loops_go_round : LoopsGoRound
 unfolding turned
 loops_go_round = record { and_switches_choose = quickly _ _ _ _ refl }
+
+pub switches_go_on : SwitchesGoOn
+unfolding turned
+switches_go_on = record { by_default = quickly _ _ _ _ refl; behind = quickly _ _ _ _ refl }
 
 pub readers_share_a_lock : ReadersShareALock
 unfolding turned
@@ -27,6 +31,10 @@ returns_leave_what_is_declared = record {
   not_given = quickly _ _ _ _ refl;
   not_kept = quickly _ _ _ _ refl;
   given_and_taken = quickly _ _ _ _ refl;
+  by_parameter = quickly _ _ _ _ refl;
+  shared_of_null = quickly _ _ _ _ refl;
+  shared_try = quickly _ _ _ _ refl;
+  shared_try_alone = quickly _ _ _ _ refl;
   excluded = quickly _ _ _ _ refl;
   neither = quickly _ _ _ _ refl;
   success_for_nothing = quickly _ _ _ _ refl;

@@ -28,6 +28,13 @@ pub record LoopsGoRound : Type 0 where
       ∷ at 0 1 3 (Read 0 (Int (negsuc 9))) ∷ at 0 1 3 (Read 2 (Int (pos 1))) ∷ at 0 1 3 (Write 1 (Int (negsuc 6))) ∷ at 0 1 4 (Returned 1)
       ∷ without 0 AlreadyEnded ∷ []
 
+-- a switch goes to its default, or without one behind itself, where no case has its value
+pub record SwitchesGoOn : Type 0 where
+  pub by_default : events (codes "int n; void w(int x) { switch (x) { case 1: n = 1; default: n = 2; } n = 3; }") (begin 0 (Int (pos 5) ∷ []) ∷ []) (turns (replicate 4 0)) ≡
+      at 0 0 0 (Switched (Int (pos 5))) ∷ at 0 0 2 (Write 0 (Int (pos 2))) ∷ at 0 0 3 (Write 0 (Int (pos 3))) ∷ at 0 0 4 (Returned 0) ∷ []
+  pub behind : events (codes "int n; void w(int x) { switch (x) { case 1: n = 1; } n = 3; }") (begin 0 (Int (pos 5) ∷ []) ∷ []) (turns (replicate 2 0)) ≡
+      at 0 0 0 (Switched (Int (pos 5))) ∷ at 0 0 2 (Write 0 (Int (pos 3))) ∷ []
+
 -- an account is five places: itself, its lock, the lock's member, `x` and `y`; accounts stand at 3 and 8, and a pointer to the second that never changes at 13
 abbrev accounts : List ℕ
 accounts =
@@ -123,6 +130,15 @@ pub record ReturnsLeaveWhatIsDeclared : Type 0 where
   pub given_and_taken : events (a_lock_with_tries ++ codes "void f(void) REQUIRES(mu) { rel(&mu); acq(&mu); }\nvoid w(void) { acq(&mu); f(); rel(&mu); }") (begin 6 [] ∷ []) (turns (replicate 7 0)) ≡
       at 0 6 0 (Took 0 Exclusive) ∷ at 0 6 1 (Called 5) ∷ at 0 5 0 (Gave 0 Exclusive) ∷ at 0 5 1 (Took 0 Exclusive) ∷ at 0 5 2 (Returned 5) ∷ at 0 6 2 (Gave 0 Exclusive)
       ∷ at 0 6 3 (Returned 6) ∷ []
+  -- a lock by a parameter's name is the one that was handed over
+  pub by_parameter : events (a_lock_with_tries ++ codes "void lock(struct lock *p) ACQUIRE(p) { acq(p); }\nvoid w(void) { lock(&mu); rel(&mu); }") (begin 6 [] ∷ []) (turns (replicate 5 0)) ≡
+      at 0 6 0 (Called 5) ∷ at 0 5 0 (Took 0 Exclusive) ∷ at 0 5 1 (Returned 5) ∷ at 0 6 1 (Gave 0 Exclusive) ∷ at 0 6 2 (Returned 6) ∷ []
+  pub shared_of_null : events (a_lock_with_tries ++ codes "void f(struct lock *p) REQUIRES_SHARED(p) { }") (begin 5 (Pointer None ∷ []) ∷ []) (turns (0 ∷ [])) ≡ violating 0 5 0 (Returned 5) ∷ []
+  -- a try that is shared takes its lock so
+  pub shared_try : events (a_lock_with_tries ++ codes "int t(void) TRY_ACQUIRE_SHARED(1, mu) { acqs(&mu); return 1; }") (begin 5 [] ∷ []) (turns (0 ∷ 0 ∷ [])) ≡
+      at 0 5 0 (Took 0 Shared) ∷ at 0 5 1 (Returned 5) ∷ []
+  pub shared_try_alone : events (a_lock_with_tries ++ codes "int t(void) TRY_ACQUIRE_SHARED(1, mu) { acq(&mu); return 1; }") (begin 5 [] ∷ []) (turns (0 ∷ 0 ∷ [])) ≡
+      at 0 5 0 (Took 0 Exclusive) ∷ violating 0 5 1 (Returned 5) ∷ []
   -- what is excluded takes no part in a return
   pub excluded : events (a_lock_with_tries ++ codes "void f(struct lock *p) EXCLUDES(p) { }") (begin 5 (Pointer None ∷ []) ∷ []) (turns (0 ∷ [])) ≡ at 0 5 0 (Returned 5) ∷ []
   -- a try that gives neither 0 nor 1 has no success

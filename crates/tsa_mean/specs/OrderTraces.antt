@@ -5,7 +5,7 @@ use Rattle.tsa_base.specs.declared.value.Value.TheVariants.{Int, Unsigned, Point
 use Rattle.tsa_sched.specs.declared.event.Event.{Event}
 use Rattle.tsa_sched.specs.declared.event.EventKind.TheVariants.{Read, Write, Branched, Switched, Stepped, Trap, NoThread}
 use Rattle.tsa_sched.specs.declared.event.TrapKind.TheVariants.{Overflow, Division, NullPointer, OutOfRange}
-use Rattle.tsa_mean.specs.Texts.{at, begin, events, turns, without}
+use Rattle.tsa_mean.specs.Texts.{a_lock, at, begin, events, turns, without}
 
 -- What one thread does in some turns in a function, which is function 0, after some globals.
 abbrev alone : (globals function : List ℕ) → List Value → (turns : ℕ) → List Event
@@ -36,6 +36,8 @@ pub record TermsAreWorkedOutInOrder : Type 0 where
   pub declared_again : alone pair (codes "void w(void) { for (int i = 0; i < 2; ++i) { int x; p.x = x; x = 5; } }") [] 12 ≡
       at 0 0 0 Stepped ∷ at 0 0 1 (Branched true) ∷ at 0 0 3 Stepped ∷ at 0 0 4 (Write 1 (Int (pos 0))) ∷ at 0 0 5 Stepped ∷ at 0 0 2 Stepped ∷ at 0 0 1 (Branched true)
       ∷ at 0 0 3 Stepped ∷ at 0 0 4 (Write 1 (Int (pos 0))) ∷ at 0 0 5 Stepped ∷ at 0 0 2 Stepped ∷ at 0 0 1 (Branched false) ∷ []
+  -- null is no lock
+  pub null_handed : events (a_lock ++ codes "void w(struct lock *m) { acq(m); }") (begin 2 (Pointer None ∷ []) ∷ []) (turns (0 ∷ [])) ≡ at 0 2 0 (Trap NullPointer) ∷ []
   pub unknown : events (codes "void w(void) { }") [] (turns (0 ∷ [])) ≡ without 0 NoThread ∷ []
 
 -- an `int` and an `unsigned` at places 0 and 1

@@ -1,6 +1,6 @@
 //! Laws of the machine.
 ghost use Rattle.tsa_mean.specs.Examples.{LockedWritesCanStart, ThreadsBeginWhereNothingIsAsked, UnlockedWritesAreUnsound};
-ghost use Rattle.tsa_mean.specs.FurtherTraces.{CallsAreAnswered, LoopsGoRound, ReadersShareALock, ReturnsAreJudged, ReturnsLeaveWhatIsDeclared};
+ghost use Rattle.tsa_mean.specs.FurtherTraces.{CallsAreAnswered, LoopsGoRound, ReadersShareALock, ReturnsAreJudged, ReturnsLeaveWhatIsDeclared, SwitchesGoOn};
 ghost use Rattle.tsa_mean.specs.Laws.{FirstStatesAreStarts, NothingIsDoneWhereNoneRuns, NothingIsDoneWhileWaiting, RunsGoTurnByTurn, TurnsAreAtomic, TurnsAreSafeByTheirActs, TurnsTellTheirActs, WhatIsNotHeldIsAViolation};
 ghost use Rattle.tsa_mean.specs.OrderTraces.{NumbersTurnAtTheirEdges, TermsAreWorkedOutInOrder};
 ghost use Rattle.tsa_mean.specs.StateLaws.{StatesAreKept};
@@ -109,9 +109,10 @@ pub fn locked_writes_can_start()
 {}
 
 /// Loops and switches go where their values lead.
-#[tactic(auto, using(crate::proofs::WorkedFurther::loops_go_round))]
+#[tactic(auto, using(crate::proofs::WorkedFurther::loops_go_round, crate::proofs::WorkedFurther::switches_go_on))]
 pub fn loops_go_round()
-    ensures { LoopsGoRound }
+    ensures loops { LoopsGoRound }
+    ensures switches { SwitchesGoOn }
 {}
 
 /// Readers hold a lock together, and a writer waits for them.
