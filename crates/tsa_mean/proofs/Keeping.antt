@@ -18,22 +18,8 @@ use Rattle.tsa_mean.specs.Starts.{Begin, thread_of}
 use Rattle.tsa_mean.specs.StateLaws.{HasItsFrames, IsLockAt, StateIsKept, StatesAreKept}
 use Rattle.tsa_mean.specs.States.{Frame, State, Thread, running, trapped, ended, lock_at, thread_at}
 use Rattle.tsa_mean.specs.Steps.{after_give, after_take, after_try, asking, frame_limit, is_reentrant_at, mode_or_held, perform, thread_below, Turn}
+use Rattle.tsa_mean.proofs.Lists.{set_keeps, set_keeps_some}
 use Rattle.tsa_mean.proofs.Turns.{turn_changes}
-
--- what holds of each element, and of the one that is set, holds after it is set
-set_keeps : {A : Type 0} (P : ℕ → A → Type 0) (xs : List A) (i : ℕ) (x d : A) → ((j : ℕ) → P j (slice_index_or xs j d)) → P i x → (j : ℕ) → P j (slice_index_or (slice_set xs i x) j d)
-set_keeps P [] i x d all new j = all j
-set_keeps P (y ∷ ys) zero x d all new zero = new
-set_keeps P (y ∷ ys) zero x d all new (suc j) = all (suc j)
-set_keeps P (y ∷ ys) (suc i) x d all new zero = all zero
-set_keeps P (y ∷ ys) (suc i) x d all new (suc j) = set_keeps (λ k. P (suc k)) ys i x d (λ k. all (suc k)) new j
-
-set_keeps_some : {A : Type 0} (P : Option A → Type 0) (xs : List A) (i : ℕ) (x : A) → ((j : ℕ) → P (slice_get xs j)) → P (Some x) → (j : ℕ) → P (slice_get (slice_set xs i x) j)
-set_keeps_some P [] i x all new j = all j
-set_keeps_some P (y ∷ ys) zero x all new zero = new
-set_keeps_some P (y ∷ ys) zero x all new (suc j) = all (suc j)
-set_keeps_some P (y ∷ ys) (suc i) x all new zero = all zero
-set_keeps_some P (y ∷ ys) (suc i) x all new (suc j) = set_keeps_some P ys i x (λ k. all (suc k)) new j
 
 -- one lock
 same_taken : {a b : Lock} → taken a ≡ taken b → a ≡ b

@@ -5,6 +5,7 @@ pub mod Reading
 pub mod Atomic
 pub mod Telling
 pub mod Keeping
+pub mod Holds
 pub mod Worths
 pub mod Filling
 pub mod Starting

@@ -1,5 +1,5 @@
 -- Tests of all elements, and elements of a list of which one is set.
-use Rattle.std.proofs.Common.{◌≡◌, ℕ, zero, suc, ◌<◌, Bool, true, false, not, ◌&&◌, List, [], ◌∷◌, slice_get, refl, ap, sym, subst, arith}
+use Rattle.std.proofs.Common.{◌≡◌, ℕ, zero, suc, ◌<◌, Bool, true, false, not, ◌&&◌, List, [], ◌∷◌, Option, Some, slice_get, slice_index_or, refl, ap, sym, subst, arith}
 use Rattle.std.proofs.Math.Decide.{ℕ_discrete}
 use Rattle.std.specs.List.{list_all}
 use Rattle.std.specs.Prelude.{All, slice_set, ◌↔◌}
@@ -60,3 +60,18 @@ set_elsewhere (y ∷ ys) zero zero x other = absurd (other refl)
 set_elsewhere (y ∷ ys) zero (suc j) x other = refl
 set_elsewhere (y ∷ ys) (suc i) zero x other = refl
 set_elsewhere (y ∷ ys) (suc i) (suc j) x other = set_elsewhere ys i j x (λ same. other (ap suc same))
+
+-- what holds of each element, and of the one that is set, holds after it is set
+pub set_keeps : {A : Type 0} (P : ℕ → A → Type 0) (xs : List A) (i : ℕ) (x d : A) → ((j : ℕ) → P j (slice_index_or xs j d)) → P i x → (j : ℕ) → P j (slice_index_or (slice_set xs i x) j d)
+set_keeps P [] i x d all new j = all j
+set_keeps P (y ∷ ys) zero x d all new zero = new
+set_keeps P (y ∷ ys) zero x d all new (suc j) = all (suc j)
+set_keeps P (y ∷ ys) (suc i) x d all new zero = all zero
+set_keeps P (y ∷ ys) (suc i) x d all new (suc j) = set_keeps (λ k. P (suc k)) ys i x d (λ k. all (suc k)) new j
+
+pub set_keeps_some : {A : Type 0} (P : Option A → Type 0) (xs : List A) (i : ℕ) (x : A) → ((j : ℕ) → P (slice_get xs j)) → P (Some x) → (j : ℕ) → P (slice_get (slice_set xs i x) j)
+set_keeps_some P [] i x all new j = all j
+set_keeps_some P (y ∷ ys) zero x all new zero = new
+set_keeps_some P (y ∷ ys) zero x all new (suc j) = all (suc j)
+set_keeps_some P (y ∷ ys) (suc i) x all new zero = all zero
+set_keeps_some P (y ∷ ys) (suc i) x all new (suc j) = set_keeps_some P ys i x (λ k. all (suc k)) new j

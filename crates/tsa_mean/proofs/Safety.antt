@@ -10,10 +10,11 @@ use Rattle.tsa_layout.specs.declared.place.Guard.TheVariants.{Lock, Nothing}
 use Rattle.tsa_core.specs.Programs.{Attr, Program}
 use Rattle.tsa_locks.specs.Locks.{Mode, Exclusive, Shared}
 use Rattle.tsa_mean.specs.Acts.{to_read, to_write, to_step, to_set, to_branch, to_choose, to_take, to_try, to_give, to_ask, to_enter, to_leave, to_trap}
+use Rattle.tsa_mean.specs.Laws.{WhatIsNoViolationIsSafe}
 use Rattle.tsa_mean.specs.Returns.{attrs_of, change_in, given_back, lock_of, taken_over}
 use Rattle.tsa_mean.specs.Safe.{CanBeGiven, IsHeld, IsHeldAlone, LeavesAsDeclared}
 use Rattle.tsa_mean.specs.States.{Frame, Holds}
-use Rattle.tsa_mean.specs.Violations.{all_below, can_be_given, is_counted, is_held, is_held_alone, is_held_somehow, leaves_as_declared, names_lock, WhatIsNoViolationIsSafe}
+use Rattle.tsa_mean.specs.Violations.{all_below, can_be_given, is_counted, is_held, is_held_alone, is_held_somehow, leaves_as_declared, names_lock}
 use Rattle.tsa_mean.proofs.Lists.{all_pass, below_pass, both, join, not_false}
 
 positive : (n : ℕ) → (nat_lt 0 n ≡ true) ↔ (0 < n)

@@ -9,12 +9,12 @@ use Rattle.tsa_sched.specs.declared.event.Event.{Event}
 use Rattle.tsa_sched.specs.declared.event.EventKind.{EventKind}
 use Rattle.tsa_sched.specs.declared.event.EventKind.TheVariants as event
 use Rattle.tsa_sched.specs.declared.pick.Pick.{Pick}
-use Rattle.tsa_mean.specs.Acts.{act_of, to_give, to_write, touched_cell}
+use Rattle.tsa_mean.specs.Acts.{Act, act_of, to_give, to_write, touched_cell}
 use Rattle.tsa_mean.specs.Runs.{idle, run, step}
 use Rattle.tsa_mean.specs.Safe.{IsSafe}
 use Rattle.tsa_mean.specs.Sound.{Start}
 use Rattle.tsa_mean.specs.Starts.{Begin, BeginsWell, first_state}
-use Rattle.tsa_mean.specs.States.{Frame, State, Thread, running, trapped, ended, holds_of, lock_at, thread_at, value_at}
+use Rattle.tsa_mean.specs.States.{Frame, Holds, State, Thread, running, trapped, ended, holds_of, lock_at, thread_at, value_at}
 use Rattle.tsa_mean.specs.Steps.{is_reentrant_at, perform}
 use Rattle.tsa_mean.specs.Violations.{violates}
 
@@ -99,6 +99,10 @@ pub record TurnsTellTheirActs : Type 0 where
       → cell_in (step u s pick).1.kind ≡ touched_cell (act_of u frame)
   pub writes : (u : Program) (s : State) (pick : Pick) (frame : Frame) (below : List Frame) (place : ℕ) (v : Value)
       → thread_at s pick.thread ≡ Some (running frame below) → ((step u s pick).1.kind ≡ event.Write place v) ↔ (act_of u frame ≡ to_write place v)
+
+-- what is worked out to be no violation is safe, and nothing else
+abbrev pub WhatIsNoViolationIsSafe : Type 0
+WhatIsNoViolationIsSafe = (u : Program) (held : Holds) (frame : Frame) (act : Act) → (violates u held frame act ≡ false) ↔ IsSafe u held frame act
 
 -- a turn is no violation exactly where the act of its thread is safe, and one of a thread that doesn't run is none
 abbrev pub IsSafeIn : Program → State → (thread : ℕ) → Option Thread → Type 0

@@ -14,6 +14,7 @@ pub mod Sound
 pub mod Laws
 pub mod WorthLaws
 pub mod StateLaws
+pub mod HoldLaws
 pub mod Texts
 pub mod Traces
 pub mod FurtherTraces

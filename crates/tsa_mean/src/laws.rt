@@ -1,11 +1,11 @@
 //! Laws of the machine.
 ghost use Rattle.tsa_mean.specs.Examples.{LockedWritesCanStart, ThreadsBeginWhereNothingIsAsked, UnlockedWritesAreUnsound};
 ghost use Rattle.tsa_mean.specs.FurtherTraces.{CallsAreAnswered, LoopsGoRound, ReadersShareALock, ReturnsAreJudged, ReturnsLeaveWhatIsDeclared, SwitchesGoOn};
-ghost use Rattle.tsa_mean.specs.Laws.{FirstStatesAreStarts, NothingIsDoneWhereNoneRuns, NothingIsDoneWhileWaiting, RunsGoTurnByTurn, TurnsAreAtomic, TurnsAreSafeByTheirActs, TurnsTellTheirActs, WhatIsNotHeldIsAViolation};
+ghost use Rattle.tsa_mean.specs.HoldLaws.{HoldsChangeAsTold};
+ghost use Rattle.tsa_mean.specs.Laws.{FirstStatesAreStarts, NothingIsDoneWhereNoneRuns, NothingIsDoneWhileWaiting, RunsGoTurnByTurn, TurnsAreAtomic, TurnsAreSafeByTheirActs, TurnsTellTheirActs, WhatIsNotHeldIsAViolation, WhatIsNoViolationIsSafe};
 ghost use Rattle.tsa_mean.specs.OrderTraces.{NumbersTurnAtTheirEdges, TermsAreWorkedOutInOrder};
 ghost use Rattle.tsa_mean.specs.StateLaws.{StatesAreKept};
 ghost use Rattle.tsa_mean.specs.Traces.{AnswersCome, HoldersTakeTheirLockAgain, ThreadsTrap, ThreadsWait, TransfersLockTheirAccounts, UnlockedWritesAreViolations};
-ghost use Rattle.tsa_mean.specs.Violations.{WhatIsNoViolationIsSafe};
 ghost use Rattle.tsa_mean.specs.WorthLaws.{ReadsKeepTheWorth, WhatIsWorkedOutIsWorthIt};
 
 /// A turn of a thread that isn't there, has ended, has stopped for good or waits changes nothing.
@@ -25,6 +25,12 @@ pub fn turns_are_atomic()
 #[tactic(auto, using(crate::proofs::Keeping::states_are_kept))]
 pub fn states_are_kept()
     ensures { StatesAreKept }
+{}
+
+/// A thread's holds change by what its turns tell, and those of all others stay.
+#[tactic(auto, using(crate::proofs::Holds::holds_change_as_told))]
+pub fn holds_change_as_told()
+    ensures { HoldsChangeAsTold }
 {}
 
 /// Each pick has one turn, of its thread, and a run goes on where the last one ended.
