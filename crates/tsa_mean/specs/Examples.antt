@@ -26,9 +26,10 @@ pub record UnlockedWritesAreUnsound : Type 0 where
   pub unsound : Sound unlocked → ⊥
   pub race : Race (program_of unlocked) (first_state (program_of unlocked) (twice 2))
 
--- Two threads begin with a function that takes a lock, writes what is under it, and gives the lock back.
-abbrev pub LockedWritesCanStart : Type 0
-LockedWritesCanStart = Start (program_of locked) (first_state (program_of locked) (twice 2))
+-- Two threads begin with a function that takes a lock, writes what is under it, and gives the lock back; neither writes next.
+pub record LockedWritesCanStart : Type 0 where
+  pub start : Start (program_of locked) (first_state (program_of locked) (twice 2))
+  pub no_race : Race (program_of locked) (first_state (program_of locked) (twice 2)) → ⊥
 
 -- Functions 5 to 15 of a unit, each with one attribute or with four parameters, of which `c` stands at place 3, which is const, and `d` at place 5, which is guarded.
 abbrev beginners : Program

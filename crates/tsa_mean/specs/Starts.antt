@@ -44,9 +44,9 @@ are_values_of l params args = false
 
 -- A thread may begin with a function that has a body and attributes that don't bind its caller, and with arguments of its parameters' types.
 pub record BeginsWell (u : Program) (b : Begin) : Type 0 where
-  pub with_body : IsSome (function_at u b.function).body
-  pub unbound : list_any (λ a. binds_caller a.kind) (function_at u b.function).attrs ≡ false
-  pub fitting : are_values_of u.layout (function_at u b.function).params b.args ≡ true
+  pub body : IsSome (function_at u b.function).body
+  pub asks_nothing : list_any (λ a. binds_caller a.kind) (function_at u b.function).attrs ≡ false
+  pub args : are_values_of u.layout (function_at u b.function).params b.args ≡ true
 
 -- the state in which cells have their initial values, all locks are free, and some threads begin
 abbrev pub first_state : Program → List Begin → State

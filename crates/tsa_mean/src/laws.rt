@@ -108,7 +108,7 @@ pub fn unlocked_writes_are_unsound()
     ensures { UnlockedWritesAreUnsound }
 {}
 
-/// A unit that takes a lock has a start.
+/// A unit that takes a lock has a start, which is no race.
 #[tactic(auto, using(crate::proofs::Unsound::locked_writes_can_start))]
 pub fn locked_writes_can_start()
     ensures { LockedWritesCanStart }
