@@ -12,4 +12,5 @@ pub mod Starting
 pub mod Worked
 pub mod WorkedFurther
 pub mod WorkedOrder
+pub mod WorkedPlaces
 pub mod Unsound

@@ -19,4 +19,5 @@ pub mod Texts
 pub mod Traces
 pub mod FurtherTraces
 pub mod OrderTraces
+pub mod TracePlaces
 pub mod Examples

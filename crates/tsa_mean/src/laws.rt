@@ -5,6 +5,7 @@ ghost use Rattle.tsa_mean.specs.HoldLaws.{HoldsChangeAsTold};
 ghost use Rattle.tsa_mean.specs.Laws.{FirstStatesAreStarts, NothingIsDoneWhereNoneRuns, NothingIsDoneWhileWaiting, RunsGoTurnByTurn, TurnsAreAtomic, TurnsAreSafeByTheirActs, TurnsTellTheirActs, WhatIsNotHeldIsAViolation, WhatIsNoViolationIsSafe};
 ghost use Rattle.tsa_mean.specs.OrderTraces.{NumbersTurnAtTheirEdges, TermsAreWorkedOutInOrder};
 ghost use Rattle.tsa_mean.specs.StateLaws.{StatesAreKept};
+ghost use Rattle.tsa_mean.specs.TracePlaces.{PointsStandAtTheirPlaces};
 ghost use Rattle.tsa_mean.specs.Traces.{AnswersCome, HoldersTakeTheirLockAgain, ThreadsTrap, ThreadsWait, TransfersLockTheirAccounts, UnlockedWritesAreViolations};
 ghost use Rattle.tsa_mean.specs.WorthLaws.{ReadsKeepTheWorth, WhatIsWorkedOutIsWorthIt};
 
@@ -151,4 +152,10 @@ pub fn terms_are_worked_out_in_order()
 #[tactic(auto, using(crate::proofs::Unsound::threads_begin_where_nothing_is_asked))]
 pub fn threads_begin_where_nothing_is_asked()
     ensures { ThreadsBeginWhereNothingIsAsked }
+{}
+
+/// The points of worked runs stand in their texts at the lines and columns that stand beside them.
+#[tactic(auto, using(crate::proofs::WorkedPlaces::points_stand_at_their_places))]
+pub fn points_stand_at_their_places()
+    ensures { PointsStandAtTheirPlaces }
 {}
