@@ -1,6 +1,6 @@
 -- Further runs worked out.
 use Rattle.std.proofs.Common.{refl}
-use Rattle.tsa_mean.specs.FurtherTraces.{CallsAreAnswered, LoopsGoRound, ReadersShareALock, ReturnsAreJudged, ReturnsLeaveWhatIsDeclared, SwitchesGoOn}
+use Rattle.tsa_mean.specs.FurtherTraces.{AnswersGoWhereCallsStand, CallsAreAnswered, LoopsGoRound, ReadersShareALock, ReturnsAreJudged, ReturnsLeaveWhatIsDeclared, SwitchesGoOn}
 use Rattle.tsa_mean.proofs.Worked.{quickly, turned}
 
 pub loops_go_round : LoopsGoRound
@@ -18,6 +18,17 @@ readers_share_a_lock = record { beside_writers = quickly _ _ _ _ refl }
 pub calls_are_answered : CallsAreAnswered
 unfolding turned
 calls_are_answered = record { in_all_places = quickly _ _ _ _ refl }
+
+pub answers_go_where_calls_stand : AnswersGoWhereCallsStand
+unfolding turned
+answers_go_where_calls_stand = record {
+  to_a_return = quickly _ _ _ _ refl;
+  to_a_local = quickly _ _ _ _ refl;
+  converted = quickly _ _ _ _ refl;
+  joined = quickly _ _ _ _ refl;
+  of_the_end = quickly _ _ _ _ refl;
+  of_arguments = quickly _ _ _ _ refl;
+}
 
 pub returns_are_judged : ReturnsAreJudged
 unfolding turned

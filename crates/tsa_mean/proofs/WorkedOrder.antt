@@ -18,6 +18,7 @@ terms_are_worked_out_in_order = record {
   address = quickly _ _ _ _ refl;
   before_the_first = quickly _ _ _ _ refl;
   declared_again = quickly _ _ _ _ refl;
+  way_to_a_struct = quickly _ _ _ _ refl;
   null_handed = quickly _ _ _ _ refl;
   unknown = quickly _ _ _ _ refl;
 }

@@ -85,6 +85,27 @@ pub record CallsAreAnswered : Type 0 where
       ∷ at 1 6 2 (Called 5) ∷ at 1 5 0 (Read 4 (Int (pos 4))) ∷ at 1 5 0 (Write 4 (Int (pos 7))) ∷ at 1 5 1 (Read 4 (Int (pos 7))) ∷ at 0 6 11 Stepped
       ∷ at 0 6 12 (Environment 3 (Some (Int (pos 0)))) ∷ at 0 6 13 (Trap Division) ∷ without 0 AlreadyTrapped ∷ []
 
+pub record AnswersGoWhereCallsStand : Type 0 where
+  -- into a return and an assignment, in a turn of its own
+  pub to_a_return : events (codes "int n; int one(void) { return 1; } int two(void) { return one(); } void w(void) { n = two(); }") (begin 2 [] ∷ []) (turns (replicate 6 0)) ≡
+      at 0 2 0 (Called 1) ∷ at 0 1 0 (Called 0) ∷ at 0 0 0 (Returned 0) ∷ at 0 1 0 (Returned 1) ∷ at 0 2 0 (Write 0 (Int (pos 1))) ∷ at 0 2 1 (Returned 2) ∷ []
+  -- into a local and a condition, in the same turn
+  pub to_a_local : events (codes "int n; int one(void) { return 1; } void w(void) { int x = one(); if (one() == 1) n = x; }") (begin 1 [] ∷ []) (turns (replicate 6 0)) ≡
+      at 0 1 0 (Called 0) ∷ at 0 0 0 (Returned 0) ∷ at 0 1 1 (Called 0) ∷ at 0 0 0 (Returned 0) ∷ at 0 1 2 (Write 0 (Int (pos 1))) ∷ at 0 1 3 (Returned 1) ∷ []
+  pub converted : events (codes "unsigned u; int least(void) { return -1; } void w(void) { u = least(); }") (begin 1 [] ∷ []) (turns (replicate 3 0)) ≡
+      at 0 1 0 (Called 0) ∷ at 0 0 0 (Returned 0) ∷ at 0 1 0 (Write 0 (Unsigned 4294967295)) ∷ []
+  -- behind an operator the old value is read once the call is answered
+  pub joined : events (codes "int n; int one(void) { n = 5; return 1; } void w(void) { n += one(); }") (begin 1 [] ∷ []) (turns (replicate 5 0)) ≡
+      at 0 1 0 (Called 0) ∷ at 0 0 0 (Write 0 (Int (pos 5))) ∷ at 0 0 1 (Returned 0) ∷ at 0 1 0 (Read 0 (Int (pos 5))) ∷ at 0 1 0 (Write 0 (Int (pos 6))) ∷ []
+  -- the end gives 0 or null
+  pub of_the_end : events (codes "struct s { int v; }; int n; int f(void) { } struct s *g(void) { } void w(void) { n = 5; n = f(); if (g()) n = 7; }") (begin 2 [] ∷ []) (turns (replicate 7 0)) ≡
+      at 0 2 0 (Write 0 (Int (pos 5))) ∷ at 0 2 1 (Called 0) ∷ at 0 0 0 (Returned 0) ∷ at 0 2 1 (Write 0 (Int (pos 0))) ∷ at 0 2 2 (Called 1) ∷ at 0 1 0 (Returned 1)
+      ∷ at 0 2 4 (Returned 2) ∷ []
+  -- arguments are worked out before the call, a read a turn
+  pub of_arguments : events (codes "int a; int b; void f(int x, unsigned y) { a = x; b = y; } void w(void) { a = 2; f(a - 3, a + b); }") (begin 1 [] ∷ []) (turns (replicate 8 0)) ≡
+      at 0 1 0 (Write 0 (Int (pos 2))) ∷ at 0 1 1 (Read 0 (Int (pos 2))) ∷ at 0 1 1 (Read 0 (Int (pos 2))) ∷ at 0 1 1 (Read 1 (Int (pos 0))) ∷ at 0 1 1 (Called 0)
+      ∷ at 0 0 0 (Write 0 (Int (negsuc 0))) ∷ at 0 0 1 (Write 1 (Int (pos 2))) ∷ at 0 0 2 (Returned 0) ∷ []
+
 -- a function that tries two locks, of which `nu` stands at place 3, and one that calls it: functions 5 and 6
 abbrev a_try_of_two : List ℕ
 a_try_of_two =

@@ -36,6 +36,8 @@ pub record TermsAreWorkedOutInOrder : Type 0 where
   pub declared_again : alone pair (codes "void w(void) { for (int i = 0; i < 2; ++i) { int x; p.x = x; x = 5; } }") [] 12 ≡
       at 0 0 0 Stepped ∷ at 0 0 1 (Branched true) ∷ at 0 0 3 Stepped ∷ at 0 0 4 (Write 1 (Int (pos 0))) ∷ at 0 0 5 Stepped ∷ at 0 0 2 Stepped ∷ at 0 0 1 (Branched true)
       ∷ at 0 0 3 Stepped ∷ at 0 0 4 (Write 1 (Int (pos 0))) ∷ at 0 0 5 Stepped ∷ at 0 0 2 Stepped ∷ at 0 0 1 (Branched false) ∷ []
+  -- a struct that stands as a statement has no value, but the way to it is followed
+  pub way_to_a_struct : alone pair (codes "void w(struct pair *q) { p; *q; }") (Pointer None ∷ []) 2 ≡ at 0 0 0 Stepped ∷ at 0 0 1 (Trap NullPointer) ∷ []
   -- null is no lock
   pub null_handed : events (a_lock ++ codes "void w(struct lock *m) { acq(m); }") (begin 2 (Pointer None ∷ []) ∷ []) (turns (0 ∷ [])) ≡ at 0 2 0 (Trap NullPointer) ∷ []
   pub unknown : events (codes "void w(void) { }") [] (turns (0 ∷ [])) ≡ without 0 NoThread ∷ []

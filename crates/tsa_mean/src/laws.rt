@@ -1,6 +1,6 @@
 //! Laws of the machine.
 ghost use Rattle.tsa_mean.specs.Examples.{LockedWritesCanStart, ThreadsBeginWhereNothingIsAsked, UnlockedWritesAreUnsound};
-ghost use Rattle.tsa_mean.specs.FurtherTraces.{CallsAreAnswered, LoopsGoRound, ReadersShareALock, ReturnsAreJudged, ReturnsLeaveWhatIsDeclared, SwitchesGoOn};
+ghost use Rattle.tsa_mean.specs.FurtherTraces.{AnswersGoWhereCallsStand, CallsAreAnswered, LoopsGoRound, ReadersShareALock, ReturnsAreJudged, ReturnsLeaveWhatIsDeclared, SwitchesGoOn};
 ghost use Rattle.tsa_mean.specs.HoldLaws.{HoldsChangeAsTold};
 ghost use Rattle.tsa_mean.specs.Laws.{FirstStatesAreStarts, NothingIsDoneWhereNoneRuns, NothingIsDoneWhileWaiting, RunsGoTurnByTurn, TurnsAreAtomic, TurnsAreSafeByTheirActs, TurnsTellTheirActs, WhatIsNotHeldIsAViolation, WhatIsNoViolationIsSafe};
 ghost use Rattle.tsa_mean.specs.OrderTraces.{NumbersTurnAtTheirEdges, TermsAreWorkedOutInOrder};
@@ -129,9 +129,10 @@ pub fn readers_share_a_lock()
 {}
 
 /// What a call gives back goes where the call stands: into an assignment, a declaration, a test or a return.
-#[tactic(auto, using(crate::proofs::WorkedFurther::calls_are_answered))]
+#[tactic(auto, using(crate::proofs::WorkedFurther::calls_are_answered, crate::proofs::WorkedFurther::answers_go_where_calls_stand))]
 pub fn calls_are_answered()
-    ensures { CallsAreAnswered }
+    ensures long { CallsAreAnswered }
+    ensures short { AnswersGoWhereCallsStand }
 {}
 
 /// A return is judged by what its function's attributes say of its answer, and of what is held then and was held at the call.
