@@ -1,5 +1,6 @@
 -- Further runs: loops and switches, readers, constants and initial values, tries, releases without a mode, calls and their answers.
 use Rattle.std.specs.Prelude.{◌≡◌, ℕ, pos, negsuc, true, false, Some, None, List, [], ◌∷◌, ◌++◌, replicate, codes}
+use Rattle.std.specs.List.{repeat}
 use Rattle.tsa_base.specs.declared.value.Value.TheVariants.{Int, Unsigned, Pointer}
 use Rattle.tsa_sched.specs.declared.event.EventKind.TheVariants.{Read, Write, Took, Waits, Tried, Gave, NotHeld, Environment, Called, Returned, Branched, Switched, Stepped, Trap, AlreadyEnded, AlreadyTrapped}
 use Rattle.tsa_sched.specs.declared.event.Mode.TheVariants.{Exclusive, Shared}
@@ -30,7 +31,8 @@ pub record LoopsGoRound : Type 0 where
 
 -- a switch goes to its default, or without one behind itself, where no case has its value
 pub record SwitchesGoOn : Type 0 where
-  pub by_default : events (codes "int n; void w(int x) { switch (x) { case 1: n = 1; default: n = 2; } n = 3; }") (begin 0 (Int (pos 5) ∷ []) ∷ []) (turns (replicate 4 0)) ≡
+  pub by_default : events (codes "int n; void w(int x) { switch (x) { case 1: n = 1; default: n = 2; } n = 3; }")
+      (begin 0 (Int (pos 5) ∷ []) ∷ []) (turns (replicate 4 0)) ≡
       at 0 0 0 (Switched (Int (pos 5))) ∷ at 0 0 2 (Write 0 (Int (pos 2))) ∷ at 0 0 3 (Write 0 (Int (pos 3))) ∷ at 0 0 4 (Returned 0) ∷ []
   pub behind : events (codes "int n; void w(int x) { switch (x) { case 1: n = 1; } n = 3; }") (begin 0 (Int (pos 5) ∷ []) ∷ []) (turns (replicate 2 0)) ≡
       at 0 0 0 (Switched (Int (pos 5))) ∷ at 0 0 2 (Write 0 (Int (pos 3))) ∷ []
@@ -47,7 +49,7 @@ accounts =
 pub record ReadersShareALock : Type 0 where
   pub beside_writers : events accounts
       (begin 5 (Pointer (Some 3) ∷ Int (pos 0) ∷ []) ∷ begin 5 (Pointer (Some 8) ∷ Int (pos 1) ∷ []) ∷ begin 6 (Pointer (Some 3) ∷ []) ∷ begin 6 (Pointer (Some 8) ∷ []) ∷ [])
-      (turns (0 ∷ 1 ∷ 2 ∷ 2 ∷ 0 ∷ 1 ∷ 2 ∷ 3 ∷ 0 ∷ 1 ∷ 2 ∷ 3 ∷ 0 ∷ 1 ∷ 2 ∷ 3 ∷ 0 ∷ 1 ∷ 2 ∷ 3 ∷ 0 ∷ 1 ∷ 2 ∷ 3 ∷ 0 ∷ 1 ∷ 2 ∷ 3 ∷ 0 ∷ 1 ∷ 2 ∷ 3 ∷ 0 ∷ 1 ∷ 2 ∷ 3 ∷ 0 ∷ 1 ∷ 2 ∷ 3 ∷ 0 ∷ 1 ∷ 2 ∷ 3 ∷ 0 ∷ 1 ∷ 0 ∷ 1 ∷ 0 ∷ 1 ∷ 0 ∷ 1 ∷ [])) ≡
+      (turns ((0 ∷ 1 ∷ 2 ∷ 2 ∷ []) ++ (repeat 10 (0 ∷ 1 ∷ 2 ∷ 3 ∷ []) ++ repeat 4 (0 ∷ 1 ∷ [])))) ≡
       at 0 5 0 (Took 4 Shared) ∷ at 1 5 0 (Took 9 Shared) ∷ at 2 6 0 (Waits 4 0) ∷ at 2 6 0 (Waits 4 0) ∷ at 0 5 1 (Read 6 (Int (pos 4)))
       ∷ at 1 5 1 (Read 11 (Int (negsuc 0))) ∷ at 2 6 0 (Waits 4 0) ∷ at 3 6 0 (Waits 9 1) ∷ at 0 5 1 (Read 7 (Int (pos 0)))
       ∷ at 1 5 1 (Read 12 (Int (pos 9))) ∷ at 2 6 0 (Waits 4 0) ∷ at 3 6 0 (Waits 9 1) ∷ at 0 5 1 (Write 7 (Int (pos 4)))
@@ -74,7 +76,7 @@ forms =
 -- a call without the lock that it requires is no violation by itself, but what its function reads and writes is
 pub record CallsAreAnswered : Type 0 where
   pub in_all_places : events forms (twice 6)
-      (turns (0 ∷ 1 ∷ 0 ∷ 0 ∷ 0 ∷ 0 ∷ 0 ∷ 0 ∷ 0 ∷ 0 ∷ 0 ∷ 0 ∷ 0 ∷ 0 ∷ 0 ∷ 0 ∷ 0 ∷ []) ++ turn 0 (negsuc 0) ∷ turns (0 ∷ 0 ∷ 0 ∷ 0 ∷ 0 ∷ 0 ∷ 0 ∷ 1 ∷ 1 ∷ 1 ∷ 1 ∷ 1 ∷ 1 ∷ 0 ∷ 0 ∷ 0 ∷ 0 ∷ [])) ≡
+      (turns ((0 ∷ 1 ∷ []) ++ replicate 15 0) ++ turn 0 (negsuc 0) ∷ turns (replicate 7 0 ++ (replicate 6 1 ++ replicate 4 0))) ≡
       at 0 6 0 (Read 5 (Pointer (Some 2))) ∷ at 1 6 0 (Read 5 (Pointer (Some 2))) ∷ at 0 6 0 (Took 2 Exclusive) ∷ at 0 6 1 (Took 2 Exclusive)
       ∷ at 0 6 2 (Called 5) ∷ at 0 5 0 (Read 4 (Int (pos 0))) ∷ at 0 5 0 (Write 4 (Int (pos 3))) ∷ at 0 5 1 (Read 4 (Int (pos 3)))
       ∷ at 0 5 1 (Returned 5) ∷ at 0 6 3 (Gave 2 Exclusive) ∷ at 0 6 4 (Read 5 (Pointer (Some 2))) ∷ at 0 6 4 (Gave 2 Exclusive)
@@ -87,10 +89,12 @@ pub record CallsAreAnswered : Type 0 where
 
 pub record AnswersGoWhereCallsStand : Type 0 where
   -- into a return and an assignment, in a turn of its own
-  pub to_a_return : events (codes "int n; int one(void) { return 1; } int two(void) { return one(); } void w(void) { n = two(); }") (begin 2 [] ∷ []) (turns (replicate 6 0)) ≡
+  pub to_a_return : events (codes "int n; int one(void) { return 1; } int two(void) { return one(); } void w(void) { n = two(); }")
+      (begin 2 [] ∷ []) (turns (replicate 6 0)) ≡
       at 0 2 0 (Called 1) ∷ at 0 1 0 (Called 0) ∷ at 0 0 0 (Returned 0) ∷ at 0 1 0 (Returned 1) ∷ at 0 2 0 (Write 0 (Int (pos 1))) ∷ at 0 2 1 (Returned 2) ∷ []
   -- into a local and a condition, in the same turn
-  pub to_a_local : events (codes "int n; int one(void) { return 1; } void w(void) { int x = one(); if (one() == 1) n = x; }") (begin 1 [] ∷ []) (turns (replicate 6 0)) ≡
+  pub to_a_local : events (codes "int n; int one(void) { return 1; } void w(void) { int x = one(); if (one() == 1) n = x; }")
+      (begin 1 [] ∷ []) (turns (replicate 6 0)) ≡
       at 0 1 0 (Called 0) ∷ at 0 0 0 (Returned 0) ∷ at 0 1 1 (Called 0) ∷ at 0 0 0 (Returned 0) ∷ at 0 1 2 (Write 0 (Int (pos 1))) ∷ at 0 1 3 (Returned 1) ∷ []
   pub converted : events (codes "unsigned u; int least(void) { return -1; } void w(void) { u = least(); }") (begin 1 [] ∷ []) (turns (replicate 3 0)) ≡
       at 0 1 0 (Called 0) ∷ at 0 0 0 (Returned 0) ∷ at 0 1 0 (Write 0 (Unsigned 4294967295)) ∷ []
@@ -98,12 +102,16 @@ pub record AnswersGoWhereCallsStand : Type 0 where
   pub joined : events (codes "int n; int one(void) { n = 5; return 1; } void w(void) { n += one(); }") (begin 1 [] ∷ []) (turns (replicate 5 0)) ≡
       at 0 1 0 (Called 0) ∷ at 0 0 0 (Write 0 (Int (pos 5))) ∷ at 0 0 1 (Returned 0) ∷ at 0 1 0 (Read 0 (Int (pos 5))) ∷ at 0 1 0 (Write 0 (Int (pos 6))) ∷ []
   -- the end gives 0 or null
-  pub of_the_end : events (codes "struct s { int v; }; int n; int f(void) { } struct s *g(void) { } void w(void) { n = 5; n = f(); if (g()) n = 7; }") (begin 2 [] ∷ []) (turns (replicate 7 0)) ≡
-      at 0 2 0 (Write 0 (Int (pos 5))) ∷ at 0 2 1 (Called 0) ∷ at 0 0 0 (Returned 0) ∷ at 0 2 1 (Write 0 (Int (pos 0))) ∷ at 0 2 2 (Called 1) ∷ at 0 1 0 (Returned 1)
+  pub of_the_end : events (codes "struct s { int v; }; int n; int f(void) { } struct s *g(void) { } void w(void) { n = 5; n = f(); if (g()) n = 7; }")
+      (begin 2 [] ∷ []) (turns (replicate 7 0)) ≡
+      at 0 2 0 (Write 0 (Int (pos 5))) ∷ at 0 2 1 (Called 0) ∷ at 0 0 0 (Returned 0) ∷ at 0 2 1 (Write 0 (Int (pos 0))) ∷ at 0 2 2 (Called 1)
+      ∷ at 0 1 0 (Returned 1)
       ∷ at 0 2 4 (Returned 2) ∷ []
   -- arguments are worked out before the call, a read a turn
-  pub of_arguments : events (codes "int a; int b; void f(int x, unsigned y) { a = x; b = y; } void w(void) { a = 2; f(a - 3, a + b); }") (begin 1 [] ∷ []) (turns (replicate 8 0)) ≡
-      at 0 1 0 (Write 0 (Int (pos 2))) ∷ at 0 1 1 (Read 0 (Int (pos 2))) ∷ at 0 1 1 (Read 0 (Int (pos 2))) ∷ at 0 1 1 (Read 1 (Int (pos 0))) ∷ at 0 1 1 (Called 0)
+  pub of_arguments : events (codes "int a; int b; void f(int x, unsigned y) { a = x; b = y; } void w(void) { a = 2; f(a - 3, a + b); }")
+      (begin 1 [] ∷ []) (turns (replicate 8 0)) ≡
+      at 0 1 0 (Write 0 (Int (pos 2))) ∷ at 0 1 1 (Read 0 (Int (pos 2))) ∷ at 0 1 1 (Read 0 (Int (pos 2))) ∷ at 0 1 1 (Read 1 (Int (pos 0)))
+      ∷ at 0 1 1 (Called 0)
       ∷ at 0 0 0 (Write 0 (Int (negsuc 0))) ∷ at 0 0 1 (Write 1 (Int (pos 2))) ∷ at 0 0 2 (Returned 0) ∷ []
 
 -- a function that tries two locks, of which `nu` stands at place 3, and one that calls it: functions 5 and 6
@@ -119,15 +127,19 @@ pub record ReturnsAreJudged : Type 0 where
       ∷ at 0 6 2 (Gave 3 Exclusive) ∷ at 0 6 3 (Gave 0 Exclusive) ∷ at 0 6 4 (Returned 6) ∷ []
   -- the first try fails while the other thread holds the lock
   pub in_vain : events a_try_of_two (twice 6) (turns (0 ∷ 0 ∷ 1 ∷ 1 ∷ 1 ∷ 1 ∷ [])) ≡
-      at 0 6 0 (Called 5) ∷ at 0 5 0 (Tried 0 Exclusive true) ∷ at 1 6 0 (Called 5) ∷ at 1 5 0 (Tried 0 Exclusive false) ∷ at 1 5 1 (Returned 5) ∷ at 1 6 4 (Returned 6) ∷ []
+      at 0 6 0 (Called 5) ∷ at 0 5 0 (Tried 0 Exclusive true) ∷ at 1 6 0 (Called 5) ∷ at 1 5 0 (Tried 0 Exclusive false) ∷ at 1 5 1 (Returned 5)
+      ∷ at 1 6 4 (Returned 6) ∷ []
   pub still_held : events (a_lock_with_tries ++ codes "void w(void) { acqs(&mu); }") (begin 5 [] ∷ []) (turns (0 ∷ 0 ∷ [])) ≡
       at 0 5 0 (Took 0 Shared) ∷ violating 0 5 1 (Returned 5) ∷ []
   -- a path that meets null names no lock
-  pub of_null : events (a_lock_with_tries ++ codes "void f(struct lock *p) REQUIRES(p) { }\nvoid w(struct lock *q) { f(q); }") (begin 6 (Pointer None ∷ []) ∷ []) (turns (0 ∷ 0 ∷ 0 ∷ [])) ≡
+  pub of_null : events (a_lock_with_tries ++ codes "void f(struct lock *p) REQUIRES(p) { }\nvoid w(struct lock *q) { f(q); }")
+      (begin 6 (Pointer None ∷ []) ∷ []) (turns (0 ∷ 0 ∷ 0 ∷ [])) ≡
       at 0 6 0 (Called 5) ∷ violating 0 5 0 (Returned 5) ∷ at 0 6 1 (Returned 6) ∷ []
   -- the answer of a lock function is 0, and is written in a turn of its own
-  pub of_a_lock_function : events (a_lock_with_tries ++ codes "int take(struct lock *m) ACQUIRE(m);\nint n;\nvoid w(void) { n = take(&mu); n += 2; rel(&mu); }") (begin 6 [] ∷ []) (turns (replicate 6 0)) ≡
-      at 0 6 0 (Took 0 Exclusive) ∷ at 0 6 0 (Write 3 (Int (pos 0))) ∷ at 0 6 1 (Read 3 (Int (pos 0))) ∷ at 0 6 1 (Write 3 (Int (pos 2))) ∷ at 0 6 2 (Gave 0 Exclusive)
+  pub of_a_lock_function : events (a_lock_with_tries ++ codes "int take(struct lock *m) ACQUIRE(m);\nint n;\nvoid w(void) { n = take(&mu); n += 2; rel(&mu); }")
+      (begin 6 [] ∷ []) (turns (replicate 6 0)) ≡
+      at 0 6 0 (Took 0 Exclusive) ∷ at 0 6 0 (Write 3 (Int (pos 0))) ∷ at 0 6 1 (Read 3 (Int (pos 0))) ∷ at 0 6 1 (Write 3 (Int (pos 2)))
+      ∷ at 0 6 2 (Gave 0 Exclusive)
       ∷ at 0 6 3 (Returned 6) ∷ []
 
 -- functions 5 to 8, which take and give the lock as they are declared, called by function 9
@@ -144,24 +156,34 @@ pub record ReturnsLeaveWhatIsDeclared : Type 0 where
       ∷ at 0 9 4 (Returned 9) ∷ []
   pub in_another_mode : events (a_lock_with_tries ++ codes "void lock(void) ACQUIRE(mu) { acqs(&mu); }") (begin 5 [] ∷ []) (turns (0 ∷ 0 ∷ [])) ≡
       at 0 5 0 (Took 0 Shared) ∷ violating 0 5 1 (Returned 5) ∷ []
-  pub not_given : events (a_lock_with_tries ++ codes "void unlock(void) RELEASE(mu) { }\nvoid w(void) { acq(&mu); unlock(); }") (begin 6 [] ∷ []) (turns (replicate 4 0)) ≡
+  pub not_given : events (a_lock_with_tries ++ codes "void unlock(void) RELEASE(mu) { }\nvoid w(void) { acq(&mu); unlock(); }")
+      (begin 6 [] ∷ []) (turns (replicate 4 0)) ≡
       at 0 6 0 (Took 0 Exclusive) ∷ at 0 6 1 (Called 5) ∷ violating 0 5 0 (Returned 5) ∷ violating 0 6 2 (Returned 6) ∷ []
-  pub not_kept : events (a_lock_with_tries ++ codes "void f(void) REQUIRES(mu) { rel(&mu); }\nvoid w(void) { acq(&mu); f(); }") (begin 6 [] ∷ []) (turns (replicate 5 0)) ≡
+  pub not_kept : events (a_lock_with_tries ++ codes "void f(void) REQUIRES(mu) { rel(&mu); }\nvoid w(void) { acq(&mu); f(); }")
+      (begin 6 [] ∷ []) (turns (replicate 5 0)) ≡
       at 0 6 0 (Took 0 Exclusive) ∷ at 0 6 1 (Called 5) ∷ at 0 5 0 (Gave 0 Exclusive) ∷ violating 0 5 1 (Returned 5) ∷ at 0 6 2 (Returned 6) ∷ []
-  pub given_and_taken : events (a_lock_with_tries ++ codes "void f(void) REQUIRES(mu) { rel(&mu); acq(&mu); }\nvoid w(void) { acq(&mu); f(); rel(&mu); }") (begin 6 [] ∷ []) (turns (replicate 7 0)) ≡
-      at 0 6 0 (Took 0 Exclusive) ∷ at 0 6 1 (Called 5) ∷ at 0 5 0 (Gave 0 Exclusive) ∷ at 0 5 1 (Took 0 Exclusive) ∷ at 0 5 2 (Returned 5) ∷ at 0 6 2 (Gave 0 Exclusive)
+  pub given_and_taken : events (a_lock_with_tries ++ codes "void f(void) REQUIRES(mu) { rel(&mu); acq(&mu); }\nvoid w(void) { acq(&mu); f(); rel(&mu); }")
+      (begin 6 [] ∷ []) (turns (replicate 7 0)) ≡
+      at 0 6 0 (Took 0 Exclusive) ∷ at 0 6 1 (Called 5) ∷ at 0 5 0 (Gave 0 Exclusive) ∷ at 0 5 1 (Took 0 Exclusive) ∷ at 0 5 2 (Returned 5)
+      ∷ at 0 6 2 (Gave 0 Exclusive)
       ∷ at 0 6 3 (Returned 6) ∷ []
   -- a lock by a parameter's name is the one that was handed over
-  pub by_parameter : events (a_lock_with_tries ++ codes "void lock(struct lock *p) ACQUIRE(p) { acq(p); }\nvoid w(void) { lock(&mu); rel(&mu); }") (begin 6 [] ∷ []) (turns (replicate 5 0)) ≡
+  pub by_parameter : events (a_lock_with_tries ++ codes "void lock(struct lock *p) ACQUIRE(p) { acq(p); }\nvoid w(void) { lock(&mu); rel(&mu); }")
+      (begin 6 [] ∷ []) (turns (replicate 5 0)) ≡
       at 0 6 0 (Called 5) ∷ at 0 5 0 (Took 0 Exclusive) ∷ at 0 5 1 (Returned 5) ∷ at 0 6 1 (Gave 0 Exclusive) ∷ at 0 6 2 (Returned 6) ∷ []
-  pub shared_of_null : events (a_lock_with_tries ++ codes "void f(struct lock *p) REQUIRES_SHARED(p) { }") (begin 5 (Pointer None ∷ []) ∷ []) (turns (0 ∷ [])) ≡ violating 0 5 0 (Returned 5) ∷ []
+  pub shared_of_null : events (a_lock_with_tries ++ codes "void f(struct lock *p) REQUIRES_SHARED(p) { }")
+      (begin 5 (Pointer None ∷ []) ∷ []) (turns (0 ∷ [])) ≡ violating 0 5 0 (Returned 5) ∷ []
   -- a try that is shared takes its lock so
   pub shared_try : events (a_lock_with_tries ++ codes "int t(void) TRY_ACQUIRE_SHARED(1, mu) { acqs(&mu); return 1; }") (begin 5 [] ∷ []) (turns (0 ∷ 0 ∷ [])) ≡
       at 0 5 0 (Took 0 Shared) ∷ at 0 5 1 (Returned 5) ∷ []
-  pub shared_try_alone : events (a_lock_with_tries ++ codes "int t(void) TRY_ACQUIRE_SHARED(1, mu) { acq(&mu); return 1; }") (begin 5 [] ∷ []) (turns (0 ∷ 0 ∷ [])) ≡
+  pub shared_try_alone : events (a_lock_with_tries ++ codes "int t(void) TRY_ACQUIRE_SHARED(1, mu) { acq(&mu); return 1; }")
+      (begin 5 [] ∷ []) (turns (0 ∷ 0 ∷ [])) ≡
       at 0 5 0 (Took 0 Exclusive) ∷ violating 0 5 1 (Returned 5) ∷ []
   -- what is excluded takes no part in a return
-  pub excluded : events (a_lock_with_tries ++ codes "void f(struct lock *p) EXCLUDES(p) { }") (begin 5 (Pointer None ∷ []) ∷ []) (turns (0 ∷ [])) ≡ at 0 5 0 (Returned 5) ∷ []
+  pub excluded : events (a_lock_with_tries ++ codes "void f(struct lock *p) EXCLUDES(p) { }")
+      (begin 5 (Pointer None ∷ []) ∷ []) (turns (0 ∷ [])) ≡ at 0 5 0 (Returned 5) ∷ []
   -- a try that gives neither 0 nor 1 has no success
-  pub neither : events (a_lock_with_tries ++ codes "int t(void) TRY_ACQUIRE(1, mu) { return 2; }") (begin 5 [] ∷ []) (turns (0 ∷ [])) ≡ at 0 5 0 (Returned 5) ∷ []
-  pub success_for_nothing : events (a_lock_with_tries ++ codes "int t(void) TRY_ACQUIRE(0, mu) { }") (begin 5 [] ∷ []) (turns (0 ∷ [])) ≡ violating 0 5 0 (Returned 5) ∷ []
+  pub neither : events (a_lock_with_tries ++ codes "int t(void) TRY_ACQUIRE(1, mu) { return 2; }")
+      (begin 5 [] ∷ []) (turns (0 ∷ [])) ≡ at 0 5 0 (Returned 5) ∷ []
+  pub success_for_nothing : events (a_lock_with_tries ++ codes "int t(void) TRY_ACQUIRE(0, mu) { }")
+      (begin 5 [] ∷ []) (turns (0 ∷ [])) ≡ violating 0 5 0 (Returned 5) ∷ []

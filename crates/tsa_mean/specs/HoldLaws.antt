@@ -22,6 +22,7 @@ lost kind lock mode = 0
 
 pub record HoldsChangeAsTold : Type 0 where
   pub own : (u : Program) (s : State) (pick : Pick) → StateIsKept u s → (lock : ℕ) → lock < length s.locks → (mode : Mode)
-      → holds_of (step u s pick).0 pick.thread lock mode + lost (step u s pick).1.kind lock mode ≡ holds_of s pick.thread lock mode + gained (step u s pick).1.kind lock mode
+      → holds_of (step u s pick).0 pick.thread lock mode + lost (step u s pick).1.kind lock mode
+      ≡ holds_of s pick.thread lock mode + gained (step u s pick).1.kind lock mode
   pub others : (u : Program) (s : State) (pick : Pick) → StateIsKept u s → (thread : ℕ) → (thread ≡ pick.thread → ⊥) → (lock : ℕ) (mode : Mode)
       → holds_of (step u s pick).0 thread lock mode ≡ holds_of s thread lock mode

@@ -20,26 +20,31 @@ pub record TermsAreWorkedOutInOrder : Type 0 where
   pub trap_first : alone pair (codes "void w(void) { p.x = 1 / 0 + p.y; }") [] 1 ≡ at 0 0 0 (Trap Division) ∷ []
   pub read_first : alone pair (codes "void w(void) { p.x = p.y + 1 / 0; }") [] 2 ≡ at 0 0 0 (Read 2 (Int (pos 0))) ∷ at 0 0 0 (Trap Division) ∷ []
   -- the right side, then the left side, whose old value is the last that an operator needs, and then the write
-  pub right_first : alone pair (codes "void w(struct pair *q) { q->x = p.y; }") (Pointer None ∷ []) 2 ≡ at 0 0 0 (Read 2 (Int (pos 0))) ∷ at 0 0 0 (Trap NullPointer) ∷ []
+  pub right_first : alone pair (codes "void w(struct pair *q) { q->x = p.y; }") (Pointer None ∷ []) 2 ≡
+      at 0 0 0 (Read 2 (Int (pos 0))) ∷ at 0 0 0 (Trap NullPointer) ∷ []
   pub old_last : alone pair (codes "void w(void) { a[p.x] += p.y; }") [] 4 ≡
       at 0 0 0 (Read 2 (Int (pos 0))) ∷ at 0 0 0 (Read 1 (Int (pos 0))) ∷ at 0 0 0 (Read 3 (Int (pos 0))) ∷ at 0 0 0 (Write 3 (Int (pos 0))) ∷ []
   pub base_first : alone pair (codes "void w(struct pair *q) { p.x = a[q->y]; }") (Pointer None ∷ []) 1 ≡ at 0 0 0 (Trap NullPointer) ∷ []
   -- `&&` and `||` stop early
   pub and_stops : alone pair (codes "void w(struct pair *q) { if (q && q->x) ; }") (Pointer None ∷ []) 1 ≡ at 0 0 0 (Branched false) ∷ []
-  pub and_goes_on : alone pair (codes "void w(struct pair *q) { if (q && q->x) ; }") (Pointer (Some 0) ∷ []) 2 ≡ at 0 0 0 (Read 1 (Int (pos 0))) ∷ at 0 0 0 (Branched false) ∷ []
+  pub and_goes_on : alone pair (codes "void w(struct pair *q) { if (q && q->x) ; }") (Pointer (Some 0) ∷ []) 2 ≡
+      at 0 0 0 (Read 1 (Int (pos 0))) ∷ at 0 0 0 (Branched false) ∷ []
   pub or_stops : alone pair (codes "void w(struct pair *q) { p.y = q || q->x; }") (Pointer (Some 0) ∷ []) 1 ≡ at 0 0 0 (Write 2 (Int (pos 1))) ∷ []
   pub or_goes_on : alone pair (codes "void w(struct pair *q) { p.y = q || q->x; }") (Pointer None ∷ []) 1 ≡ at 0 0 0 (Trap NullPointer) ∷ []
   -- an address costs nothing, but its index has to be in range
-  pub address : alone pair (codes "void w(int i) { struct pair *q = &p; q->y = i; }") (Int (pos 5) ∷ []) 2 ≡ at 0 0 0 Stepped ∷ at 0 0 1 (Write 2 (Int (pos 5))) ∷ []
+  pub address : alone pair (codes "void w(int i) { struct pair *q = &p; q->y = i; }") (Int (pos 5) ∷ []) 2 ≡
+      at 0 0 0 Stepped ∷ at 0 0 1 (Write 2 (Int (pos 5))) ∷ []
   pub before_the_first : alone pair (codes "void w(int i) { a[i] = 0; }") (Int (negsuc 0) ∷ []) 1 ≡ at 0 0 0 (Trap OutOfRange) ∷ []
   -- a local is zero or null until it is declared, and a declaration without an initialiser makes it so again
   pub declared_again : alone pair (codes "void w(void) { for (int i = 0; i < 2; ++i) { int x; p.x = x; x = 5; } }") [] 12 ≡
-      at 0 0 0 Stepped ∷ at 0 0 1 (Branched true) ∷ at 0 0 3 Stepped ∷ at 0 0 4 (Write 1 (Int (pos 0))) ∷ at 0 0 5 Stepped ∷ at 0 0 2 Stepped ∷ at 0 0 1 (Branched true)
+      at 0 0 0 Stepped ∷ at 0 0 1 (Branched true) ∷ at 0 0 3 Stepped ∷ at 0 0 4 (Write 1 (Int (pos 0))) ∷ at 0 0 5 Stepped ∷ at 0 0 2 Stepped
+      ∷ at 0 0 1 (Branched true)
       ∷ at 0 0 3 Stepped ∷ at 0 0 4 (Write 1 (Int (pos 0))) ∷ at 0 0 5 Stepped ∷ at 0 0 2 Stepped ∷ at 0 0 1 (Branched false) ∷ []
   -- a struct that stands as a statement has no value, but the way to it is followed
   pub way_to_a_struct : alone pair (codes "void w(struct pair *q) { p; *q; }") (Pointer None ∷ []) 2 ≡ at 0 0 0 Stepped ∷ at 0 0 1 (Trap NullPointer) ∷ []
   -- null is no lock
-  pub null_handed : events (a_lock ++ codes "void w(struct lock *m) { acq(m); }") (begin 2 (Pointer None ∷ []) ∷ []) (turns (0 ∷ [])) ≡ at 0 2 0 (Trap NullPointer) ∷ []
+  pub null_handed : events (a_lock ++ codes "void w(struct lock *m) { acq(m); }")
+      (begin 2 (Pointer None ∷ []) ∷ []) (turns (0 ∷ [])) ≡ at 0 2 0 (Trap NullPointer) ∷ []
   pub unknown : events (codes "void w(void) { }") [] (turns (0 ∷ [])) ≡ without 0 NoThread ∷ []
 
 -- an `int` and an `unsigned` at places 0 and 1
@@ -69,7 +74,8 @@ pub record NumbersTurnAtTheirEdges : Type 0 where
   pub to_int : alone numbers (codes "void w(unsigned x) { n = x; }") (greatest ∷ []) 1 ≡ at 0 0 0 (Write 0 (Int (negsuc 0))) ∷ []
   -- beside an `unsigned` an `int` is converted, and so is what an operator makes for an `int`
   pub compared : alone numbers (codes "void w(int x, unsigned y) { n = x < y; }") (Int (negsuc 0) ∷ Unsigned 1 ∷ []) 1 ≡ at 0 0 0 (Write 0 (Int (pos 0))) ∷ []
-  pub added : alone numbers (codes "void w(unsigned y) { n += y; }") (greatest ∷ []) 2 ≡ at 0 0 0 (Read 0 (Int (pos 0))) ∷ at 0 0 0 (Write 0 (Int (negsuc 0))) ∷ []
+  pub added : alone numbers (codes "void w(unsigned y) { n += y; }") (greatest ∷ []) 2 ≡
+      at 0 0 0 (Read 0 (Int (pos 0))) ∷ at 0 0 0 (Write 0 (Int (negsuc 0))) ∷ []
   pub chosen : alone numbers (codes "void w(unsigned y) { switch (y) { case 0: n = 1; case -1: n = 2; } }") (greatest ∷ []) 2 ≡
       at 0 0 0 (Switched greatest) ∷ at 0 0 2 (Write 0 (Int (pos 2))) ∷ []
   pub bits : alone numbers (codes "void w(unsigned y) { u = ~y; u = y & 12; u = y ^ 1 | 8; }") (Unsigned 10 ∷ []) 3 ≡

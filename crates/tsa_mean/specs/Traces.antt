@@ -79,7 +79,8 @@ pub record ThreadsTrap : Type 0 where
   pub null_followed : events (codes "struct s { int v; }; void w(struct s *p) { p->v = 1; }") (begin 0 (Pointer None ∷ []) ∷ []) (turns (0 ∷ [])) ≡
       at 0 0 0 (Trap NullPointer) ∷ []
   pub out_of_range : events (codes "int a[2]; void w(int i) { a[i] = 1; }") (begin 0 (Int (pos 2) ∷ []) ∷ []) (turns (0 ∷ [])) ≡ at 0 0 0 (Trap OutOfRange) ∷ []
-  pub too_deep : events (codes "void w(void) { w(); }") (begin 0 [] ∷ []) (turns (replicate 256 0)) ≡ replicate 255 (at 0 0 0 (Called 0)) ++ at 0 0 0 (Trap Depth) ∷ []
+  pub too_deep : events (codes "void w(void) { w(); }")
+      (begin 0 [] ∷ []) (turns (replicate 256 0)) ≡ replicate 255 (at 0 0 0 (Called 0)) ++ at 0 0 0 (Trap Depth) ∷ []
 
 -- the environment is function 2 and answers a number; its caller is function 3
 abbrev pub a_question : List ℕ
