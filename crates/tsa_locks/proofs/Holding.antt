@@ -2,7 +2,7 @@
 use Rattle.std.proofs.Common.{◌≡◌, ◌∙◌, ℕ, zero, suc, ◌+◌, ◌<◌, nat_eq, Bool, true, false, List, [], ◌∷◌, Option, Some, None, if◌then◌else◌, refl, sym, ap, subst, arith, true≢false, eq-eqb, eqb-true}
 use Rattle.std.proofs.Math.Decide.{ℕ_discrete}
 use Rattle.tsa_locks.specs.Laws.{HasOneMore, HoldsChange, IsLock}
-use Rattle.tsa_locks.specs.Locks.{blocked, by_owner, count_of, Exclusive, free, give, given, holds, Lock, Mode, one_less, one_more, owned, owned_less, Shared, shared_by, sharer_from, take, taken, Taking, unless_shared}
+use Rattle.tsa_locks.specs.Locks.{blocked, by_owner, count_of, Exclusive, given, holds, Lock, Mode, one_less, one_more, owned, owned_less, Shared, shared_by, sharer_from, take, taken, unless_shared}
 
 same_taken : {a b : Lock} → taken a ≡ taken b → a ≡ b
 same_taken e = cc

@@ -1,6 +1,6 @@
 -- Locks that are taken and given back, worked out.
 use Rattle.std.specs.Prelude.{◌≡◌, true, false, [], ◌∷◌, None, Some}
-use Rattle.tsa_locks.specs.Locks.{owned, shared_by, free, Exclusive, Shared, take, taken, blocked, give, mode_to_give, holds}
+use Rattle.tsa_locks.specs.Locks.{owned, shared_by, free, Exclusive, Shared, take, taken, blocked, give, mode_to_give}
 
 pub record LocksAreAsWritten : Type 0 where
   -- a free lock is taken by anybody, and one that is owned or shared not alone

@@ -1,6 +1,6 @@
 -- What takings and givings do to the holds of threads.
 use Rattle.std.specs.Prelude.{ℕ, ◌+◌, ◌<◌, ◌≡◌, Bool, Some}
-use Rattle.tsa_locks.specs.Locks.{Lock, owned, Mode, Exclusive, holds, take, taken, blocked, give}
+use Rattle.tsa_locks.specs.Locks.{Lock, owned, Mode, holds, take, taken, blocked, give}
 
 -- an owned lock has been taken
 abbrev pub IsLock : Lock → Type 0
