@@ -54,28 +54,28 @@ none_less_at (n ∷ ns) (suc t) zero other = refl
 none_less_at (n ∷ ns) (suc t) (suc u) other = none_less_at ns t u (λ e. other (ap suc e))
 
 -- the first sharer shares, and where there is none nobody does
-no_sharer : (from : ℕ) (ns : List ℕ) → sharer_from from ns ≡ None → (t : ℕ) → count_of ns t ≡ 0
+pub no_sharer : (from : ℕ) (ns : List ℕ) → sharer_from from ns ≡ None → (t : ℕ) → count_of ns t ≡ 0
 unfolding count_of sharer_from
 no_sharer from [] e t = refl
 no_sharer from (zero ∷ ns) e zero = refl
 no_sharer from (zero ∷ ns) e (suc t) = no_sharer (from + 1) ns e t
 no_sharer from (suc n ∷ ns) e t = cc
 
-sharer_shares : (from : ℕ) (ns : List ℕ) (t : ℕ) → sharer_from from ns ≡ Some t → (k : ℕ) × ((t ≡ from + k) × (0 < count_of ns k))
+pub sharer_shares : (from : ℕ) (ns : List ℕ) (t : ℕ) → sharer_from from ns ≡ Some t → (k : ℕ) × ((t ≡ from + k) × (0 < count_of ns k))
 unfolding count_of sharer_from
 sharer_shares from [] t e = cc
 sharer_shares from (zero ∷ ns) t e = let x = sharer_shares (from + 1) ns t e in (suc x.0, (omega (arith, x.1.0), x.1.1))
 sharer_shares from (suc n ∷ ns) t e = let same : from ≡ t = cc in (0, (omega (arith, same), omega arith))
 
 -- the holds of an owner
-owner_holds : (t n : ℕ) → holds (owned t n) t Exclusive ≡ n
+pub owner_holds : (t n : ℕ) → holds (owned t n) t Exclusive ≡ n
 owner_holds t n = by (nat_eq t t) (eq-eqb t t refl)
   where
     by : (b : Bool) → b ≡ true → (if b then n else 0) ≡ n
     by true e = refl
     by false e = absurd (true≢false (sym e))
 
-none_holds : (o n t : ℕ) → (t ≡ o → ⊥) → holds (owned o n) t Exclusive ≡ 0
+pub none_holds : (o n t : ℕ) → (t ≡ o → ⊥) → holds (owned o n) t Exclusive ≡ 0
 none_holds o n t other = by (nat_eq o t) (λ e. other (sym (eqb-true o t e)))
   where
     by : (b : Bool) → (b ≡ true → ⊥) → (if b then n else 0) ≡ 0

@@ -1,11 +1,17 @@
 //! The laws of locks.
 ghost use Rattle.tsa_locks.specs.Examples.{LocksAreAsWritten};
-ghost use Rattle.tsa_locks.specs.Laws.{HoldsChange};
+ghost use Rattle.tsa_locks.specs.Laws.{HoldsChange, LocksAreTakenWhereTheyCanBe};
 
 /// Whoever takes a lock holds it once more, and whoever gives it back once less; nobody else's holds change. Who is in the way holds the lock.
 #[tactic(auto, using(crate::proofs::Holding::holds_change))]
 pub fn holds_change_as_taken_and_given()
     ensures { HoldsChange }
+{}
+
+/// A lock is taken exactly where nobody who holds it is in the way, and whoever holds it alone is the only one who does.
+#[tactic(auto, using(crate::proofs::Takings::locks_are_taken_where_they_can_be))]
+pub fn locks_are_taken_where_they_can_be()
+    ensures { LocksAreTakenWhereTheyCanBe }
 {}
 
 /// Takings and givings of single locks are as they are written out.

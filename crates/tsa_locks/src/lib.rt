@@ -3,4 +3,6 @@
 
 mod laws;
 
-pub use laws::{holds_change_as_taken_and_given, locks_are_as_written};
+pub use laws::{
+    holds_change_as_taken_and_given, locks_are_as_written, locks_are_taken_where_they_can_be,
+};
