@@ -1,9 +1,9 @@
 -- Locks worked out.
 use Rattle.std.proofs.Common.{refl}
-use Rattle.tsa_locks.specs.Examples.{LocksAreAsWritten}
+use Rattle.tsa_locks.specs.Examples.{TakingsAreAsWritten}
 use Rattle.tsa_locks.specs.Locks.{count_of, one_less, one_more, sharer_from}
 
-pub as_written : LocksAreAsWritten
+pub as_written : TakingsAreAsWritten
 unfolding count_of one_less one_more sharer_from
 as_written = record {
   first = refl;

@@ -2,7 +2,7 @@
 use Rattle.std.specs.Prelude.{◌≡◌, true, false, [], ◌∷◌, None, Some}
 use Rattle.tsa_locks.specs.Locks.{owned, shared_by, free, Exclusive, Shared, take, taken, blocked, give, mode_to_give}
 
-pub record LocksAreAsWritten : Type 0 where
+pub record TakingsAreAsWritten : Type 0 where
   -- a free lock is taken by anybody, and one that is owned or shared not alone
   pub first : take false Exclusive 3 free ≡ taken (owned 3 1)
   pub second : take false Exclusive 4 (owned 3 1) ≡ blocked 3

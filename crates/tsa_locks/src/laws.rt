@@ -1,5 +1,5 @@
 //! The laws of locks.
-ghost use Rattle.tsa_locks.specs.Examples.{LocksAreAsWritten};
+ghost use Rattle.tsa_locks.specs.Examples.{TakingsAreAsWritten};
 ghost use Rattle.tsa_locks.specs.Laws.{HoldsChange, LocksAreTakenWhereTheyCanBe};
 
 /// Whoever takes a lock holds it once more, and whoever gives it back once less; nobody else's holds change. Who is in the way holds the lock.
@@ -16,6 +16,6 @@ pub fn locks_are_taken_where_they_can_be()
 
 /// Takings and givings of single locks are as they are written out.
 #[tactic(auto, using(crate::proofs::Written::as_written))]
-pub fn locks_are_as_written()
-    ensures { LocksAreAsWritten }
+pub fn takings_are_as_written()
+    ensures { TakingsAreAsWritten }
 {}

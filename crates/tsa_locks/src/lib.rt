@@ -4,5 +4,5 @@
 mod laws;
 
 pub use laws::{
-    holds_change_as_taken_and_given, locks_are_as_written, locks_are_taken_where_they_can_be,
+    holds_change_as_taken_and_given, locks_are_taken_where_they_can_be, takings_are_as_written,
 };
