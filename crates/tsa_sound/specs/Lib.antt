@@ -1,0 +1,6 @@
+pub mod Settled
+pub mod PartlyWorked
+pub mod FramesFit
+pub mod Invariant
+pub mod Facts
+pub mod Laws

@@ -1,0 +1,6 @@
+//! Accepted units are sound: the invariant of held sets, and the turns that keep it, in definitions and laws alone.
+#![tactic(auto)]
+
+mod laws;
+
+pub use laws::{turns_that_change_nothing_go_well};
