@@ -1,5 +1,5 @@
 //! The laws of turns.
-ghost use Rattle.tsa_sound.specs.Laws.{ThreadsThatDoNotRunGoWell, TurnsGoWell, IsTrap, WaitsGoWell};
+ghost use Rattle.tsa_sound.specs.Laws.{IsChoice, IsStep, IsTrap, ThreadsThatDoNotRunGoWell, TurnsGoWell, WaitsGoWell};
 
 /// A turn of a thread that isn't there, has ended or has stopped for good keeps the invariant, and so does one that waits and one that traps; none of them is
 /// a violation.
@@ -7,4 +7,14 @@ pub fn turns_that_change_nothing_go_well()
     ensures no_run { ThreadsThatDoNotRunGoWell }
     ensures waits { WaitsGoWell }
     ensures traps { TurnsGoWell IsTrap }
+{}
+
+/// A turn that only goes on keeps the invariant, and is no violation.
+pub fn steps_go_well()
+    ensures { TurnsGoWell IsStep }
+{}
+
+/// A turn that goes to the case of a switch keeps the invariant, and is no violation.
+pub fn choices_go_well()
+    ensures { TurnsGoWell IsChoice }
 {}

@@ -3,4 +3,4 @@
 
 mod laws;
 
-pub use laws::{turns_that_change_nothing_go_well};
+pub use laws::{choices_go_well, steps_go_well, turns_that_change_nothing_go_well};
