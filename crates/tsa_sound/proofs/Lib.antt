@@ -6,3 +6,9 @@ pub mod Moves
 pub mod Comes
 pub mod Edges
 pub mod Going
+pub mod Constants
+pub mod Tests
+pub mod Comparisons
+pub mod Deciding
+pub mod Branches
+pub mod Says

@@ -3,7 +3,7 @@ use Rattle.std.specs.Prelude.{◌≡◌, ℕ, false, List, Option, Some, None}
 use Rattle.tsa_core.specs.Programs.{Program}
 use Rattle.tsa_sched.specs.declared.event.EventKind.TheVariants as event
 use Rattle.tsa_sched.specs.declared.pick.Pick.{Pick}
-use Rattle.tsa_mean.specs.Acts.{Act, act_of, to_step, to_choose, to_trap}
+use Rattle.tsa_mean.specs.Acts.{Act, act_of, to_branch, to_step, to_choose, to_trap}
 use Rattle.tsa_mean.specs.Runs.{step}
 use Rattle.tsa_mean.specs.States.{Frame, State, Thread, running, trapped, ended, thread_at}
 use Rattle.tsa_sound.specs.Facts.{ProgramFacts}
@@ -51,6 +51,11 @@ IsTrap act = ⊥
 abbrev pub IsStep : Act → Type 0
 IsStep to_step = Unit {0}
 IsStep act = ⊥
+
+-- a test
+abbrev pub IsBranch : Act → Type 0
+IsBranch (to_branch taken) = Unit {0}
+IsBranch act = ⊥
 
 -- a switch
 abbrev pub IsChoice : Act → Type 0

@@ -1,5 +1,5 @@
 //! The laws of turns.
-ghost use Rattle.tsa_sound.specs.Laws.{IsChoice, IsStep, IsTrap, ThreadsThatDoNotRunGoWell, TurnsGoWell, WaitsGoWell};
+ghost use Rattle.tsa_sound.specs.Laws.{IsBranch, IsChoice, IsStep, IsTrap, ThreadsThatDoNotRunGoWell, TurnsGoWell, WaitsGoWell};
 
 /// A turn of a thread that isn't there, has ended or has stopped for good keeps the invariant, and so does one that waits and one that traps; none of them is
 /// a violation.
@@ -17,4 +17,9 @@ pub fn steps_go_well()
 /// A turn that goes to the case of a switch keeps the invariant, and is no violation.
 pub fn choices_go_well()
     ensures { TurnsGoWell IsChoice }
+{}
+
+/// A turn that goes by a test keeps the invariant, and is no violation: where the test looks at a try variable, the outcome tells the answer that it holds.
+pub fn branches_go_well()
+    ensures { TurnsGoWell IsBranch }
 {}
