@@ -12,3 +12,5 @@ pub mod Comparisons
 pub mod Deciding
 pub mod Branches
 pub mod Says
+pub mod ReadsOf
+pub mod NextRead

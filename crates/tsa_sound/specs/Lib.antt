@@ -4,3 +4,5 @@ pub mod FramesFit
 pub mod Invariant
 pub mod Facts
 pub mod Laws
+pub mod LaidOut
+pub mod TermFacts
