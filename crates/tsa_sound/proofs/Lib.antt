@@ -14,3 +14,7 @@ pub mod Branches
 pub mod Says
 pub mod ReadsOf
 pub mod NextRead
+pub mod NoPointers
+pub mod PlacesStand
+pub mod Lists
+pub mod Guards

@@ -45,7 +45,7 @@ module _ (l : Layout) (locals : Locals) where
   StandsAlong None place = Unit {0}
   StandsAlong (Some w) place = spot_of w ≡ Some (Place place)
 
-  steps_behind : (xs ys : List PathStep) (s : Option Spot) → take_steps l (values locals) (xs ++ ys) s ≡ take_steps l (values locals) ys (take_steps l (values locals) xs s)
+  pub steps_behind : (xs ys : List PathStep) (s : Option Spot) → take_steps l (values locals) (xs ++ ys) s ≡ take_steps l (values locals) ys (take_steps l (values locals) xs s)
   steps_behind [] ys s = refl
   steps_behind (x ∷ xs) ys s = steps_behind xs ys (option_and_then (take_step l (values locals) x) s)
 
