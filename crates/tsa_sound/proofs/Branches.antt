@@ -1,28 +1,20 @@
 -- Tests: a try variable's answer is told by the outcome, and settled statuses stay.
 use Rattle.std.proofs.Common.{◌≡◌, ◌∙◌, ℕ, nat_lt, Bool, true, false, not, List, length, Option, Some, None, slice_get, refl, ap, sym, subst}
 use Rattle.std.specs.Prelude.{Contains}
-use Rattle.tsa_base.specs.declared.value.Value.{Value}
 use Rattle.tsa_way.specs.Ways.{Way}
-use Rattle.tsa_core.specs.Bodies.{Action}
-use Rattle.tsa_core.specs.Control.{Outcome}
 use Rattle.tsa_core.specs.Programs.{Program}
-use Rattle.tsa_core.specs.Terms.{Term}
-use Rattle.tsa_rules.specs.declared.status.Status.{Status}
 use Rattle.tsa_rules.specs.declared.status.Status.TheVariants.{Pending}
 use Rattle.tsa_rules.specs.Conditions.{Condition, Subject, the_call, the_local, answer_by, condition_at, condition_in}
-use Rattle.tsa_rules.specs.Effects.{after_answer, after_asking, after_call, after_test, effect}
+use Rattle.tsa_rules.specs.Effects.{after_answer, after_asking, after_test, effect}
 use Rattle.tsa_rules.specs.Points.{is_status, try_variables}
-use Rattle.tsa_path.specs.Values.{is_true}
-use Rattle.tsa_sched.specs.declared.pick.Pick.{Pick}
-use Rattle.tsa_mean.specs.Acts.{Act, point_of, to_branch}
+use Rattle.tsa_mean.specs.Acts.{point_of, to_branch}
 use Rattle.tsa_mean.specs.Frames.{frame_behind, outcome_of, point_behind, right_of}
-use Rattle.tsa_mean.specs.Outs.{yields}
-use Rattle.tsa_mean.specs.States.{Frame, Holds, State, running, holds_of}
-use Rattle.tsa_mean.specs.Working.{local_at, rvalue}
+use Rattle.tsa_mean.specs.States.{Frame, Holds, running, holds_of}
+use Rattle.tsa_mean.specs.Working.{local_at}
 use Rattle.tsa_sound.specs.Facts.{FunctionFacts}
 use Rattle.tsa_sound.specs.FramesFit.{IsDecided, ProgramRows, SidesFit, WorkFits, function_of, paths_of, setting_behind, stable_of, status_before}
 use Rattle.tsa_sound.specs.Invariant.{StackFits}
-use Rattle.tsa_sound.specs.Laws.{GoesWell, IsBranch, TakesTurn, TurnsGoWell}
+use Rattle.tsa_sound.specs.Laws.{IsBranch, TurnsGoWell}
 use Rattle.tsa_sound.specs.PartlyWorked.{IsWorked}
 use Rattle.tsa_sound.specs.Settled.{answer_held, settled}
 use Rattle.tsa_sound.proofs.Comes.{IsTest}
@@ -108,7 +100,7 @@ pub branches_go_well : TurnsGoWell IsBranch
 branches_go_well u x s pick (to_branch taken) facts inv turn is = record {
   kept = own_turn u x s pick (to_branch taken) turn (running (frame_behind u turn.frame turn.frame.locals (outcome_of taken)) turn.below) inv refl
       (let fits = before_turn u x s pick (to_branch taken) turn inv in
-      branched u x (holds_of s pick.thread) turn.frame turn.below (facts turn.frame.function fits.top.with_body) fits taken
+      branched u x (holds_of s pick.thread) turn.frame turn.below (facts.functions turn.frame.function fits.top.with_body) fits taken
       (comes_from u x (holds_of s pick.thread) turn.frame turn.below (to_branch taken) fits turn.does));
   safe = safe_by_act u s pick (to_branch taken) turn tt;
 }

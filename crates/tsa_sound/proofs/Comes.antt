@@ -11,12 +11,15 @@ use Rattle.tsa_core.specs.Programs.{Attr, Function, Program}
 use Rattle.tsa_core.specs.Terms.{Term}
 use Rattle.tsa_rules.specs.Conditions.{condition_at}
 use Rattle.tsa_rules.specs.Points.{function_at}
-use Rattle.tsa_path.specs.Values.{is_true, pointed_place}
-use Rattle.tsa_mean.specs.Acts.{Act, act_at, act_of_call, act_outside, args_act, changes_lock, finish, on_lock, on_pointed, on_value, place_act, set_act, stored_value, unless_trap, write_act, to_write, to_step, to_set, to_branch, to_choose, to_ask, to_enter}
+use Rattle.tsa_path.specs.Values.{in_kind, is_true, pointed_place}
+use Rattle.tsa_sched.specs.declared.event.TrapKind.TheVariants as trap
+use Rattle.tsa_mean.specs.Acts.{Act, act_at, act_of_call, act_outside, args_act, changes_lock, finish, on_lock, on_pointed, on_value, place_act, set_act, stored_value, unless_trap, write_act, to_read, to_set, to_write, to_step, to_set, to_branch, to_choose, to_ask, to_enter}
 use Rattle.tsa_mean.specs.Outs.{Out, traps, reads, yields}
 use Rattle.tsa_mean.specs.States.{Work, calling, working}
-use Rattle.tsa_mean.specs.Working.{Locals, local_at, lvalue, rvalue, rvalues}
+use Rattle.tsa_mean.specs.Operators.{converted_to, operate_on}
+use Rattle.tsa_mean.specs.Working.{Locals, filled, filled_all, local_at, lvalue, rvalue, rvalues}
 use Rattle.tsa_sound.specs.FramesFit.{ArgsFit, SidesFit, WorkFits}
+use Rattle.tsa_sound.proofs.ReadsOf.{NoRead, operate_reads_none, or_trap_reads_none, read_of_first}
 
 -- nothing is called at the point, and its sides are being worked out
 pub record IsBare (call : Option Call) (work : Work) : Type 0 where
@@ -40,9 +43,26 @@ pub record IsTest (u : Program) (locals : Locals) (call : Option Call) (action :
   pub found : rvalue u.layout locals bare.right ≡ yields value
   pub by : taken ≡ is_true value
 
+-- A read is one of an argument, of the right side or on the way to the left side; or it is that of the old value for an operator.
+pub data ReadSource (u : Program) (locals : Locals) (action : Action) : Work → ℕ → (Value → Work) → Type 0 where
+  of_args : (args : List Term) (place : ℕ) → rvalues u.layout locals args ≡ reads place
+      → ReadSource u locals action (calling args) place (λ v. calling (filled_all u.layout locals v args))
+  of_right : (right : Term) (left : Option Term) (old : Option Value) (place : ℕ) → rvalue u.layout locals right ≡ reads place
+      → ReadSource u locals action (working right left old) place (λ v. working (filled u.layout locals v right) left old)
+  of_left : (right left : Term) (old : Option Value) (place : ℕ) → lvalue u.layout locals left ≡ reads place
+      → ReadSource u locals action (working right (Some left) old) place (λ v. working right (Some (filled u.layout locals v left)) old)
+  of_old : (right left : Term) (place : ℕ) (written : Term) (o : BinaryOp) (kind : Kind) (x : Term) → action ≡ set_cell written (Some o) kind x
+      → lvalue u.layout locals left ≡ yields place → ReadSource u locals action (working right (Some left) None) place (λ v. working right (Some left) (Some v))
+
+-- operators on values read nothing
+stored_reads_none : (kind : Kind) (o : BinaryOp) (old new : Value) → NoRead (stored_value kind o old new)
+stored_reads_none kind o old new p e = operate_reads_none o old new p
+    (read_of_first (operate_on o old new) (λ v. converted_to kind v) p (λ v. or_trap_reads_none trap.NullPointer (in_kind kind v)) e)
+
 module _ (u : Program) (f : Function) (locals : Locals) (call : Option Call) (action : Action) (work : Work) where
   -- what is known of a point where an act comes from
   abbrev pub Comes : Act → Type 0
+  Comes (to_read place left) = ReadSource u locals action work place left
   Comes to_step = IsPlain call action work
   Comes (to_choose v) = IsPlain call action work
   Comes (to_branch taken) = IsTest u locals call action work taken
@@ -50,12 +70,14 @@ module _ (u : Program) (f : Function) (locals : Locals) (call : Option Call) (ac
 
   -- acts of which nothing more is to be known
   abbrev IsOther : Act → Type 0
+  IsOther (to_read place left) = ⊥
   IsOther to_step = ⊥
   IsOther (to_choose v) = ⊥
   IsOther (to_branch taken) = ⊥
   IsOther act = Unit {0}
 
   other : (act : Act) → IsOther act → Comes act
+  other (to_read place left) is = absurd is
   other to_step is = absurd is
   other (to_choose v) is = absurd is
   other (to_branch taken) is = absurd is
@@ -88,19 +110,19 @@ module _ (u : Program) (f : Function) (locals : Locals) (call : Option Call) (ac
       by false = outside_other n g.result args (find (λ a. changes_lock a.kind) g.attrs)
 
 -- an operator's value is written or set, or traps
-stored_other : (u : Program) (f : Function) (locals : Locals) (call : Option Call) (action : Action) (work : Work) (out : Out Value) (act : Value → Act)
+stored_other : (u : Program) (f : Function) (locals : Locals) (call : Option Call) (action : Action) (work : Work) (out : Out Value) (act : Value → Act) → NoRead out
     → ((v : Value) → IsOther u f locals call action work (act v)) → IsOther u f locals call action work (unless_trap out act)
-stored_other u f locals call action work (traps kind) act is = tt
-stored_other u f locals call action work (reads place) act is = tt
-stored_other u f locals call action work (yields v) act is = is v
+stored_other u f locals call action work (traps kind) act none is = tt
+stored_other u f locals call action work (reads place) act none is = absurd (none place refl)
+stored_other u f locals call action work (yields v) act none is = is v
 
 module _ (u : Program) (f : Function) (locals : Locals) where
-  args_come : (call : Option Call) (action : Action) (args now : List Term) (out : Out (List Value)) → ArgsFit u f locals call args
-      → Comes u f locals call action (calling args) (args_act u locals call now out)
-  args_come None action args now out fits = absurd fits
-  args_come (Some c) action args now (traps kind) fits = tt
-  args_come (Some c) action args now (reads place) fits = tt
-  args_come (Some c) action args now (yields vs) fits =
+  args_come : (call : Option Call) (action : Action) (args : List Term) (out : Out (List Value)) → rvalues u.layout locals args ≡ out → ArgsFit u f locals call args
+      → Comes u f locals call action (calling args) (args_act u locals call args out)
+  args_come None action args out is fits = absurd fits
+  args_come (Some c) action args (traps kind) is fits = tt
+  args_come (Some c) action args (reads place) is fits = of_args args place is
+  args_come (Some c) action args (yields vs) is fits =
       other u f locals (Some c) action (calling args) _ (call_other u f locals (Some c) action (calling args) c.function (function_at u c.function) vs)
 
   abbrev bare : (right : Term) (left : Option Term) (old : Option Value) → IsBare None (working right left old)
@@ -110,21 +132,23 @@ module _ (u : Program) (f : Function) (locals : Locals) where
     set_other : (action : Action) (left : Option Term) (n : ℕ) (o : Option BinaryOp) (kind : Kind) (v : Value)
         → IsOther u f locals call action (working right left old) (set_act u locals n o kind v)
     set_other action left n None kind v = tt
-    set_other action left n (Some o) kind v =
-        stored_other u f locals call action (working right left old) (stored_value kind o (local_at locals n) v) (λ w. to_set n w) (λ w. tt)
+    set_other action left n (Some o) kind v = stored_other u f locals call action (working right left old) (stored_value kind o (local_at locals n) v) (λ w. to_set n w)
+        (stored_reads_none kind o (local_at locals n) v) (λ w. tt)
 
-    write_other : (action : Action) (left : Term) (was : Option Value) (o : Option BinaryOp) (kind : Kind) (place : ℕ) (v : Value)
-        → IsOther u f locals call action (working right (Some left) old) (write_act u locals right left was o kind place v)
-    write_other action left was None kind place v = tt
-    write_other action left None (Some o) kind place v = tt
-    write_other action left (Some w) (Some o) kind place v =
-        stored_other u f locals call action (working right (Some left) old) (stored_value kind o w v) (λ x. to_write place x) (λ x. tt)
+  write_comes : (call : Option Call) (right left written x : Term) (old : Option Value) (o : Option BinaryOp) (kind : Kind) (place : ℕ) (v : Value) → lvalue u.layout locals left ≡ yields place
+      → Comes u f locals call (set_cell written o kind x) (working right (Some left) old) (write_act u locals right left old o kind place v)
+  write_comes call right left written x old None kind place v is = tt
+  write_comes call right left written x None (Some o) kind place v is = of_old right left place written o kind x refl is
+  write_comes call right left written x (Some w) (Some o) kind place v is =
+      other u f locals call (set_cell written (Some o) kind x) (working right (Some left) (Some w)) _
+      (stored_other u f locals call (set_cell written (Some o) kind x) (working right (Some left) (Some w)) (stored_value kind o w v) (λ x. to_write place x)
+          (stored_reads_none kind o w v) (λ x. tt))
 
-    place_other : (action : Action) (left : Term) (o : Option BinaryOp) (kind : Kind) (v : Value) (out : Out ℕ)
-        → IsOther u f locals call action (working right (Some left) old) (place_act u locals right left old o kind v out)
-    place_other action left o kind v (traps why) = tt
-    place_other action left o kind v (reads place) = tt
-    place_other action left o kind v (yields place) = write_other action left old o kind place v
+  place_comes : (call : Option Call) (right left written x : Term) (old : Option Value) (o : Option BinaryOp) (kind : Kind) (v : Value) (out : Out ℕ) → lvalue u.layout locals left ≡ out
+      → Comes u f locals call (set_cell written o kind x) (working right (Some left) old) (place_act u locals right left old o kind v out)
+  place_comes call right left written x old o kind v (traps why) is = tt
+  place_comes call right left written x old o kind v (reads place) is = of_left right left old place is
+  place_comes call right left written x old o kind v (yields place) is = write_comes call right left written x old o kind place v is
 
   -- a right side that is worked out
   finish_comes : (call : Option Call) (action : Action) (right : Term) (left : Option Term) (old : Option Value) (v : Value)
@@ -135,8 +159,7 @@ module _ (u : Program) (f : Function) (locals : Locals) where
   finish_comes call (declare n kind x) right left old v is fits = tt
   finish_comes call (set_local n o kind x) right left old v is fits =
       other u f locals call (set_local n o kind x) (working right left old) _ (set_other call right old (set_local n o kind x) left n o kind v)
-  finish_comes call (set_cell place o kind x) right (Some left) old v is fits =
-      other u f locals call (set_cell place o kind x) (working right (Some left) old) _ (place_other call right old (set_cell place o kind x) left o kind v (lvalue u.layout locals left))
+  finish_comes call (set_cell place o kind x) right (Some left) old v is fits = place_comes call right left place x old o kind v (lvalue u.layout locals left) refl
   finish_comes call (set_cell place o kind x) right None old v is fits = absurd fits.left_side
   finish_comes None (test x) right left old v is fits =
       record { bare = bare right left old; written = x; tests = refl; value = v; found = is; by = refl }
@@ -147,15 +170,15 @@ module _ (u : Program) (f : Function) (locals : Locals) where
   finish_comes (Some c) go_on right left old v is fits = absurd fits.goes_on
   finish_comes call (give kind x) right left old v is fits = tt
 
-  value_comes : (call : Option Call) (action : Action) (right : Term) (left : Option Term) (old : Option Value) (out : Out Value) (rest : Value → Work)
+  value_comes : (call : Option Call) (action : Action) (right : Term) (left : Option Term) (old : Option Value) (out : Out Value)
       → rvalue u.layout locals right ≡ out → SidesFit u f (point call action) locals right left
-      → Comes u f locals call action (working right left old) (on_value out (λ v. finish u locals action right left old v) rest)
-  value_comes call action right left old (traps kind) rest is fits = tt
-  value_comes call action right left old (reads place) rest is fits = tt
-  value_comes call action right left old (yields v) rest is fits = finish_comes call action right left old v is fits
+      → Comes u f locals call action (working right left old) (on_value out (λ v. finish u locals action right left old v) (λ v. working (filled u.layout locals v right) left old))
+  value_comes call action right left old (traps kind) is fits = tt
+  value_comes call action right left old (reads place) is fits = of_right right left old place is
+  value_comes call action right left old (yields v) is fits = finish_comes call action right left old v is fits
 
   pub comes : (call : Option Call) (action : Action) (work : Work) → WorkFits u f (point call action) locals work
       → Comes u f locals call action work (act_at u locals (point call action) work)
-  comes call action (calling args) fits = args_come call action args args (rvalues u.layout locals args) fits
+  comes call action (calling args) fits = args_come call action args (rvalues u.layout locals args) refl fits
   comes call action (working right left old) fits =
-      value_comes call action right left old (rvalue u.layout locals right) _ refl fits
+      value_comes call action right left old (rvalue u.layout locals right) refl fits

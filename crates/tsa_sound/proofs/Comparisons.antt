@@ -1,13 +1,13 @@
 -- Conditions tell the answer that the local they test holds.
 use Rattle.std.proofs.Common.{◌≡◌, ◌∙◌, ℕ, pos, Bool, true, false, not, Option, Some, None, option_map, refl, ap, sym, subst}
 use Rattle.tsa_base.specs.declared.value.Value.{Value}
-use Rattle.tsa_base.specs.declared.value.Value.TheVariants.{Int, Unsigned, Pointer}
+use Rattle.tsa_base.specs.declared.value.Value.TheVariants.{Int}
 use Rattle.tsa_tree.specs.declared.expr.BinaryOp.{BinaryOp}
 use Rattle.tsa_tree.specs.declared.expr.BinaryOp.TheVariants as op
 use Rattle.tsa_tree.specs.declared.expr.UnaryOp.TheVariants as prefix
 use Rattle.tsa_core.specs.Calls.{Layout}
 use Rattle.tsa_core.specs.Kinds.{Setting}
-use Rattle.tsa_core.specs.Terms.{Term, constant, variable, answer, global, member, element, target, load, address, converted, prefixed, joined}
+use Rattle.tsa_core.specs.Terms.{Term, variable, answer, prefixed, joined}
 use Rattle.tsa_rules.specs.Conditions.{Condition, Subject, the_call, the_local, answer_beside, answer_by, beside, comparison, condition, condition_in, either, itself, subject_in}
 use Rattle.tsa_rules.specs.Effects.{same_answer}
 use Rattle.tsa_path.specs.Values.{is_true, of_truth}

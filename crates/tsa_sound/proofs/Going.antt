@@ -84,7 +84,7 @@ pub steps_go_well : TurnsGoWell IsStep
 steps_go_well u x s pick to_step facts inv turn is = record {
   kept = own_turn u x s pick to_step turn (running (frame_behind u turn.frame turn.frame.locals Next) turn.below) inv refl
       (let fits = before_turn u x s pick to_step turn inv in
-      left_plainly u x (holds_of s pick.thread) turn.frame turn.below (facts turn.frame.function fits.top.with_body) fits
+      left_plainly u x (holds_of s pick.thread) turn.frame turn.below (facts.functions turn.frame.function fits.top.with_body) fits
       (comes_from u x (holds_of s pick.thread) turn.frame turn.below to_step fits turn.does) Next (point_behind u turn.frame Next) refl);
   safe = safe_by_act u s pick to_step turn tt;
 }
@@ -94,7 +94,7 @@ pub choices_go_well : TurnsGoWell IsChoice
 choices_go_well u x s pick (to_choose v) facts inv turn is = record {
   kept = own_turn u x s pick (to_choose v) turn (running (or_rest u turn.frame (point_behind u turn.frame (Chosen (int_in v)))) turn.below) inv refl
       (let fits = before_turn u x s pick (to_choose v) turn inv in
-      chosen u x (holds_of s pick.thread) turn.frame turn.below (facts turn.frame.function fits.top.with_body) fits
+      chosen u x (holds_of s pick.thread) turn.frame turn.below (facts.functions turn.frame.function fits.top.with_body) fits
       (comes_from u x (holds_of s pick.thread) turn.frame turn.below (to_choose v) fits turn.does) (int_in v) (point_behind u turn.frame (Chosen (int_in v))) refl);
   safe = safe_by_act u s pick (to_choose v) turn tt;
 }

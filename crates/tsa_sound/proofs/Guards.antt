@@ -1,5 +1,5 @@
 -- The guards of a place that is worked out are the locks to which the paths of its access lead.
-use Rattle.std.proofs.Common.{◌≡◌, ◌∙◌, ℕ, Bool, true, false, List, [], ◌∷◌, ◌++◌, map, Option, Some, None, option_map, option_and_then, slice_get, refl, ap, sym, subst}
+use Rattle.std.proofs.Common.{◌≡◌, ◌∙◌, ℕ, Bool, true, List, [], ◌∷◌, ◌++◌, Option, Some, None, option_map, option_and_then, slice_get, refl, ap, sym, subst}
 use Rattle.std.specs.Prelude.{All}
 use Rattle.tsa_base.specs.declared.value.Value.{Value}
 use Rattle.tsa_layout.specs.declared.evaluation.Spot.{Spot}
@@ -21,11 +21,11 @@ use Rattle.tsa_core.specs.Terms.{Term, constant, variable, answer, global, membe
 use Rattle.tsa_core.specs.Uses.{guards_owned, owned_by}
 use Rattle.tsa_path.specs.Values.{at_index}
 use Rattle.tsa_sched.specs.declared.event.TrapKind.TheVariants as trap
-use Rattle.tsa_mean.specs.Outs.{Out, bind, or_trap, yields}
+use Rattle.tsa_mean.specs.Outs.{bind, or_trap, yields}
 use Rattle.tsa_mean.specs.WorthLaws.{values}
 use Rattle.tsa_mean.specs.Working.{Locals, local_at, lvalue, rvalue}
 use Rattle.tsa_mean.proofs.Lists.{all_none}
-use Rattle.tsa_sound.specs.LaidOut.{AreLocalFree, IsLocalFree, IsLocalFreeRoot, IsLocalFreeStep, LaidOut}
+use Rattle.tsa_sound.specs.LaidOut.{AreLocalFree, IsLocalFree, IsLocalFreeStep, LaidOut}
 use Rattle.tsa_sound.specs.PartlyWorked.{IsWorked, guard_ways, guards_in, place_way}
 use Rattle.tsa_sound.specs.TermFacts.{TermFits}
 use Rattle.tsa_sound.proofs.Lists.{all_both, all_left, all_mapped, all_right, all_unmapped}

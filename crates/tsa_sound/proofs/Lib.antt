@@ -18,3 +18,6 @@ pub mod NoPointers
 pub mod PlacesStand
 pub mod Lists
 pub mod Guards
+pub mod Held
+pub mod Loaded
+pub mod ReadLaw

@@ -1,5 +1,5 @@
 -- What holds of all elements of lists.
-use Rattle.std.proofs.Common.{◌≡◌, List, [], ◌∷◌, ◌++◌, map, refl}
+use Rattle.std.proofs.Common.{List, [], ◌∷◌, ◌++◌, map}
 use Rattle.std.specs.Prelude.{All}
 use Rattle.tsa_mean.proofs.Lists.{all_first, all_more, all_none, all_rest}
 

@@ -1,5 +1,5 @@
 -- The read that comes next is one of the written term, and is made as it says.
-use Rattle.std.proofs.Common.{◌≡◌, ◌∙◌, ℕ, Bool, true, false, List, [], ◌∷◌, Option, Some, None, ◌⊎◌, inl, inr, refl, ap, sym, subst}
+use Rattle.std.proofs.Common.{◌≡◌, ◌∙◌, ℕ, Bool, List, [], ◌∷◌, Some, inl, inr, refl, ap, sym, subst}
 use Rattle.tsa_base.specs.declared.value.Value.{Value}
 use Rattle.tsa_base.specs.declared.value.Value.TheVariants.{Pointer}
 use Rattle.tsa_tree.specs.declared.expr.BinaryOp.{BinaryOp}
@@ -9,11 +9,11 @@ use Rattle.tsa_core.specs.Terms.{Term, constant, variable, answer, global, membe
 use Rattle.tsa_path.specs.Values.{at_index, in_kind, pointed_place}
 use Rattle.tsa_sched.specs.declared.event.TrapKind.TheVariants as trap
 use Rattle.tsa_mean.specs.Operators.{converted_to, joined_with, prefix_on}
-use Rattle.tsa_mean.specs.Outs.{Out, traps, reads, yields, bind, or_trap}
+use Rattle.tsa_mean.specs.Outs.{reads, yields, bind, or_trap}
 use Rattle.tsa_mean.specs.Working.{Locals, at_first, filled, filled_all, lvalue, rvalue, rvalues}
 use Rattle.tsa_sound.specs.PartlyWorked.{AreWorked, IsOfKind, IsWorked, PointsAlong, target_way}
 use Rattle.tsa_sound.specs.TermFacts.{AllLoad, Loads}
-use Rattle.tsa_sound.proofs.ReadsOf.{NoRead, ReadOf, join_read, no_trap, no_yield, or_trap_reads_none, prefix_reads_none, read_of, read_of_first, same_read}
+use Rattle.tsa_sound.proofs.ReadsOf.{ReadOf, join_read, no_trap, no_yield, or_trap_reads_none, prefix_reads_none, read_of, read_of_first, same_read}
 
 module _ (k : Setting) (stable : ℕ → Bool) (locals : Locals) (p : ℕ) where
   abbrev Worked : Term → Term → Type 0

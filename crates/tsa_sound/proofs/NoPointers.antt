@@ -1,5 +1,5 @@
 -- Operators give no pointers.
-use Rattle.std.proofs.Common.{◌≡◌, ℕ, Bool, true, false, ◌&&◌, ◌||◌, Option, Some, None, option_and_then, refl}
+use Rattle.std.proofs.Common.{◌≡◌, ℕ, Bool, true, false, ◌&&◌, Option, Some, None, option_and_then}
 use Rattle.tsa_tree.specs.declared.expr.BinaryOp.{BinaryOp}
 use Rattle.tsa_tree.specs.declared.expr.BinaryOp.TheVariants as op
 use Rattle.tsa_tree.specs.declared.expr.UnaryOp.{UnaryOp}
@@ -7,7 +7,7 @@ use Rattle.tsa_tree.specs.declared.expr.UnaryOp.TheVariants as prefix
 use Rattle.tsa_tree.specs.declared.kind.Kind.{Kind}
 use Rattle.tsa_tree.specs.declared.kind.Kind.TheVariants as type
 use Rattle.tsa_tree.specs.types.Operands.{integer_kind}
-use Rattle.tsa_core.specs.Kinds.{binary_kind, conversion_kind, if_so, of_arithmetic, of_bits, of_both, of_comparison, of_order, of_scalars, prefix_kind}
+use Rattle.tsa_core.specs.Kinds.{binary_kind, conversion_kind, if_so, of_arithmetic, of_bits, of_both, prefix_kind}
 
 module _ (n : ℕ) (c : Bool) where
   abbrev IsPointer : Option Kind → Type 0

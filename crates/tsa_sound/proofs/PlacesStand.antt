@@ -5,7 +5,7 @@ use Rattle.tsa_base.specs.declared.value.Value.TheVariants.{Int, Unsigned, Point
 use Rattle.tsa_tree.specs.declared.kind.Kind.{Kind}
 use Rattle.tsa_tree.specs.declared.kind.Kind.TheVariants as type
 use Rattle.tsa_tree.specs.declared.kind.ThingType.{ThingType}
-use Rattle.tsa_core.specs.Calls.{Layout, element_place, global_place, index_in, is_addressable, is_structure, member_place, part_guards}
+use Rattle.tsa_core.specs.Calls.{Layout, global_place, index_in, is_addressable, is_structure, member_place, part_guards}
 use Rattle.tsa_core.specs.Kinds.{Setting, by_index, element_thing, member_thing, place_type, pointer_kind_to, struct_in, target_thing, value_kind, within}
 use Rattle.tsa_core.specs.Layouts.{Part, structure_at}
 use Rattle.tsa_core.specs.Placed.{Placed}
@@ -15,7 +15,7 @@ use Rattle.tsa_core.specs.Terms.{Term, constant, variable, answer, global, membe
 use Rattle.tsa_core.specs.Uses.{guards_owned}
 use Rattle.tsa_path.specs.Values.{at_index, pointed_place}
 use Rattle.tsa_sched.specs.declared.event.TrapKind.TheVariants as trap
-use Rattle.tsa_mean.specs.Outs.{Out, bind, or_trap, reads, traps, yields}
+use Rattle.tsa_mean.specs.Outs.{bind, or_trap, reads, yields}
 use Rattle.tsa_mean.specs.Working.{Locals, local_at, lvalue, rvalue}
 use Rattle.tsa_sound.specs.LaidOut.{LaidOut, StandsAs}
 use Rattle.tsa_sound.specs.PartlyWorked.{IsOfKind, IsWorked, guard_ways, guards_in, place_way}

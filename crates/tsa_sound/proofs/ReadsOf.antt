@@ -1,5 +1,5 @@
 -- Which parts of a term a turn reads in.
-use Rattle.std.proofs.Common.{◌≡◌, ◌∙◌, ℕ, Bool, true, false, List, [], ◌∷◌, Option, Some, None, Result, Ok, Err, option_map, option_and_then, if◌then◌else◌, ◌⊎◌, inl, inr, refl, ap, sym, subst}
+use Rattle.std.proofs.Common.{◌≡◌, ℕ, Bool, true, false, Option, Some, None, Result, Ok, Err, if◌then◌else◌, ◌⊎◌, inl, inr, refl, ap}
 use Rattle.tsa_base.specs.declared.value.Value.{Value}
 use Rattle.tsa_base.specs.declared.value.Value.TheVariants.{Int, Unsigned, Pointer}
 use Rattle.tsa_tree.specs.declared.expr.BinaryOp.{BinaryOp}
@@ -13,7 +13,7 @@ use Rattle.tsa_tree.specs.types.Arithmetic.{operate, operate_prefix}
 use Rattle.tsa_path.specs.Values.{is_true, number_in, of_truth, on_pointers}
 use Rattle.tsa_sched.specs.declared.event.TrapKind.{TrapKind}
 use Rattle.tsa_sched.specs.declared.event.TrapKind.TheVariants as trap
-use Rattle.tsa_mean.specs.Operators.{converted_to, joined_with, of_result, operate_on, prefix_on, truth_of}
+use Rattle.tsa_mean.specs.Operators.{joined_with, of_result, operate_on, prefix_on, truth_of}
 use Rattle.tsa_mean.specs.Outs.{bind, or_trap, Out, reads, traps, yields}
 
 -- what reads no cell, whatever that is

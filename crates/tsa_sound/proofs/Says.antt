@@ -7,10 +7,10 @@ use Rattle.tsa_tree.specs.declared.number.Number.TheVariants as numeral
 use Rattle.tsa_tree.specs.declared.number.Trap.{Trap}
 use Rattle.tsa_tree.specs.types.Constants.{without_trap}
 use Rattle.tsa_layout.specs.declared.evaluation.Spot.{Spot}
-use Rattle.tsa_layout.specs.declared.evaluation.Spot.TheVariants.{Place, Holds}
+use Rattle.tsa_layout.specs.declared.evaluation.Spot.TheVariants.{Place}
 use Rattle.tsa_way.specs.Ways.{Way, onward}
 use Rattle.tsa_way.specs.declared.path.PathStep.{PathStep}
-use Rattle.tsa_way.specs.declared.path.PathStep.TheVariants.{Field, Constant, Variable, Follow}
+use Rattle.tsa_way.specs.declared.path.PathStep.TheVariants.{Field, Variable}
 use Rattle.tsa_core.specs.Calls.{Layout, element_place, global_place, index_in, member_place, pointee, take_root, take_step, take_steps}
 use Rattle.tsa_core.specs.Kinds.{Setting}
 use Rattle.tsa_core.specs.Meanings.{of_number}

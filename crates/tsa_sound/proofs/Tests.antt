@@ -1,10 +1,7 @@
 -- A test of a local that holds an answer goes by that answer.
-use Rattle.std.proofs.Common.{◌≡◌, ◌∙◌, ℕ, pos, negsuc, nat_eq, Bool, true, false, not, Option, Some, None, Result, Ok, Err, option_and_then, ◌⊎◌, inl, inr, if◌then◌else◌, refl, ap, sym, subst, eqb-true}
+use Rattle.std.proofs.Common.{◌≡◌, ◌∙◌, ℕ, pos, negsuc, nat_eq, Bool, true, false, Option, Some, None, Result, Ok, Err, option_and_then, if◌then◌else◌, refl, ap, sym, subst, eqb-true}
 use Rattle.tsa_base.specs.declared.value.Value.{Value}
 use Rattle.tsa_base.specs.declared.value.Value.TheVariants.{Int, Unsigned, Pointer}
-use Rattle.tsa_tree.specs.declared.expr.BinaryOp.{BinaryOp}
-use Rattle.tsa_tree.specs.declared.expr.BinaryOp.TheVariants as op
-use Rattle.tsa_tree.specs.declared.expr.UnaryOp.TheVariants as prefix
 use Rattle.tsa_tree.specs.declared.number.Number.{Number}
 use Rattle.tsa_tree.specs.declared.number.Number.TheVariants as numeral
 use Rattle.tsa_tree.specs.declared.number.Trap.{Trap}
@@ -12,16 +9,13 @@ use Rattle.tsa_tree.specs.types.Constants.{without_trap}
 use Rattle.tsa_core.specs.Calls.{Layout}
 use Rattle.tsa_core.specs.Kinds.{Setting}
 use Rattle.tsa_core.specs.Meanings.{of_number}
-use Rattle.tsa_core.specs.Terms.{Term, constant, variable, answer, global, member, element, target, load, address, converted, prefixed, joined}
-use Rattle.tsa_rules.specs.Conditions.{Condition, Subject, the_call, the_local, answer_beside, answer_by, answer_in, answer_of, condition, condition_in, constant_in, constant_result, is_constant, subject_in, yes_or_no}
-use Rattle.tsa_path.specs.Values.{is_true}
-use Rattle.tsa_mean.specs.Frames.{outcome_of}
-use Rattle.tsa_mean.specs.Operators.{operate_on}
-use Rattle.tsa_mean.specs.Outs.{Out, traps, reads, yields, bind}
-use Rattle.tsa_mean.specs.Working.{Locals, local_at, rvalue}
+use Rattle.tsa_core.specs.Terms.{Term, constant}
+use Rattle.tsa_rules.specs.Conditions.{answer_beside, answer_in, constant_result, is_constant, yes_or_no}
+use Rattle.tsa_mean.specs.Outs.{Out, traps, reads, yields}
+use Rattle.tsa_mean.specs.Working.{Locals, rvalue}
 use Rattle.tsa_sound.specs.PartlyWorked.{IsWorked}
 use Rattle.tsa_sound.specs.Settled.{answer_held}
-use Rattle.tsa_sound.proofs.Constants.{Matches, constant_as_written, constants_match, differ}
+use Rattle.tsa_sound.proofs.Constants.{Matches, constant_as_written, constants_match}
 
 -- an answer as a number
 abbrev pub number : Bool → ℕ

@@ -1,20 +1,61 @@
 -- What the laws ask of a program and its rows. All of it is so of a typed unit in the profile whose rows are kept.
-use Rattle.std.specs.Prelude.{◌≡◌, ℕ, true, false, Contains, AllPairs, List, ◌++◌, Option, Some, IsSome, All, slice_get}
+use Rattle.std.specs.Prelude.{◌≡◌, ℕ, Bool, true, false, Contains, AllPairs, List, Option, Some, None, IsSome, All, slice_get}
+use Rattle.tsa_tree.specs.declared.expr.BinaryOp.{BinaryOp}
+use Rattle.tsa_tree.specs.declared.kind.Kind.{Kind}
 use Rattle.tsa_way.specs.Ways.{Way}
-use Rattle.tsa_core.specs.Bodies.{can_have}
+use Rattle.tsa_core.specs.Bodies.{can_have, set_cell}
 use Rattle.tsa_core.specs.Control.{Outcome, next_point}
 use Rattle.tsa_core.specs.KindLaws.{signatures}
+use Rattle.tsa_core.specs.Meanings.{Call}
 use Rattle.tsa_core.specs.PointKinds.{PointHolds}
-use Rattle.tsa_core.specs.Programs.{Program}
+use Rattle.tsa_core.specs.Programs.{Function, Program}
+use Rattle.tsa_core.specs.Terms.{Term}
+use Rattle.tsa_core.specs.Uses.{Access}
 use Rattle.tsa_path.specs.Sameness.{same_way}
 use Rattle.tsa_rules.specs.Attributes.{local_kinds}
 use Rattle.tsa_rules.specs.Kept.{AreKept}
-use Rattle.tsa_rules.specs.Points.{attrs_at, edges_of, function_at, point_at, uses_at}
-use Rattle.tsa_sound.specs.FramesFit.{ProgramRows}
+use Rattle.tsa_rules.specs.Points.{attrs_at, edges_of, function_at, point_at, reads_under, uses_at, writes_under}
+use Rattle.tsa_mean.specs.Frames.{left_of, right_of}
+use Rattle.tsa_sound.specs.FramesFit.{ProgramRows, setting_behind, setting_with, stable_of}
+use Rattle.tsa_sound.specs.LaidOut.{LaidOut}
+use Rattle.tsa_sound.specs.PartlyWorked.{guard_ways}
+use Rattle.tsa_sound.specs.TermFacts.{AllFit, AllLoad, Loads, TermFits}
 
 -- a path is among those of a function, where it is one
 abbrev pub IsAmong : List Way → Option Way → Type 0
 IsAmong paths w = (c : Way) → w ≡ Some c → Contains paths c
+
+-- a guard of a read, and of a write, is a path of the function, and one of those that its uses name there
+abbrev pub ReadsUnder : List Way → List Access → Option Way → Type 0
+ReadsUnder paths accesses None = ⊥
+ReadsUnder paths accesses (Some c) = Contains paths c × (reads_under c accesses ≡ true)
+
+abbrev pub WritesUnder : List Way → List Access → Option Way → Type 0
+WritesUnder paths accesses None = ⊥
+WritesUnder paths accesses (Some c) = Contains paths c × (writes_under c accesses ≡ true)
+
+-- Of the terms at a point.
+pub record PointFacts (u : Program) (paths : List Way) (f : Function) (p : ℕ) : Type 0 where
+  -- the terms have the kinds that are wanted of them, and their parts fit
+  pub kinds : PointHolds (signatures u) u.layout (slice_get (local_kinds f)) f.result (point_at f p)
+  pub args_fit : (c : Call) → (point_at f p).call ≡ Some c → AllFit (setting_with u f None) (stable_of f.body) c.args
+  pub right_fits : TermFits (setting_behind u f (point_at f p)) (stable_of f.body) (right_of (point_at f p).action)
+  pub left_fits : (left : Term) → left_of (point_at f p).action ≡ Some left → TermFits (setting_behind u f (point_at f p)) (stable_of f.body) left
+  -- what is read before the call is told as such, and so is what is read on the way to the left side, and the left side itself
+  pub args_read : (c : Call) (b : Bool) (q : Term) → (point_at f p).call ≡ Some c → AllLoad c.args b q
+      → All (ReadsUnder paths (uses_at f p).right) (guard_ways (setting_with u f None) (stable_of f.body) q)
+  pub right_read : (b : Bool) (q : Term) → (point_at f p).call ≡ None → Loads (right_of (point_at f p).action) b q
+      → All (ReadsUnder paths (uses_at f p).right) (guard_ways (setting_behind u f (point_at f p)) (stable_of f.body) q)
+  pub left_read : (left : Term) (b : Bool) (q : Term) → left_of (point_at f p).action ≡ Some left → Loads left b q
+      → All (ReadsUnder paths (uses_at f p).left) (guard_ways (setting_behind u f (point_at f p)) (stable_of f.body) q)
+  pub old_read : (place : Term) (o : BinaryOp) (kind : Kind) (x : Term) → (point_at f p).action ≡ set_cell place (Some o) kind x
+      → All (ReadsUnder paths (uses_at f p).left) (guard_ways (setting_behind u f (point_at f p)) (stable_of f.body) place)
+  pub written : (place : Term) (o : Option BinaryOp) (kind : Kind) (x : Term) → (point_at f p).action ≡ set_cell place o kind x
+      → All (WritesUnder paths (uses_at f p).left) (guard_ways (setting_behind u f (point_at f p)) (stable_of f.body) place)
+  -- beside an answer stand constants alone
+  pub silent : (b : Bool) (q : Term) → IsSome (point_at f p).call → Loads (right_of (point_at f p).action) b q → ⊥
+  -- a point that calls goes on for each outcome
+  pub goes_on : (o : Outcome) → IsSome (point_at f p).call → can_have (point_at f p).action o ≡ true → IsSome (next_point (edges_of f) p o)
 
 -- Of a function with a body.
 pub record FunctionFacts (u : Program) (x : ProgramRows) (n : ℕ) : Type 0 where
@@ -23,12 +64,8 @@ pub record FunctionFacts (u : Program) (x : ProgramRows) (n : ℕ) : Type 0 wher
   pub once : AllPairs (λ c d. same_way c d ≡ false) (x.paths n)
   pub own : All (λ a. IsAmong (x.paths n) a.path) (function_at u n).attrs
   pub called : (p : ℕ) → All (λ a. IsAmong (x.paths n) a.path) (attrs_at u (function_at u n) p)
-  pub guarding : (p : ℕ) → All (λ a. All (IsAmong (x.paths n)) a.guards) ((uses_at (function_at u n) p).left ++ (uses_at (function_at u n) p).right)
-  -- its terms have the kinds that are wanted of them
-  pub kinds : (p : ℕ) → PointHolds (signatures u) u.layout (slice_get (local_kinds (function_at u n))) (function_at u n).result (point_at (function_at u n) p)
-  -- a point that calls goes on for each outcome
-  pub goes_on : (p : ℕ) (o : Outcome) → IsSome (point_at (function_at u n) p).call → can_have (point_at (function_at u n) p).action o ≡ true
-      → IsSome (next_point (edges_of (function_at u n)) p o)
+  pub points : (p : ℕ) → PointFacts u (x.paths n) (function_at u n) p
 
-abbrev pub ProgramFacts : Program → ProgramRows → Type 0
-ProgramFacts u x = (n : ℕ) → IsSome (function_at u n).body → FunctionFacts u x n
+pub record ProgramFacts (u : Program) (x : ProgramRows) : Type 0 where
+  pub laid : LaidOut u.layout
+  pub functions : (n : ℕ) → IsSome (function_at u n).body → FunctionFacts u x n

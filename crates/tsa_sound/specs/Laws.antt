@@ -3,7 +3,7 @@ use Rattle.std.specs.Prelude.{◌≡◌, ℕ, false, List, Option, Some, None}
 use Rattle.tsa_core.specs.Programs.{Program}
 use Rattle.tsa_sched.specs.declared.event.EventKind.TheVariants as event
 use Rattle.tsa_sched.specs.declared.pick.Pick.{Pick}
-use Rattle.tsa_mean.specs.Acts.{Act, act_of, to_branch, to_step, to_choose, to_trap}
+use Rattle.tsa_mean.specs.Acts.{Act, act_of, to_branch, to_read, to_step, to_choose, to_trap}
 use Rattle.tsa_mean.specs.Runs.{step}
 use Rattle.tsa_mean.specs.States.{Frame, State, Thread, running, trapped, ended, thread_at}
 use Rattle.tsa_sound.specs.Facts.{ProgramFacts}
@@ -46,6 +46,11 @@ WaitsGoWell = (u : Program) (x : ProgramRows) (s : State) (pick : Pick) (lock ho
 abbrev pub IsTrap : Act → Type 0
 IsTrap (to_trap kind) = Unit {0}
 IsTrap act = ⊥
+
+-- the read of a cell
+abbrev pub IsRead : Act → Type 0
+IsRead (to_read place left) = Unit {0}
+IsRead act = ⊥
 
 -- nothing but to go on
 abbrev pub IsStep : Act → Type 0

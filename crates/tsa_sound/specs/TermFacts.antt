@@ -1,5 +1,5 @@
 -- The loads of terms, and what is asked of the parts of a term.
-use Rattle.std.specs.Prelude.{◌≡◌, ◌⊎◌, ℕ, Bool, true, false, List, [], ◌∷◌, Option, Some, None, option_and_then, slice_get}
+use Rattle.std.specs.Prelude.{◌≡◌, ◌⊎◌, ℕ, Bool, true, List, [], ◌∷◌, Option, Some, None, option_and_then, slice_get}
 use Rattle.tsa_core.specs.Calls.{Layout}
 use Rattle.tsa_core.specs.Kinds.{Setting, cell_kind, place_type, struct_in}
 use Rattle.tsa_core.specs.Layouts.{Part, structure_at}

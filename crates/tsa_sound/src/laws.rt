@@ -1,5 +1,5 @@
 //! The laws of turns.
-ghost use Rattle.tsa_sound.specs.Laws.{IsBranch, IsChoice, IsStep, IsTrap, ThreadsThatDoNotRunGoWell, TurnsGoWell, WaitsGoWell};
+ghost use Rattle.tsa_sound.specs.Laws.{IsBranch, IsChoice, IsRead, IsStep, IsTrap, ThreadsThatDoNotRunGoWell, TurnsGoWell, WaitsGoWell};
 
 /// A turn of a thread that isn't there, has ended or has stopped for good keeps the invariant, and so does one that waits and one that traps; none of them is
 /// a violation.
@@ -22,4 +22,9 @@ pub fn choices_go_well()
 /// A turn that goes by a test keeps the invariant, and is no violation: where the test looks at a try variable, the outcome tells the answer that it holds.
 pub fn branches_go_well()
     ensures { TurnsGoWell IsBranch }
+{}
+
+/// A turn that reads a cell keeps the invariant, and is no violation: its thread holds all locks that guard the cell.
+pub fn reads_go_well()
+    ensures { TurnsGoWell IsRead }
 {}

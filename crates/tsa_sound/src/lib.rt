@@ -3,4 +3,4 @@
 
 mod laws;
 
-pub use laws::{branches_go_well, choices_go_well, steps_go_well, turns_that_change_nothing_go_well};
+pub use laws::{branches_go_well, choices_go_well, reads_go_well, steps_go_well, turns_that_change_nothing_go_well};
