@@ -21,3 +21,5 @@ pub mod Guards
 pub mod Held
 pub mod Loaded
 pub mod ReadLaw
+pub mod Example
+pub mod ExampleLayout

@@ -6,3 +6,4 @@ pub mod LaidOut
 pub mod TermFacts
 pub mod Facts
 pub mod Laws
+pub mod Examples
