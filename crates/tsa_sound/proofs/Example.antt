@@ -138,7 +138,7 @@ unfolding turned joins OfSet
 writing = record {
   kinds = (tt, ((record { kind = type.Int; length = None; is_const = false }, (refl, (refl, refl))), (type.Int, (refl, refl))));
   args_fit = λ c e. none_is_some e;
-  right_fits = tt;
+  right_fits = refl;
   left_fits = λ left e. subst (TermFits (setting_behind locked_write w (point_at w 1)) (stable_of w.body)) (same_some e) tt;
   args_read = λ c b q e l. none_is_some e;
   right_read = λ b q none l. absurd l;
@@ -175,7 +175,7 @@ unfolding turned joins OfSet
 beyond p = record {
   kinds = (tt, tt);
   args_fit = λ c e. none_is_some e;
-  right_fits = tt;
+  right_fits = refl;
   left_fits = λ left e. none_is_some e;
   args_read = λ c b q e l. none_is_some e;
   right_read = λ b q none l. absurd l;

@@ -23,3 +23,5 @@ pub mod Loaded
 pub mod ReadLaw
 pub mod Example
 pub mod ExampleLayout
+pub mod NumbersStay
+pub mod ValuesFit
