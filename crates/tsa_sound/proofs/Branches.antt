@@ -44,7 +44,7 @@ module _ (u : Program) (x : ProgramRows) (held : Holds) (frame : Frame) (below :
           (uncalled u (function_of u frame) frame.point c (outcome_of taken) (status_before x frame c) test.bare.none)
       ∙ ap (λ t. after_test u (function_of u frame) c (outcome_of taken) t (status_before x frame c)) (ap condition_at test.tests ∙ is)
 
-  sides : SidesFit u (function_of u frame) (point_of u frame) frame.locals test.bare.right test.bare.left
+  sides : SidesFit u (function_of u frame) (point_of u frame) frame.locals test.bare.right test.bare.left test.bare.old
   sides = subst (WorkFits u (function_of u frame) (point_of u frame) frame.locals) test.bare.is fits.work
 
   -- the answer that a local holds is the one that is meant

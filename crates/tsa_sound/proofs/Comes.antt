@@ -54,6 +54,14 @@ pub data ReadSource (u : Program) (locals : Locals) (action : Action) : Work →
   of_old : (right left : Term) (place : ℕ) (written : Term) (o : BinaryOp) (kind : Kind) (x : Term) → action ≡ set_cell written (Some o) kind x
       → lvalue u.layout locals left ≡ yields place → ReadSource u locals action (working right (Some left) None) place (λ v. working right (Some left) (Some v))
 
+-- A write is of the right side, or of what an operator makes of that and the old value.
+pub data WriteSource (u : Program) (locals : Locals) (action : Action) : Work → ℕ → Value → Type 0 where
+  of_right_side : (right left : Term) (old : Option Value) (place : ℕ) (v : Value) (written : Term) (kind : Kind) (x : Term) → action ≡ set_cell written None kind x
+      → lvalue u.layout locals left ≡ yields place → rvalue u.layout locals right ≡ yields v → WriteSource u locals action (working right (Some left) old) place v
+  of_operator : (right left : Term) (w : Value) (place : ℕ) (v z : Value) (written : Term) (o : BinaryOp) (kind : Kind) (x : Term) → action ≡ set_cell written (Some o) kind x
+      → lvalue u.layout locals left ≡ yields place → rvalue u.layout locals right ≡ yields v → stored_value kind o w v ≡ yields z
+      → WriteSource u locals action (working right (Some left) (Some w)) place z
+
 -- operators on values read nothing
 stored_reads_none : (kind : Kind) (o : BinaryOp) (old new : Value) → NoRead (stored_value kind o old new)
 stored_reads_none kind o old new p e = operate_reads_none o old new p
@@ -63,6 +71,7 @@ module _ (u : Program) (f : Function) (locals : Locals) (call : Option Call) (ac
   -- what is known of a point where an act comes from
   abbrev pub Comes : Act → Type 0
   Comes (to_read place left) = ReadSource u locals action work place left
+  Comes (to_write place v) = WriteSource u locals action work place v
   Comes to_step = IsPlain call action work
   Comes (to_choose v) = IsPlain call action work
   Comes (to_branch taken) = IsTest u locals call action work taken
@@ -71,6 +80,7 @@ module _ (u : Program) (f : Function) (locals : Locals) (call : Option Call) (ac
   -- acts of which nothing more is to be known
   abbrev IsOther : Act → Type 0
   IsOther (to_read place left) = ⊥
+  IsOther (to_write place v) = ⊥
   IsOther to_step = ⊥
   IsOther (to_choose v) = ⊥
   IsOther (to_branch taken) = ⊥
@@ -78,6 +88,7 @@ module _ (u : Program) (f : Function) (locals : Locals) (call : Option Call) (ac
 
   other : (act : Act) → IsOther act → Comes act
   other (to_read place left) is = absurd is
+  other (to_write place v) is = absurd is
   other to_step is = absurd is
   other (to_choose v) is = absurd is
   other (to_branch taken) is = absurd is
@@ -135,31 +146,35 @@ module _ (u : Program) (f : Function) (locals : Locals) where
     set_other action left n (Some o) kind v = stored_other u f locals call action (working right left old) (stored_value kind o (local_at locals n) v) (λ w. to_set n w)
         (stored_reads_none kind o (local_at locals n) v) (λ w. tt)
 
+  joined_comes : (call : Option Call) (right left written x : Term) (w : Value) (o : BinaryOp) (kind : Kind) (place : ℕ) (v : Value) → lvalue u.layout locals left ≡ yields place
+      → rvalue u.layout locals right ≡ yields v → (out : Out Value) → stored_value kind o w v ≡ out
+      → Comes u f locals call (set_cell written (Some o) kind x) (working right (Some left) (Some w)) (unless_trap out (λ z. to_write place z))
+  joined_comes call right left written x w o kind place v is value (traps why) e = tt
+  joined_comes call right left written x w o kind place v is value (reads q) e = absurd (stored_reads_none kind o w v q e)
+  joined_comes call right left written x w o kind place v is value (yields z) e = of_operator right left w place v z written o kind x refl is value e
+
   write_comes : (call : Option Call) (right left written x : Term) (old : Option Value) (o : Option BinaryOp) (kind : Kind) (place : ℕ) (v : Value) → lvalue u.layout locals left ≡ yields place
-      → Comes u f locals call (set_cell written o kind x) (working right (Some left) old) (write_act u locals right left old o kind place v)
-  write_comes call right left written x old None kind place v is = tt
-  write_comes call right left written x None (Some o) kind place v is = of_old right left place written o kind x refl is
-  write_comes call right left written x (Some w) (Some o) kind place v is =
-      other u f locals call (set_cell written (Some o) kind x) (working right (Some left) (Some w)) _
-      (stored_other u f locals call (set_cell written (Some o) kind x) (working right (Some left) (Some w)) (stored_value kind o w v) (λ x. to_write place x)
-          (stored_reads_none kind o w v) (λ x. tt))
+      → rvalue u.layout locals right ≡ yields v → Comes u f locals call (set_cell written o kind x) (working right (Some left) old) (write_act u locals right left old o kind place v)
+  write_comes call right left written x old None kind place v is value = of_right_side right left old place v written kind x refl is value
+  write_comes call right left written x None (Some o) kind place v is value = of_old right left place written o kind x refl is
+  write_comes call right left written x (Some w) (Some o) kind place v is value = joined_comes call right left written x w o kind place v is value (stored_value kind o w v) refl
 
   place_comes : (call : Option Call) (right left written x : Term) (old : Option Value) (o : Option BinaryOp) (kind : Kind) (v : Value) (out : Out ℕ) → lvalue u.layout locals left ≡ out
-      → Comes u f locals call (set_cell written o kind x) (working right (Some left) old) (place_act u locals right left old o kind v out)
-  place_comes call right left written x old o kind v (traps why) is = tt
-  place_comes call right left written x old o kind v (reads place) is = of_left right left old place is
-  place_comes call right left written x old o kind v (yields place) is = write_comes call right left written x old o kind place v is
+      → rvalue u.layout locals right ≡ yields v → Comes u f locals call (set_cell written o kind x) (working right (Some left) old) (place_act u locals right left old o kind v out)
+  place_comes call right left written x old o kind v (traps why) is value = tt
+  place_comes call right left written x old o kind v (reads place) is value = of_left right left old place is
+  place_comes call right left written x old o kind v (yields place) is value = write_comes call right left written x old o kind place v is value
 
   -- a right side that is worked out
   finish_comes : (call : Option Call) (action : Action) (right : Term) (left : Option Term) (old : Option Value) (v : Value)
-      → rvalue u.layout locals right ≡ yields v → SidesFit u f (point call action) locals right left
+      → rvalue u.layout locals right ≡ yields v → SidesFit u f (point call action) locals right left old
       → Comes u f locals call action (working right left old) (finish u locals action right left old v)
   finish_comes None (evaluate x) right left old v is fits = record { bare = bare right left old; untold = refl }
   finish_comes (Some c) (evaluate x) right left old v is fits = absurd fits.goes_on
   finish_comes call (declare n kind x) right left old v is fits = tt
   finish_comes call (set_local n o kind x) right left old v is fits =
       other u f locals call (set_local n o kind x) (working right left old) _ (set_other call right old (set_local n o kind x) left n o kind v)
-  finish_comes call (set_cell place o kind x) right (Some left) old v is fits = place_comes call right left place x old o kind v (lvalue u.layout locals left) refl
+  finish_comes call (set_cell place o kind x) right (Some left) old v is fits = place_comes call right left place x old o kind v (lvalue u.layout locals left) refl is
   finish_comes call (set_cell place o kind x) right None old v is fits = absurd fits.left_side
   finish_comes None (test x) right left old v is fits =
       record { bare = bare right left old; written = x; tests = refl; value = v; found = is; by = refl }
@@ -171,7 +186,7 @@ module _ (u : Program) (f : Function) (locals : Locals) where
   finish_comes call (give kind x) right left old v is fits = tt
 
   value_comes : (call : Option Call) (action : Action) (right : Term) (left : Option Term) (old : Option Value) (out : Out Value)
-      → rvalue u.layout locals right ≡ out → SidesFit u f (point call action) locals right left
+      → rvalue u.layout locals right ≡ out → SidesFit u f (point call action) locals right left old
       → Comes u f locals call action (working right left old) (on_value out (λ v. finish u locals action right left old v) (λ v. working (filled u.layout locals v right) left old))
   value_comes call action right left old (traps kind) is fits = tt
   value_comes call action right left old (reads place) is fits = of_right right left old place is

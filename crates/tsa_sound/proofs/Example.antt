@@ -110,6 +110,7 @@ taking = record {
   right_read = λ b q none l. absurd l;
   left_read = λ left b q e l. none_is_some e;
   old_read = λ place o kind x e. no_join (point_at w 0).action refl place o kind x e;
+  whole = λ place o kind x e. no_join (point_at w 0).action refl place o kind x e;
   written = λ place o kind x e. for_set (λ q. All (WritesUnder sheet.paths (uses_at w 0).left) (guard_ways (setting_behind locked_write w (point_at w 0)) (stable_of w.body) q))
       (point_at w 0).action tt place o kind x e;
   silent = λ b q some l. absurd l;
@@ -127,6 +128,7 @@ giving = record {
   right_read = λ b q none l. absurd l;
   left_read = λ left b q e l. none_is_some e;
   old_read = λ place o kind x e. no_join (point_at w 2).action refl place o kind x e;
+  whole = λ place o kind x e. no_join (point_at w 2).action refl place o kind x e;
   written = λ place o kind x e. for_set (λ q. All (WritesUnder sheet.paths (uses_at w 2).left) (guard_ways (setting_behind locked_write w (point_at w 2)) (stable_of w.body) q))
       (point_at w 2).action tt place o kind x e;
   silent = λ b q some l. absurd l;
@@ -144,6 +146,7 @@ writing = record {
   right_read = λ b q none l. absurd l;
   left_read = λ left b q e l. absurd (subst (λ x. Loads x b q) (sym (same_some e)) l);
   old_read = λ place o kind x e. no_join (point_at w 1).action refl place o kind x e;
+  whole = λ place o kind x e. no_join (point_at w 1).action refl place o kind x e;
   written = λ place o kind x e. for_set (λ q. All (WritesUnder sheet.paths (uses_at w 1).left) (guard_ways (setting_behind locked_write w (point_at w 1)) (stable_of w.body) q))
       (point_at w 1).action (all_more (WritesUnder sheet.paths (uses_at w 1).left) (Some (global 0)) [] (first_in (global 0) [], refl) (all_none (WritesUnder sheet.paths (uses_at w 1).left)))
       place o kind x e;
@@ -163,6 +166,7 @@ ending = record {
   right_read = λ b q none l. absurd l;
   left_read = λ left b q e l. none_is_some e;
   old_read = λ place o kind x e. no_join (point_at w 3).action refl place o kind x e;
+  whole = λ place o kind x e. no_join (point_at w 3).action refl place o kind x e;
   written = λ place o kind x e. for_set (λ q. All (WritesUnder sheet.paths (uses_at w 3).left) (guard_ways (setting_behind locked_write w (point_at w 3)) (stable_of w.body) q))
       (point_at w 3).action tt place o kind x e;
   silent = λ b q some l. no_call some;
@@ -181,6 +185,7 @@ beyond p = record {
   right_read = λ b q none l. absurd l;
   left_read = λ left b q e l. none_is_some e;
   old_read = λ place o kind x e. no_join go_on refl place o kind x e;
+  whole = λ place o kind x e. no_join go_on refl place o kind x e;
   written = λ place o kind x e. for_set (λ q. All (WritesUnder sheet.paths (uses_at w (suc (suc (suc (suc p))))).left)
       (guard_ways (setting_behind locked_write w (point_at w (suc (suc (suc (suc p)))))) (stable_of w.body) q)) go_on tt place o kind x e;
   silent = λ b q some l. no_call some;

@@ -1,7 +1,8 @@
 -- What is to be worked out at a point fits it, where nothing is worked out yet; and where nothing is called, no status changes there.
 use Rattle.std.proofs.Common.{◌≡◌, ◌∙◌, ℕ, Bool, List, [], ◌∷◌, Option, Some, None, refl, ap}
 use Rattle.tsa_way.specs.Ways.{Way}
-use Rattle.tsa_core.specs.Bodies.{Action, point}
+use Rattle.tsa_core.specs.Bodies.{Action, evaluate, set_local, set_cell, declare, test, branch, go_on, give, point}
+use Rattle.tsa_core.specs.Calls.{Layout}
 use Rattle.tsa_core.specs.Control.{Outcome, Next}
 use Rattle.tsa_core.specs.Kinds.{Setting}
 use Rattle.tsa_core.specs.Meanings.{Call}
@@ -15,7 +16,7 @@ use Rattle.tsa_rules.specs.Points.{attrs_called, function_at, point_at, uses_at}
 use Rattle.tsa_mean.specs.Frames.{first_work, left_of, right_of, work_at}
 use Rattle.tsa_mean.specs.States.{Frame}
 use Rattle.tsa_mean.specs.Working.{Locals}
-use Rattle.tsa_sound.specs.FramesFit.{IsWorkedLeft, WorkFits, setting_behind, setting_with, stable_of, status_by}
+use Rattle.tsa_sound.specs.FramesFit.{OldFits, IsWorkedLeft, WorkFits, setting_behind, setting_with, stable_of, status_by}
 use Rattle.tsa_sound.specs.PartlyWorked.{AreWorked, IsWorked}
 
 -- a term is a partly worked one of itself
@@ -42,12 +43,23 @@ module _ (k : Setting) (stable : ℕ → Bool) (locals : Locals) where
   left_self None = tt
   left_self (Some x) = worked_self x
 
+no_old : (l : Layout) (action : Action) → OldFits l action None
+no_old l (set_cell place o kind x) = tt
+no_old l (evaluate x) = tt
+no_old l (set_local n o kind x) = tt
+no_old l (declare n kind x) = tt
+no_old l (test x) = tt
+no_old l (branch x) = tt
+no_old l go_on = tt
+no_old l (give kind x) = tt
+
 -- so what is to be worked out first fits its point
 pub first_fits : (u : Program) (f : Function) (call : Option Call) (action : Action) (locals : Locals) → WorkFits u f (point call action) locals (first_work call action)
 first_fits u f None action locals = record {
   goes_on = tt;
   right_side = worked_self (setting_behind u f (point None action)) (stable_of f.body) locals (right_of action);
   left_side = left_self (setting_behind u f (point None action)) (stable_of f.body) locals (left_of action);
+  old_value = no_old u.layout action;
 }
 first_fits u f (Some c) action locals = all_worked_self (setting_with u f None) (stable_of f.body) locals c.args
 

@@ -25,3 +25,5 @@ pub mod Example
 pub mod ExampleLayout
 pub mod NumbersStay
 pub mod ValuesFit
+pub mod WriteLaw
+pub mod GoingNext

@@ -48,7 +48,7 @@ module _ (k : Setting) (stable : ℕ → Bool) where
   all_load_fits (x ∷ xs) b q fits (inr l) = all_load_fits xs b q fits.1 l
 
 -- a cell is no struct
-cell_is : (t : ThingType) (kind : Kind) → cell_kind t ≡ Some kind → (is_structure t.kind ≡ false) × (t.kind ≡ kind)
+pub cell_is : (t : ThingType) (kind : Kind) → cell_kind t ≡ Some kind → (is_structure t.kind ≡ false) × (t.kind ≡ kind)
 cell_is t kind e = by (is_some t.length) (is_structure t.kind) refl e
   where
     by : (a b : Bool) → is_structure t.kind ≡ b → if_so (not a && not b) t.kind ≡ Some kind → (is_structure t.kind ≡ false) × (t.kind ≡ kind)

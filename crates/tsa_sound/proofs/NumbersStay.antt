@@ -1,5 +1,5 @@
 -- Operators make numbers in range of numbers in range, of the kinds that are told.
-use Rattle.std.proofs.Common.{◌≡◌, ◌∙◌, ℕ, zero, suc, ◌+◌, ◌-◌, ◌/◌, ◌%◌, ◌^◌, ◌<◌, ◌≤◌, ℤ, pos, negsuc, neg_ℤ, ◌+ℤ◌, ◌-ℤ◌, ◌*ℤ◌, int_div, int_rem, int_le, int_lt, unsigned_abs, nat_lt, Bool, true, false, not, ◌&&◌, Option, Some, None, Result, Ok, Err, if◌then◌else◌, refl, ap, sym, subst, arith}
+use Rattle.std.proofs.Common.{◌≡◌, ℕ, zero, suc, ◌-◌, ◌/◌, ◌%◌, ◌^◌, ◌<◌, ◌≤◌, ℤ, pos, negsuc, neg_ℤ, ◌+ℤ◌, ◌-ℤ◌, ◌*ℤ◌, int_div, int_rem, int_le, int_lt, unsigned_abs, nat_lt, Bool, true, false, ◌&&◌, Option, Some, Result, Ok, Err, if◌then◌else◌, refl, sym, subst, arith}
 use Rattle.std.proofs.lemmas.Bool.Decides.{nat_tests}
 use Rattle.std.proofs.lemmas.Nat.{and_le_l, or_of_32, xor_of_32}
 use Rattle.tsa_tree.specs.declared.expr.BinaryOp.{BinaryOp}
@@ -11,9 +11,10 @@ use Rattle.tsa_tree.specs.declared.kind.Kind.TheVariants as type
 use Rattle.tsa_tree.specs.declared.number.Number.{Number}
 use Rattle.tsa_tree.specs.declared.number.Number.TheVariants as numeral
 use Rattle.tsa_tree.specs.declared.number.Trap.{Trap}
-use Rattle.tsa_tree.specs.declared.number.Trap.TheVariants.{Overflow, Division}
+use Rattle.tsa_tree.specs.declared.number.Trap.TheVariants.{Overflow}
 use Rattle.tsa_tree.specs.types.Arithmetic.{divided, exactly, int_of, is_int, on_int, on_unsigned, operate, operate_prefix, truth, unsigned_of}
 use Rattle.tsa_core.specs.Kinds.{binary_kind, prefix_kind}
+use Rattle.tsa_sound.specs.Facts.{IsWhole}
 use Rattle.tsa_sound.proofs.Constants.{both}
 
 -- a number in range, and its kind
@@ -87,12 +88,6 @@ left_good a b h = by (is_int (int_div a b))
     by : (t : Bool) → IsGood (Some type.Int) (if t then Ok (numeral.Int (int_rem a b)) else Err Overflow)
     by true = (refl, remainder_fits a b h)
     by false = tt
-
--- the operators that are worked out on both sides
-abbrev pub IsWhole : BinaryOp → Type 0
-IsWhole op.And = ⊥
-IsWhole op.Or = ⊥
-IsWhole o = Unit {0}
 
 ints_good : (o : BinaryOp) (a b : ℤ) → IsWhole o → is_int a ≡ true → IsGood (binary_kind o type.Int type.Int) (on_int o a b)
 ints_good op.Or a b o h = absurd o

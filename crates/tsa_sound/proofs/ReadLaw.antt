@@ -1,5 +1,5 @@
 -- Reads of cells: their guards are held, and what is left to be worked out goes on with what was read.
-use Rattle.std.proofs.Common.{◌≡◌, ◌∙◌, ℕ, Bool, List, [], ◌∷◌, Option, Some, None, ◌+◌, refl, ap, sym, subst}
+use Rattle.std.proofs.Common.{false, ◌≡◌, ◌∙◌, ℕ, Bool, List, [], ◌∷◌, Option, Some, None, ◌+◌, refl, ap, sym, subst, option_and_then}
 use Rattle.std.specs.Prelude.{All, Contains, IsSome}
 use Rattle.tsa_base.specs.declared.value.Value.{Value}
 use Rattle.tsa_layout.specs.declared.place.Guard.{Guard}
@@ -10,7 +10,7 @@ use Rattle.tsa_tree.specs.declared.kind.ThingType.{ThingType}
 use Rattle.tsa_way.specs.Ways.{Way}
 use Rattle.tsa_core.specs.Bodies.{set_cell}
 use Rattle.tsa_core.specs.Calls.{guards_of}
-use Rattle.tsa_core.specs.Kinds.{Setting, place_type}
+use Rattle.tsa_core.specs.Kinds.{Setting, cell_kind, place_type}
 use Rattle.tsa_core.specs.Meanings.{Call}
 use Rattle.tsa_core.specs.PointKinds.{ActionHolds, IsCellOf, answer_of}
 use Rattle.tsa_core.specs.KindLaws.{signatures}
@@ -31,13 +31,14 @@ use Rattle.tsa_mean.specs.Safe.{IsHeld}
 use Rattle.tsa_mean.specs.States.{Frame, Holds, State, Work, calling, working, running, holds_of, value_at}
 use Rattle.tsa_mean.specs.Working.{filled, filled_all, lvalue, rvalue, rvalues}
 use Rattle.tsa_sound.specs.Facts.{FunctionFacts, PointFacts, ReadsUnder}
-use Rattle.tsa_sound.specs.FramesFit.{ArgsFit, FrameFits, IsWorkedLeft, settled_in, ProgramRows, SidesFit, WorkFits, function_of, owned_below, paths_of, setting_with, stable_of, status_before, status_by, status_now}
+use Rattle.tsa_sound.specs.FramesFit.{OldFits, ArgsFit, FrameFits, IsWorkedLeft, settled_in, ProgramRows, SidesFit, WorkFits, function_of, owned_below, paths_of, setting_with, stable_of, status_before, status_by, status_now}
 use Rattle.tsa_sound.specs.Invariant.{LowerFit, StackFits}
 use Rattle.tsa_sound.specs.LaidOut.{LaidOut}
 use Rattle.tsa_sound.specs.Laws.{IsRead, TurnsGoWell}
-use Rattle.tsa_sound.specs.PartlyWorked.{IsWorked, guard_ways}
+use Rattle.tsa_sound.specs.PartlyWorked.{IsOfKind, IsWorked, guard_ways}
 use Rattle.tsa_sound.specs.Settled.{holds_for}
 use Rattle.tsa_sound.specs.TermFacts.{AllLoad, LoadFits, Loads, TermFits}
+use Rattle.tsa_sound.proofs.Constants.{differ}
 use Rattle.tsa_sound.proofs.Comes.{ReadSource, of_args, of_left, of_old, of_right}
 use Rattle.tsa_sound.proofs.Fresh.{later_uncalled}
 use Rattle.tsa_sound.proofs.Going.{comes_from}
@@ -101,7 +102,7 @@ module _ (u : Program) (x : ProgramRows) (held : Holds) (frame : Frame) (below :
           (subst status.IsHeld (sym (now c)) ((reading c under.0).before_call under.1))
 
   -- reads of the left side
-  guarded_behind : (right : Term) (left : Option Term) (old : Option Value) → frame.work ≡ working right left old → (ways : List (Option Way))
+  pub guarded_behind : (right : Term) (left : Option Term) (old : Option Value) → frame.work ≡ working right left old → (ways : List (Option Way))
       → All (ReadsUnder (paths_of x frame) (uses_at (function_of u frame) frame.point).left) ways → Guarded ways
   guarded_behind right left old is ways under = all_alike (ReadsUnder (paths_of x frame) (uses_at (function_of u frame) frame.point).left) (GuardHolds u.layout frame.locals (IsHeldBy held)) each ways under
     where
@@ -161,7 +162,7 @@ module _ (u : Program) (x : ProgramRows) (held : Holds) (frame : Frame) (below :
           same = λ d r. ap (λ work. status_by u frame work d r) (sym is);
         }
 
-    module _ (right : Term) (left : Option Term) (old : Option Value) (is : frame.work ≡ working right left old) (sides : SidesFit u (function_of u frame) (point_of u frame) frame.locals right left) where
+    module _ (right : Term) (left : Option Term) (old : Option Value) (is : frame.work ≡ working right left old) (sides : SidesFit u (function_of u frame) (point_of u frame) frame.locals right left old) where
       abbrev answered : Option Kind
       answered = answer_of (signatures u) (point_of u frame).call
 
@@ -189,12 +190,13 @@ module _ (u : Program) (x : ProgramRows) (held : Holds) (frame : Frame) (below :
           right_side = next.value_filled (setting_with u (function_of u frame) answered) (stable_of (function_of u frame).body) frame.locals p (value_at s p) (right_of (point_of u frame).action) right
               sides.right_side e (right_said p);
           left_side = sides.left_side;
+          old_value = sides.old_value;
         };
         same = λ d r. ap (λ work. status_by u frame work d r) (sym is);
       }
 
     module _ (right now : Term) (old : Option Value) (is : frame.work ≡ working right (Some now) old)
-        (sides : SidesFit u (function_of u frame) (point_of u frame) frame.locals right (Some now)) where
+        (sides : SidesFit u (function_of u frame) (point_of u frame) frame.locals right (Some now) old) where
       abbrev given : Option Kind
       given = answer_of (signatures u) (point_of u frame).call
 
@@ -216,6 +218,7 @@ module _ (u : Program) (x : ProgramRows) (held : Holds) (frame : Frame) (below :
                       (Some (filled u.layout frame.locals (value_at s p) now))) (sym there)
                   (next.place_filled (setting_with u (function_of u frame) given) (stable_of (function_of u frame).body) frame.locals p (value_at s p) written now fit e
                       (said given (Loads written) p (λ b q l. load_fits (setting_with u (function_of u frame) given) (stable_of (function_of u frame).body) written b q (points.left_fits written there) l)));
+              old_value = sides.old_value;
             };
             same = λ d r. ap (λ work. status_by u frame work d r) (sym is);
           }
@@ -231,7 +234,16 @@ module _ (u : Program) (x : ProgramRows) (held : Holds) (frame : Frame) (below :
             safe = safe_at given written now cell.0 p (points.left_fits written (ap left_of action)) worked cell.1.0 e
                 (guarded_behind right (Some now) old is (guard_ways (setting_with u (function_of u frame) given) (stable_of (function_of u frame).body) written)
                     (points.old_read written o kind y action));
-            fit = record { goes_on = sides.goes_on; right_side = sides.right_side; left_side = sides.left_side };
+            fit = record {
+              goes_on = sides.goes_on;
+              right_side = sides.right_side;
+              left_side = sides.left_side;
+              old_value = subst (λ a. OldFits u.layout a (Some (value_at s p))) (sym action)
+                  (subst (λ o. IsOfKind u.layout o (value_at s p)) (ap (option_and_then cell_kind) cell.1.0 ∙ cell.1.1.0)
+                      (fits_load (setting_with u (function_of u frame) given) (stable_of (function_of u frame).body) frame.locals laid fits.top.typed (value_at s) well constants written now p false
+                          (record { thing = cell.0; type_is = cell.1.0; kind = kind; kind_is = cell.1.1.0; stable = λ e. differ e })
+                          (points.left_fits written (ap left_of action)) worked e).0);
+            };
             same = λ d r. ap (λ work. status_by u frame work d r) (sym is);
           }
 

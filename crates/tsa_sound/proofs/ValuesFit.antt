@@ -1,5 +1,5 @@
 -- What is worked out has the kind that is told of its term.
-use Rattle.std.proofs.Common.{◌≡◌, ◌∙◌, ℕ, nat_eq, Bool, true, false, not, ◌&&◌, ◌||◌, Option, Some, None, Result, Ok, Err, option_and_then, if◌then◌else◌, refl, ap, sym, subst, eqb-true}
+use Rattle.std.proofs.Common.{◌≡◌, ◌∙◌, ℕ, Bool, true, false, not, ◌&&◌, Option, Some, None, Result, Ok, Err, if◌then◌else◌, refl, ap, sym, subst}
 use Rattle.tsa_base.specs.declared.value.Value.{Value}
 use Rattle.tsa_base.specs.declared.value.Value.TheVariants.{Int, Unsigned, Pointer}
 use Rattle.tsa_tree.specs.declared.expr.BinaryOp.{BinaryOp}
@@ -12,7 +12,7 @@ use Rattle.tsa_tree.specs.declared.number.Number.{Number}
 use Rattle.tsa_tree.specs.declared.number.Number.TheVariants as numeral
 use Rattle.tsa_tree.specs.declared.number.Trap.{Trap}
 use Rattle.tsa_tree.specs.declared.number.Trap.TheVariants.{Overflow, Division}
-use Rattle.tsa_tree.specs.types.Arithmetic.{operate, operate_prefix, truth}
+use Rattle.tsa_tree.specs.types.Arithmetic.{operate, operate_prefix}
 use Rattle.tsa_tree.specs.types.Operands.{integer_kind}
 use Rattle.tsa_core.specs.Calls.{Layout}
 use Rattle.tsa_core.specs.Items as cell
@@ -23,13 +23,14 @@ use Rattle.tsa_core.specs.Terms.{Term, constant, variable, answer, global, membe
 use Rattle.tsa_path.specs.Values.{in_kind, is_true, number_in, of_truth, on_pointers}
 use Rattle.tsa_sched.specs.declared.event.TrapKind.TheVariants as trap
 use Rattle.tsa_mean.specs.Operators.{as_number, converted_to, joined_with, of_result, operate_on, prefix_on, truth_of}
-use Rattle.tsa_mean.specs.Outs.{Out, bind, or_trap, reads, traps, yields}
+use Rattle.tsa_mean.specs.Outs.{Out, bind, or_trap, reads, yields}
 use Rattle.tsa_mean.specs.Working.{Locals, local_at, lvalue, rvalue}
+use Rattle.tsa_sound.specs.Facts.{IsWhole}
 use Rattle.tsa_sound.specs.LaidOut.{LaidOut}
 use Rattle.tsa_sound.specs.PartlyWorked.{IsOfKind, IsWorked}
 use Rattle.tsa_sound.specs.TermFacts.{TermFits}
-use Rattle.tsa_sound.proofs.Constants.{both, differ}
-use Rattle.tsa_sound.proofs.NumbersStay.{IsGood, IsWhole, NumberFits, int_fits, kind_of, operated_good, prefix_good, truth_fits, unsigned_fits}
+use Rattle.tsa_sound.proofs.Constants.{differ}
+use Rattle.tsa_sound.proofs.NumbersStay.{IsGood, NumberFits, int_fits, kind_of, operated_good, prefix_good, truth_fits, unsigned_fits}
 use Rattle.tsa_sound.proofs.PlacesStand.{chained, mapped, pointer_fits}
 use Rattle.tsa_sound.proofs.Says.{bound, found_some}
 use Rattle.tsa_sound.proofs.Tests.{never_yields, none_is_some, read_yields, same_some, same_yields}
@@ -148,7 +149,7 @@ module _ (l : Layout) where
   pointers_have op.Unequal a b kind p q z is e = truth_as _ kind _ z is e
   pointers_have o a b kind p q z is e = never_yields e
 
-  operation_has : (o : BinaryOp) → IsWhole o → (a b kind : Kind) (v w z : Value) → HasKind l a v → HasKind l b w → binary_kind o a b ≡ Some kind
+  pub operation_has : (o : BinaryOp) → IsWhole o → (a b kind : Kind) (v w z : Value) → HasKind l a v → HasKind l b w → binary_kind o a b ≡ Some kind
       → operate_on o v w ≡ yields z → HasKind l kind z
   operation_has o whole a b kind (Pointer p) (Pointer q) z hv hw is e = pointers_have o a b kind p q z is e
   operation_has o whole a b kind (Int m) w z hv hw is e = operated o whole a b kind (Int m) w z hv hw is e
@@ -168,7 +169,7 @@ module _ (l : Layout) where
   joined_has o a b kind v z right hv hw is e = second_has o tt a b kind v z right hv hw is e
 
   -- a number that is converted
-  conversion_has : (to a kind : Kind) (v z : Value) → HasKind l a v → conversion_kind to a ≡ Some kind → converted_to to v ≡ yields z → HasKind l kind z
+  pub conversion_has : (to a kind : Kind) (v z : Value) → HasKind l a v → conversion_kind to a ≡ Some kind → converted_to to v ≡ yields z → HasKind l kind z
   conversion_has to a kind v z h is e =
       let found = mapped (cell.converted to) (number_in v) z (found_some trap.NullPointer (in_kind to v) z e) in
       let n = number_of a v h found.0 found.1 in

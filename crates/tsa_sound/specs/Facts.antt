@@ -1,6 +1,7 @@
 -- What the laws ask of a program and its rows. All of it is so of a typed unit in the profile whose rows are kept.
 use Rattle.std.specs.Prelude.{◌≡◌, ℕ, Bool, true, false, Contains, AllPairs, List, Option, Some, None, IsSome, All, slice_get}
 use Rattle.tsa_tree.specs.declared.expr.BinaryOp.{BinaryOp}
+use Rattle.tsa_tree.specs.declared.expr.BinaryOp.TheVariants as op
 use Rattle.tsa_tree.specs.declared.kind.Kind.{Kind}
 use Rattle.tsa_way.specs.Ways.{Way}
 use Rattle.tsa_core.specs.Bodies.{can_have, set_cell}
@@ -34,6 +35,12 @@ abbrev pub WritesUnder : List Way → List Access → Option Way → Type 0
 WritesUnder paths accesses None = ⊥
 WritesUnder paths accesses (Some c) = Contains paths c × (writes_under c accesses ≡ true)
 
+-- an operator that is worked out on both sides, whatever the first is
+abbrev pub IsWhole : BinaryOp → Type 0
+IsWhole op.And = ⊥
+IsWhole op.Or = ⊥
+IsWhole o = Unit {0}
+
 -- Of the terms at a point.
 pub record PointFacts (u : Program) (paths : List Way) (f : Function) (p : ℕ) : Type 0 where
   -- the terms have the kinds that are wanted of them, and their parts fit
@@ -50,6 +57,8 @@ pub record PointFacts (u : Program) (paths : List Way) (f : Function) (p : ℕ) 
       → All (ReadsUnder paths (uses_at f p).left) (guard_ways (setting_behind u f (point_at f p)) (stable_of f.body) q)
   pub old_read : (place : Term) (o : BinaryOp) (kind : Kind) (x : Term) → (point_at f p).action ≡ set_cell place (Some o) kind x
       → All (ReadsUnder paths (uses_at f p).left) (guard_ways (setting_behind u f (point_at f p)) (stable_of f.body) place)
+  -- no assignment joins its old value by `&&` or `||`
+  pub whole : (place : Term) (o : BinaryOp) (kind : Kind) (x : Term) → (point_at f p).action ≡ set_cell place (Some o) kind x → IsWhole o
   pub written : (place : Term) (o : Option BinaryOp) (kind : Kind) (x : Term) → (point_at f p).action ≡ set_cell place o kind x
       → All (WritesUnder paths (uses_at f p).left) (guard_ways (setting_behind u f (point_at f p)) (stable_of f.body) place)
   -- beside an answer stand constants alone

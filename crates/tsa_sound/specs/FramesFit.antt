@@ -5,6 +5,8 @@ use Rattle.tsa_tree.specs.declared.attr.AttrKind.TheVariants as attr
 use Rattle.tsa_tree.specs.declared.kind.Kind.{Kind}
 use Rattle.tsa_way.specs.LockPaths.{stable_in}
 use Rattle.tsa_way.specs.Ways.{Way}
+use Rattle.tsa_base.specs.declared.value.Value.{Value}
+use Rattle.tsa_core.specs.Calls.{Layout}
 use Rattle.tsa_core.specs.Bodies.{Action, set_local, set_cell, give, Body, Point}
 use Rattle.tsa_core.specs.Kinds.{Setting}
 use Rattle.tsa_core.specs.KindLaws.{signatures}
@@ -146,12 +148,18 @@ abbrev pub ArgsFit : Program → Function → Locals → Option Call → List Te
 ArgsFit u f locals None args = ⊥
 ArgsFit u f locals (Some c) args = AreWorked (setting_with u f None) (stable_of f.body) locals c.args args
 
-pub record SidesFit (u : Program) (f : Function) (p : Point) (locals : Locals) (right : Term) (left : Option Term) : Type 0 where
+-- an old value that an operator needs is of its cell's kind
+abbrev pub OldFits : Layout → Action → Option Value → Type 0
+OldFits l (set_cell place o kind right) (Some v) = is_value_of l kind v ≡ true
+OldFits l action old = Unit {0}
+
+pub record SidesFit (u : Program) (f : Function) (p : Point) (locals : Locals) (right : Term) (left : Option Term) (old : Option Value) : Type 0 where
   pub goes_on : GoesOnBehind p.call p.action
   pub right_side : IsWorked (setting_behind u f p) (stable_of f.body) locals (right_of p.action) right
   pub left_side : IsWorkedLeft (setting_behind u f p) (stable_of f.body) locals (left_of p.action) left
+  pub old_value : OldFits u.layout p.action old
 
 -- What is left to be worked out is what stands at the point, partly worked out.
 abbrev pub WorkFits : Program → Function → Point → Locals → Work → Type 0
 WorkFits u f p locals (calling args) = ArgsFit u f locals p.call args
-WorkFits u f p locals (working right left old) = SidesFit u f p locals right left
+WorkFits u f p locals (working right left old) = SidesFit u f p locals right left old

@@ -1,6 +1,6 @@
 //! The laws of turns.
 ghost use Rattle.tsa_sound.specs.Examples.{ALockedWriteMeetsTheFacts};
-ghost use Rattle.tsa_sound.specs.Laws.{IsBranch, IsChoice, IsRead, IsStep, IsTrap, ThreadsThatDoNotRunGoWell, TurnsGoWell, WaitsGoWell};
+ghost use Rattle.tsa_sound.specs.Laws.{IsBranch, IsChoice, IsRead, IsStep, IsTrap, IsWrite, ThreadsThatDoNotRunGoWell, TurnsGoWell, WaitsGoWell};
 
 /// A turn of a thread that isn't there, has ended or has stopped for good keeps the invariant, and so does one that waits and one that traps; none of them is
 /// a violation.
@@ -33,4 +33,9 @@ pub fn reads_go_well()
 /// A unit that takes a lock, writes what is under it and gives the lock back meets all that the laws of turns ask of a program.
 pub fn a_locked_write_meets_the_facts()
     ensures { ALockedWriteMeetsTheFacts }
+{}
+
+/// A turn that writes a cell keeps the invariant, and is no violation: its thread holds alone all locks that guard the cell.
+pub fn writes_go_well()
+    ensures { TurnsGoWell IsWrite }
 {}
