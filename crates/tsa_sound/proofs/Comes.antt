@@ -62,6 +62,15 @@ pub data WriteSource (u : Program) (locals : Locals) (action : Action) : Work �
       → lvalue u.layout locals left ≡ yields place → rvalue u.layout locals right ≡ yields v → stored_value kind o w v ≡ yields z
       → WriteSource u locals action (working right (Some left) (Some w)) place z
 
+-- A local is declared, assigned, or joined with another value by an operator.
+pub data SetSource (u : Program) (locals : Locals) (call : Option Call) (action : Action) : Work → ℕ → Value → Type 0 where
+  of_declared : (right : Term) (left : Option Term) (old : Option Value) (n : ℕ) (v : Value) (kind : Kind) (x : Term) → call ≡ None → action ≡ declare n kind x
+      → rvalue u.layout locals right ≡ yields v → SetSource u locals call action (working right left old) n v
+  of_assigned : (right : Term) (left : Option Term) (old : Option Value) (n : ℕ) (v : Value) (kind : Kind) (x : Term) → action ≡ set_local n None kind x
+      → rvalue u.layout locals right ≡ yields v → SetSource u locals call action (working right left old) n v
+  of_joined : (right : Term) (left : Option Term) (old : Option Value) (n : ℕ) (v z : Value) (o : BinaryOp) (kind : Kind) (x : Term) → action ≡ set_local n (Some o) kind x
+      → rvalue u.layout locals right ≡ yields v → stored_value kind o (local_at locals n) v ≡ yields z → SetSource u locals call action (working right left old) n z
+
 -- operators on values read nothing
 stored_reads_none : (kind : Kind) (o : BinaryOp) (old new : Value) → NoRead (stored_value kind o old new)
 stored_reads_none kind o old new p e = operate_reads_none o old new p
@@ -72,6 +81,7 @@ module _ (u : Program) (f : Function) (locals : Locals) (call : Option Call) (ac
   abbrev pub Comes : Act → Type 0
   Comes (to_read place left) = ReadSource u locals action work place left
   Comes (to_write place v) = WriteSource u locals action work place v
+  Comes (to_set n v) = SetSource u locals call action work n v
   Comes to_step = IsPlain call action work
   Comes (to_choose v) = IsPlain call action work
   Comes (to_branch taken) = IsTest u locals call action work taken
@@ -81,6 +91,7 @@ module _ (u : Program) (f : Function) (locals : Locals) (call : Option Call) (ac
   abbrev IsOther : Act → Type 0
   IsOther (to_read place left) = ⊥
   IsOther (to_write place v) = ⊥
+  IsOther (to_set n v) = ⊥
   IsOther to_step = ⊥
   IsOther (to_choose v) = ⊥
   IsOther (to_branch taken) = ⊥
@@ -89,6 +100,7 @@ module _ (u : Program) (f : Function) (locals : Locals) (call : Option Call) (ac
   other : (act : Act) → IsOther act → Comes act
   other (to_read place left) is = absurd is
   other (to_write place v) is = absurd is
+  other (to_set n v) is = absurd is
   other to_step is = absurd is
   other (to_choose v) is = absurd is
   other (to_branch taken) is = absurd is
@@ -120,13 +132,6 @@ module _ (u : Program) (f : Function) (locals : Locals) (call : Option Call) (ac
       by true = tt
       by false = outside_other n g.result args (find (λ a. changes_lock a.kind) g.attrs)
 
--- an operator's value is written or set, or traps
-stored_other : (u : Program) (f : Function) (locals : Locals) (call : Option Call) (action : Action) (work : Work) (out : Out Value) (act : Value → Act) → NoRead out
-    → ((v : Value) → IsOther u f locals call action work (act v)) → IsOther u f locals call action work (unless_trap out act)
-stored_other u f locals call action work (traps kind) act none is = tt
-stored_other u f locals call action work (reads place) act none is = absurd (none place refl)
-stored_other u f locals call action work (yields v) act none is = is v
-
 module _ (u : Program) (f : Function) (locals : Locals) where
   args_come : (call : Option Call) (action : Action) (args : List Term) (out : Out (List Value)) → rvalues u.layout locals args ≡ out → ArgsFit u f locals call args
       → Comes u f locals call action (calling args) (args_act u locals call args out)
@@ -139,12 +144,17 @@ module _ (u : Program) (f : Function) (locals : Locals) where
   abbrev bare : (right : Term) (left : Option Term) (old : Option Value) → IsBare None (working right left old)
   bare right left old = record { none = refl; right = right; left = left; old = old; is = refl }
 
-  module _ (call : Option Call) (right : Term) (old : Option Value) where
-    set_other : (action : Action) (left : Option Term) (n : ℕ) (o : Option BinaryOp) (kind : Kind) (v : Value)
-        → IsOther u f locals call action (working right left old) (set_act u locals n o kind v)
-    set_other action left n None kind v = tt
-    set_other action left n (Some o) kind v = stored_other u f locals call action (working right left old) (stored_value kind o (local_at locals n) v) (λ w. to_set n w)
-        (stored_reads_none kind o (local_at locals n) v) (λ w. tt)
+  local_comes : (call : Option Call) (right : Term) (left : Option Term) (old : Option Value) (n : ℕ) (o : BinaryOp) (kind : Kind) (x : Term) (v : Value)
+      → rvalue u.layout locals right ≡ yields v → (out : Out Value) → stored_value kind o (local_at locals n) v ≡ out
+      → Comes u f locals call (set_local n (Some o) kind x) (working right left old) (unless_trap out (λ w. to_set n w))
+  local_comes call right left old n o kind x v value (traps why) e = tt
+  local_comes call right left old n o kind x v value (reads q) e = absurd (stored_reads_none kind o (local_at locals n) v q e)
+  local_comes call right left old n o kind x v value (yields z) e = of_joined right left old n v z o kind x refl value e
+
+  set_comes : (call : Option Call) (right : Term) (left : Option Term) (old : Option Value) (n : ℕ) (o : Option BinaryOp) (kind : Kind) (x : Term) (v : Value)
+      → rvalue u.layout locals right ≡ yields v → Comes u f locals call (set_local n o kind x) (working right left old) (set_act u locals n o kind v)
+  set_comes call right left old n None kind x v value = of_assigned right left old n v kind x refl value
+  set_comes call right left old n (Some o) kind x v value = local_comes call right left old n o kind x v value (stored_value kind o (local_at locals n) v) refl
 
   joined_comes : (call : Option Call) (right left written x : Term) (w : Value) (o : BinaryOp) (kind : Kind) (place : ℕ) (v : Value) → lvalue u.layout locals left ≡ yields place
       → rvalue u.layout locals right ≡ yields v → (out : Out Value) → stored_value kind o w v ≡ out
@@ -171,9 +181,9 @@ module _ (u : Program) (f : Function) (locals : Locals) where
       → Comes u f locals call action (working right left old) (finish u locals action right left old v)
   finish_comes None (evaluate x) right left old v is fits = record { bare = bare right left old; untold = refl }
   finish_comes (Some c) (evaluate x) right left old v is fits = absurd fits.goes_on
-  finish_comes call (declare n kind x) right left old v is fits = tt
-  finish_comes call (set_local n o kind x) right left old v is fits =
-      other u f locals call (set_local n o kind x) (working right left old) _ (set_other call right old (set_local n o kind x) left n o kind v)
+  finish_comes None (declare n kind x) right left old v is fits = of_declared right left old n v kind x refl refl is
+  finish_comes (Some c) (declare n kind x) right left old v is fits = absurd fits.goes_on
+  finish_comes call (set_local n o kind x) right left old v is fits = set_comes call right left old n o kind x v is
   finish_comes call (set_cell place o kind x) right (Some left) old v is fits = place_comes call right left place x old o kind v (lvalue u.layout locals left) refl is
   finish_comes call (set_cell place o kind x) right None old v is fits = absurd fits.left_side
   finish_comes None (test x) right left old v is fits =

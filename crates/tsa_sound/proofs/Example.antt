@@ -7,7 +7,7 @@ use Rattle.tsa_tree.specs.declared.expr.BinaryOp.{BinaryOp}
 use Rattle.tsa_tree.specs.declared.kind.Kind.{Kind}
 use Rattle.tsa_tree.specs.declared.kind.Kind.TheVariants as type
 use Rattle.tsa_way.specs.Ways.{Way}
-use Rattle.tsa_core.specs.Bodies.{Action, Body, evaluate, set_cell, go_on, can_have}
+use Rattle.tsa_core.specs.Bodies.{Action, Body, set_local, evaluate, set_cell, go_on, can_have}
 use Rattle.tsa_core.specs.Control.{Edge, Outcome, Next, Yes, No, Rest, Chosen, next_point}
 use Rattle.tsa_core.specs.Meanings.{Call}
 use Rattle.tsa_core.specs.Programs.{Attr, Function}
@@ -52,6 +52,15 @@ OfSet P action = Unit {0}
 for_set : (P : Term → Type 0) (action : Action) → OfSet P action → (place : Term) (o : Option BinaryOp) (kind : Kind) (x : Term) → action ≡ set_cell place o kind x → P place
 unfolding OfSet
 for_set P action h place o kind x e = subst (OfSet P) e h
+
+-- the local that an action assigns, with an operator or without
+assigns : Action → Option ℕ
+assigns (set_local n o kind x) = Some n
+assigns action = None
+
+no_assign : {A : Type 0} (action : Action) → assigns action ≡ None → (n : ℕ) (o : Option BinaryOp) (kind : Kind) (x : Term) → action ≡ set_local n o kind x → A
+unfolding assigns
+no_assign action is n o kind x e = none_is_some (sym is ∙ ap assigns e)
 
 -- whether an action sets a cell with an operator
 joins : Action → Bool
@@ -100,7 +109,7 @@ unfolding turned OfCall
 giving_is_silent = (((refl, tt), tt), λ b q l. nothing_loaded l)
 
 taking : PointFacts locked_write sheet.paths w 0
-unfolding turned joins OfSet
+unfolding turned joins assigns OfSet
 taking = record {
   kinds = ((type.Pointer 0 false ∷ [], (refl, ((type.Pointer 0 false, (refl, refl)), tt))), refl);
   args_fit = λ c e. (silent_args 0 taking_is_silent c e).0;
@@ -111,6 +120,10 @@ taking = record {
   left_read = λ left b q e l. none_is_some e;
   old_read = λ place o kind x e. no_join (point_at w 0).action refl place o kind x e;
   whole = λ place o kind x e. no_join (point_at w 0).action refl place o kind x e;
+  whole_local = λ n o kind x e. no_assign (point_at w 0).action refl n (Some o) kind x e;
+  assigned = λ n o kind x c e i. no_assign (point_at w 0).action refl n o kind x e;
+  attributes = λ n e. none_is_some e;
+  tries = λ n w m e i. none_is_some e;
   written = λ place o kind x e. for_set (λ q. All (WritesUnder sheet.paths (uses_at w 0).left) (guard_ways (setting_behind locked_write w (point_at w 0)) (stable_of w.body) q))
       (point_at w 0).action tt place o kind x e;
   silent = λ b q some l. absurd l;
@@ -118,7 +131,7 @@ taking = record {
 }
 
 giving : PointFacts locked_write sheet.paths w 2
-unfolding turned joins OfSet
+unfolding turned joins assigns OfSet
 giving = record {
   kinds = ((type.Pointer 0 false ∷ [], (refl, ((type.Pointer 0 false, (refl, refl)), tt))), refl);
   args_fit = λ c e. (silent_args 2 giving_is_silent c e).0;
@@ -129,6 +142,10 @@ giving = record {
   left_read = λ left b q e l. none_is_some e;
   old_read = λ place o kind x e. no_join (point_at w 2).action refl place o kind x e;
   whole = λ place o kind x e. no_join (point_at w 2).action refl place o kind x e;
+  whole_local = λ n o kind x e. no_assign (point_at w 2).action refl n (Some o) kind x e;
+  assigned = λ n o kind x c e i. no_assign (point_at w 2).action refl n o kind x e;
+  attributes = λ n e. none_is_some e;
+  tries = λ n w m e i. none_is_some e;
   written = λ place o kind x e. for_set (λ q. All (WritesUnder sheet.paths (uses_at w 2).left) (guard_ways (setting_behind locked_write w (point_at w 2)) (stable_of w.body) q))
       (point_at w 2).action tt place o kind x e;
   silent = λ b q some l. absurd l;
@@ -136,7 +153,7 @@ giving = record {
 }
 
 writing : PointFacts locked_write sheet.paths w 1
-unfolding turned joins OfSet
+unfolding turned joins assigns OfSet
 writing = record {
   kinds = (tt, ((record { kind = type.Int; length = None; is_const = false }, (refl, (refl, refl))), (type.Int, (refl, refl))));
   args_fit = λ c e. none_is_some e;
@@ -147,6 +164,10 @@ writing = record {
   left_read = λ left b q e l. absurd (subst (λ x. Loads x b q) (sym (same_some e)) l);
   old_read = λ place o kind x e. no_join (point_at w 1).action refl place o kind x e;
   whole = λ place o kind x e. no_join (point_at w 1).action refl place o kind x e;
+  whole_local = λ n o kind x e. no_assign (point_at w 1).action refl n (Some o) kind x e;
+  assigned = λ n o kind x c e i. no_assign (point_at w 1).action refl n o kind x e;
+  attributes = λ n e. none_is_some e;
+  tries = λ n w m e i. none_is_some e;
   written = λ place o kind x e. for_set (λ q. All (WritesUnder sheet.paths (uses_at w 1).left) (guard_ways (setting_behind locked_write w (point_at w 1)) (stable_of w.body) q))
       (point_at w 1).action (all_more (WritesUnder sheet.paths (uses_at w 1).left) (Some (global 0)) [] (first_in (global 0) [], refl) (all_none (WritesUnder sheet.paths (uses_at w 1).left)))
       place o kind x e;
@@ -156,7 +177,7 @@ writing = record {
 
 -- the end
 ending : PointFacts locked_write sheet.paths w 3
-unfolding turned joins OfSet
+unfolding turned joins assigns OfSet
 ending = record {
   kinds = (tt, (refl, λ e. differ e));
   args_fit = λ c e. none_is_some e;
@@ -167,6 +188,10 @@ ending = record {
   left_read = λ left b q e l. none_is_some e;
   old_read = λ place o kind x e. no_join (point_at w 3).action refl place o kind x e;
   whole = λ place o kind x e. no_join (point_at w 3).action refl place o kind x e;
+  whole_local = λ n o kind x e. no_assign (point_at w 3).action refl n (Some o) kind x e;
+  assigned = λ n o kind x c e i. no_assign (point_at w 3).action refl n o kind x e;
+  attributes = λ n e. none_is_some e;
+  tries = λ n w m e i. none_is_some e;
   written = λ place o kind x e. for_set (λ q. All (WritesUnder sheet.paths (uses_at w 3).left) (guard_ways (setting_behind locked_write w (point_at w 3)) (stable_of w.body) q))
       (point_at w 3).action tt place o kind x e;
   silent = λ b q some l. no_call some;
@@ -175,7 +200,7 @@ ending = record {
 
 -- behind the end nothing stands
 beyond : (p : ℕ) → PointFacts locked_write sheet.paths w (suc (suc (suc (suc p))))
-unfolding turned joins OfSet
+unfolding turned joins assigns OfSet
 beyond p = record {
   kinds = (tt, tt);
   args_fit = λ c e. none_is_some e;
@@ -186,6 +211,10 @@ beyond p = record {
   left_read = λ left b q e l. none_is_some e;
   old_read = λ place o kind x e. no_join go_on refl place o kind x e;
   whole = λ place o kind x e. no_join go_on refl place o kind x e;
+  whole_local = λ n o kind x e. no_assign go_on refl n (Some o) kind x e;
+  assigned = λ n o kind x c e i. no_assign go_on refl n o kind x e;
+  attributes = λ n e. none_is_some e;
+  tries = λ n w m e i. none_is_some e;
   written = λ place o kind x e. for_set (λ q. All (WritesUnder sheet.paths (uses_at w (suc (suc (suc (suc p))))).left)
       (guard_ways (setting_behind locked_write w (point_at w (suc (suc (suc (suc p)))))) (stable_of w.body) q)) go_on tt place o kind x e;
   silent = λ b q some l. no_call some;

@@ -27,3 +27,5 @@ pub mod NumbersStay
 pub mod ValuesFit
 pub mod WriteLaw
 pub mod GoingNext
+pub mod LocalsSet
+pub mod SetLaw

@@ -86,7 +86,7 @@ points_too m n c d (Some p) same may e =
     join (is_addressable p) (is_of n p.kind && (d || not p.is_const)) outer.0
     (join (is_of n p.kind) (d || not p.is_const) (subst (λ n. is_of n p.kind ≡ true) same inner.0) (allowed c d p.is_const may inner.1))
 
-served : (l : Layout) (given wanted : Kind) (v old : Value) → serves given wanted ≡ true → HasKind l given v → is_value_of l wanted old ≡ true → is_value_of l wanted v ≡ true
+pub served : (l : Layout) (given wanted : Kind) (v old : Value) → serves given wanted ≡ true → HasKind l given v → is_value_of l wanted old ≡ true → is_value_of l wanted v ≡ true
 served l type.Int type.Int v old e h w = h
 served l type.Unsigned type.Unsigned v old e h w = h
 served l type.Null type.Null v old e h w = differ w
@@ -98,7 +98,7 @@ served l (type.Pointer m c) (type.Pointer n d) (Int z) old e h w = differ h
 served l (type.Pointer m c) (type.Pointer n d) (Unsigned z) old e h w = differ h
 served l given wanted v old e h w = differ e
 
-integer_value : (l : Layout) (kind : Kind) (v : Value) → integer_kind kind ≡ true → HasKind l kind v → is_value_of l kind v ≡ true
+pub integer_value : (l : Layout) (kind : Kind) (v : Value) → integer_kind kind ≡ true → HasKind l kind v → is_value_of l kind v ≡ true
 integer_value l type.Int v e h = h
 integer_value l type.Unsigned v e h = h
 integer_value l type.Null v e h = differ e
@@ -108,14 +108,14 @@ integer_value l (type.Pointer n c) v e h = differ e
 integer_value l type.Function v e h = differ e
 
 -- what an operator makes of an old value and another is a value of the cell's kind
-number_told : (o : Option Kind) → is_number o ≡ true → (kind : Kind) × (o ≡ Some kind) × (integer_kind kind ≡ true)
+pub number_told : (o : Option Kind) → is_number o ≡ true → (kind : Kind) × (o ≡ Some kind) × (integer_kind kind ≡ true)
 number_told None e = differ e
 number_told (Some kind) e = (kind, refl, e)
 
-converted_told : (to a : Kind) → integer_kind to ≡ true → integer_kind a ≡ true → conversion_kind to a ≡ Some to
+pub converted_told : (to a : Kind) → integer_kind to ≡ true → integer_kind a ≡ true → conversion_kind to a ≡ Some to
 converted_told to a one other = ap (λ b. if_so b to) (join (integer_kind to) (integer_kind a) one other)
 
-has_integer : (l : Layout) (kind : Kind) (v : Value) → is_value_of l kind v ≡ true → integer_kind kind ≡ true → HasKind l kind v
+pub has_integer : (l : Layout) (kind : Kind) (v : Value) → is_value_of l kind v ≡ true → integer_kind kind ≡ true → HasKind l kind v
 has_integer l type.Int v h e = h
 has_integer l type.Unsigned v h e = h
 has_integer l type.Null v h e = differ e

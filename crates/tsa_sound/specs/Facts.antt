@@ -1,10 +1,10 @@
 -- What the laws ask of a program and its rows. All of it is so of a typed unit in the profile whose rows are kept.
-use Rattle.std.specs.Prelude.{◌≡◌, ℕ, Bool, true, false, Contains, AllPairs, List, Option, Some, None, IsSome, All, slice_get}
+use Rattle.std.specs.Prelude.{nat_eq, ◌≡◌, ℕ, Bool, true, false, Contains, AllPairs, List, Option, Some, None, IsSome, All, slice_get}
 use Rattle.tsa_tree.specs.declared.expr.BinaryOp.{BinaryOp}
 use Rattle.tsa_tree.specs.declared.expr.BinaryOp.TheVariants as op
 use Rattle.tsa_tree.specs.declared.kind.Kind.{Kind}
 use Rattle.tsa_way.specs.Ways.{Way}
-use Rattle.tsa_core.specs.Bodies.{can_have, set_cell}
+use Rattle.tsa_core.specs.Bodies.{Action, can_have, declare, set_cell, set_local}
 use Rattle.tsa_core.specs.Control.{Outcome, next_point}
 use Rattle.tsa_core.specs.KindLaws.{signatures}
 use Rattle.tsa_core.specs.Meanings.{Call}
@@ -15,7 +15,7 @@ use Rattle.tsa_core.specs.Uses.{Access}
 use Rattle.tsa_path.specs.Sameness.{same_way}
 use Rattle.tsa_rules.specs.Attributes.{local_kinds}
 use Rattle.tsa_rules.specs.Kept.{AreKept}
-use Rattle.tsa_rules.specs.Points.{attrs_at, edges_of, function_at, point_at, reads_under, uses_at, writes_under}
+use Rattle.tsa_rules.specs.Points.{mentions, try_variables, attrs_at, edges_of, function_at, point_at, reads_under, uses_at, writes_under}
 use Rattle.tsa_mean.specs.Frames.{left_of, right_of}
 use Rattle.tsa_sound.specs.FramesFit.{ProgramRows, setting_behind, setting_with, stable_of}
 use Rattle.tsa_sound.specs.LaidOut.{LaidOut}
@@ -41,6 +41,16 @@ IsWhole op.And = ⊥
 IsWhole op.Or = ⊥
 IsWhole o = Unit {0}
 
+-- the local that a point sets by itself: one that is assigned, or declared with what no call gives
+abbrev pub set_by : Option Call → Action → Option ℕ
+set_by call (set_local n o kind x) = Some n
+set_by None (declare n kind x) = Some n
+set_by call action = None
+
+abbrev pub IsUnmentioned : ℕ → Option Way → Type 0
+IsUnmentioned n None = Unit {0}
+IsUnmentioned n (Some c) = mentions n c ≡ false
+
 -- Of the terms at a point.
 pub record PointFacts (u : Program) (paths : List Way) (f : Function) (p : ℕ) : Type 0 where
   -- the terms have the kinds that are wanted of them, and their parts fit
@@ -61,6 +71,11 @@ pub record PointFacts (u : Program) (paths : List Way) (f : Function) (p : ℕ) 
   pub whole : (place : Term) (o : BinaryOp) (kind : Kind) (x : Term) → (point_at f p).action ≡ set_cell place (Some o) kind x → IsWhole o
   pub written : (place : Term) (o : Option BinaryOp) (kind : Kind) (x : Term) → (point_at f p).action ≡ set_cell place o kind x
       → All (WritesUnder paths (uses_at f p).left) (guard_ways (setting_behind u f (point_at f p)) (stable_of f.body) place)
+  pub whole_local : (n : ℕ) (o : BinaryOp) (kind : Kind) (x : Term) → (point_at f p).action ≡ set_local n (Some o) kind x → IsWhole o
+  -- no path mentions a local that is assigned, no attribute one that is set, and a try variable is set at its own declaration alone
+  pub assigned : (n : ℕ) (o : Option BinaryOp) (kind : Kind) (x : Term) (c : Way) → (point_at f p).action ≡ set_local n o kind x → Contains paths c → mentions n c ≡ false
+  pub attributes : (n : ℕ) → set_by (point_at f p).call (point_at f p).action ≡ Some n → All (λ a. IsUnmentioned n a.path) f.attrs
+  pub tries : (n w m : ℕ) → set_by (point_at f p).call (point_at f p).action ≡ Some n → slice_get (try_variables u f) w ≡ Some m → nat_eq m n ≡ false
   -- beside an answer stand constants alone
   pub silent : (b : Bool) (q : Term) → IsSome (point_at f p).call → Loads (right_of (point_at f p).action) b q → ⊥
   -- a point that calls goes on for each outcome

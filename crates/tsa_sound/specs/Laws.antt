@@ -3,7 +3,7 @@ use Rattle.std.specs.Prelude.{◌≡◌, ℕ, false, List, Option, Some, None}
 use Rattle.tsa_core.specs.Programs.{Program}
 use Rattle.tsa_sched.specs.declared.event.EventKind.TheVariants as event
 use Rattle.tsa_sched.specs.declared.pick.Pick.{Pick}
-use Rattle.tsa_mean.specs.Acts.{Act, act_of, to_branch, to_read, to_write, to_step, to_choose, to_trap}
+use Rattle.tsa_mean.specs.Acts.{Act, act_of, to_branch, to_read, to_set, to_write, to_step, to_choose, to_trap}
 use Rattle.tsa_mean.specs.Runs.{step}
 use Rattle.tsa_mean.specs.States.{Frame, State, Thread, running, trapped, ended, thread_at}
 use Rattle.tsa_sound.specs.Facts.{ProgramFacts}
@@ -56,6 +56,11 @@ IsRead act = ⊥
 abbrev pub IsWrite : Act → Type 0
 IsWrite (to_write place v) = Unit {0}
 IsWrite act = ⊥
+
+-- a local is set
+abbrev pub IsSet : Act → Type 0
+IsSet (to_set n v) = Unit {0}
+IsSet act = ⊥
 
 -- nothing but to go on
 abbrev pub IsStep : Act → Type 0

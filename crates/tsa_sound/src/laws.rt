@@ -1,6 +1,6 @@
 //! The laws of turns.
 ghost use Rattle.tsa_sound.specs.Examples.{ALockedWriteMeetsTheFacts};
-ghost use Rattle.tsa_sound.specs.Laws.{IsBranch, IsChoice, IsRead, IsStep, IsTrap, IsWrite, ThreadsThatDoNotRunGoWell, TurnsGoWell, WaitsGoWell};
+ghost use Rattle.tsa_sound.specs.Laws.{IsBranch, IsChoice, IsRead, IsSet, IsStep, IsTrap, IsWrite, ThreadsThatDoNotRunGoWell, TurnsGoWell, WaitsGoWell};
 
 /// A turn of a thread that isn't there, has ended or has stopped for good keeps the invariant, and so does one that waits and one that traps; none of them is
 /// a violation.
@@ -38,4 +38,9 @@ pub fn a_locked_write_meets_the_facts()
 /// A turn that writes a cell keeps the invariant, and is no violation: its thread holds alone all locks that guard the cell.
 pub fn writes_go_well()
     ensures { TurnsGoWell IsWrite }
+{}
+
+/// A turn that sets a local keeps the invariant, and is no violation.
+pub fn sets_go_well()
+    ensures { TurnsGoWell IsSet }
 {}

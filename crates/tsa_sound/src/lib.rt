@@ -4,6 +4,6 @@
 mod laws;
 
 pub use laws::{
-    a_locked_write_meets_the_facts, branches_go_well, choices_go_well, reads_go_well, steps_go_well,
-    turns_that_change_nothing_go_well, writes_go_well,
+    a_locked_write_meets_the_facts, branches_go_well, choices_go_well, reads_go_well, sets_go_well,
+    steps_go_well, turns_that_change_nothing_go_well, writes_go_well,
 };
