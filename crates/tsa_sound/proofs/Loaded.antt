@@ -1,12 +1,14 @@
 -- What is read from a cell fits the load that reads it.
-use Rattle.std.proofs.Common.{◌≡◌, ◌∙◌, ℕ, Bool, true, false, not, ◌&&◌, ◌||◌, List, [], ◌∷◌, Option, Some, None, option_map, option_and_then, is_some, slice_get, inl, inr, refl, ap, sym, subst}
+use Rattle.std.proofs.Common.{if◌then◌else◌, ◌≡◌, ◌∙◌, ℕ, Bool, true, false, not, ◌&&◌, ◌||◌, List, [], ◌∷◌, Option, Some, None, option_map, option_and_then, is_some, slice_get, inl, inr, refl, ap, sym, subst}
 use Rattle.tsa_tree.specs.declared.kind.Kind.{Kind}
 use Rattle.tsa_tree.specs.declared.kind.ThingType.{ThingType}
 use Rattle.tsa_way.specs.Ways.{Way}
 use Rattle.tsa_way.specs.declared.path.PathStep.TheVariants.{Follow}
+use Rattle.tsa_core.specs.Bodies.{Action, evaluate, set_local, set_cell, declare, test, branch, go_on, give}
 use Rattle.tsa_core.specs.Calls.{global_place, index_in, initial_at, is_structure, member_place, pointee, take_step}
 use Rattle.tsa_core.specs.Kinds.{Setting, cell_kind, if_so, member_thing, place_type, struct_in, value_kind, within}
 use Rattle.tsa_core.specs.Layouts.{Part, structure_at}
+use Rattle.tsa_core.specs.Meanings.{is_place}
 use Rattle.tsa_core.specs.Placed.{Placed}
 use Rattle.tsa_core.specs.Stores.{IsWellTyped, Store, is_value_of}
 use Rattle.tsa_core.specs.Terms.{Term, constant, variable, answer, global, member, element, target, load, address, converted, prefixed, joined}
@@ -16,6 +18,8 @@ use Rattle.tsa_sched.specs.declared.event.TrapKind.TheVariants as trap
 use Rattle.tsa_mean.specs.Outs.{bind, or_trap, yields}
 use Rattle.tsa_mean.specs.WorthLaws.{values}
 use Rattle.tsa_mean.specs.Working.{Locals, local_at, lvalue, rvalue}
+use Rattle.tsa_mean.specs.Frames.{right_of}
+use Rattle.tsa_sound.specs.Facts.{RightFits}
 use Rattle.tsa_sound.specs.LaidOut.{LaidOut}
 use Rattle.tsa_sound.specs.PartlyWorked.{IsOfKind, IsWorked, PointsAlong, followed, place_way, target_way}
 use Rattle.tsa_sound.specs.TermFacts.{AllFit, AllLoad, IsConstPart, IsDeclaredConst, LoadFits, Loads, TermFits, member_part}
@@ -46,6 +50,22 @@ module _ (k : Setting) (stable : ℕ → Bool) where
   all_load_fits [] b q fits l = absurd l
   all_load_fits (x ∷ xs) b q fits (inl l) = load_fits x b q fits.0 l
   all_load_fits (x ∷ xs) b q fits (inr l) = all_load_fits xs b q fits.1 l
+
+module _ (k : Setting) (stable : ℕ → Bool) where
+  -- so does a load of an action's right side
+  place_or_value : (x : Term) (place : Bool) (b : Bool) (q : Term) → Loads (if place then address x else x) b q → Loads x b q
+  place_or_value x true b q l = l
+  place_or_value x false b q l = l
+
+  pub right_load_fits : (action : Action) (b : Bool) (q : Term) → RightFits k stable action → Loads (right_of action) b q → LoadFits k b q × TermFits k stable q
+  right_load_fits (evaluate x) b q fits l = load_fits k stable x b q fits (place_or_value x (is_place x) b q l)
+  right_load_fits (set_local n o kind x) b q fits l = load_fits k stable x b q fits l
+  right_load_fits (set_cell place o kind x) b q fits l = load_fits k stable x b q fits l
+  right_load_fits (declare n kind x) b q fits l = load_fits k stable x b q fits l
+  right_load_fits (test x) b q fits l = load_fits k stable x b q fits l
+  right_load_fits (branch x) b q fits l = load_fits k stable x b q fits l
+  right_load_fits go_on b q fits l = absurd l
+  right_load_fits (give kind x) b q fits l = load_fits k stable x b q fits l
 
 -- a cell is no struct
 pub cell_is : (t : ThingType) (kind : Kind) → cell_kind t ≡ Some kind → (is_structure t.kind ≡ false) × (t.kind ≡ kind)

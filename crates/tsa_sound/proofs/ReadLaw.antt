@@ -45,7 +45,7 @@ use Rattle.tsa_sound.proofs.Going.{comes_from}
 use Rattle.tsa_sound.proofs.Guards.{GuardHolds, IsGuard, guarded}
 use Rattle.tsa_sound.proofs.Held.{IsHeldBy, held_lock}
 use Rattle.tsa_sound.proofs.Lists.{all_alike}
-use Rattle.tsa_sound.proofs.Loaded.{all_load_fits, fits_load, load_fits}
+use Rattle.tsa_sound.proofs.Loaded.{right_load_fits, all_load_fits, fits_load, load_fits}
 use Rattle.tsa_sound.proofs.NextRead as next
 use Rattle.tsa_sound.proofs.Threads.{before_turn, own_turn, safe_by_act}
 
@@ -168,12 +168,12 @@ module _ (u : Program) (x : ProgramRows) (held : Holds) (frame : Frame) (below :
 
       right_said : (p : ℕ) → next.IsSaid (setting_with u (function_of u frame) answered) (stable_of (function_of u frame).body) frame.locals p (value_at s p) (Loads (right_of (point_of u frame).action))
       right_said p = said answered (Loads (right_of (point_of u frame).action)) p
-          (λ b q l. load_fits (setting_with u (function_of u frame) answered) (stable_of (function_of u frame).body) (right_of (point_of u frame).action) b q points.right_fits l)
+          (λ b q l. right_load_fits (setting_with u (function_of u frame) answered) (stable_of (function_of u frame).body) (point_of u frame).action b q points.right_fits l)
 
       right_safe : (call : Option Call) → (point_of u frame).call ≡ call → (p : ℕ) → rvalue u.layout frame.locals right ≡ reads p → All (IsHeld held) (guards_of u.layout p)
       right_safe call e p reads_it =
           let found = next.value_read (setting_with u (function_of u frame) answered) (stable_of (function_of u frame).body) frame.locals p (right_of (point_of u frame).action) right sides.right_side reads_it in
-          let load = load_fits (setting_with u (function_of u frame) answered) (stable_of (function_of u frame).body) (right_of (point_of u frame).action) found.is_stable found.place points.right_fits found.loads in
+          let load = right_load_fits (setting_with u (function_of u frame) answered) (stable_of (function_of u frame).body) (point_of u frame).action found.is_stable found.place points.right_fits found.loads in
           safe_at answered found.place found.now load.0.thing p load.1 found.worked load.0.type_is found.stands (by call e found.is_stable found.place found.loads)
         where
           by : (call : Option Call) → (point_of u frame).call ≡ call → (b : Bool) (q : Term) → Loads (right_of (point_of u frame).action) b q

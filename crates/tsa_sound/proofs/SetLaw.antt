@@ -26,7 +26,7 @@ use Rattle.tsa_mean.specs.Outs.{yields}
 use Rattle.tsa_mean.specs.Returns.{attrs_of, lock_of}
 use Rattle.tsa_mean.specs.States.{Frame, Holds, Work, working, running, holds_of}
 use Rattle.tsa_mean.specs.Working.{local_at, rvalue, with_local}
-use Rattle.tsa_sound.specs.Facts.{FunctionFacts, IsUnmentioned, PointFacts, set_by}
+use Rattle.tsa_sound.specs.Facts.{RightFits, FunctionFacts, IsUnmentioned, PointFacts, set_by}
 use Rattle.tsa_sound.specs.FramesFit.{ProgramRows, SidesFit, WorkFits, function_of, paths_of, setting_with, settled_in, stable_of, status_before, status_by, status_now}
 use Rattle.tsa_sound.specs.Invariant.{StackFits}
 use Rattle.tsa_sound.specs.LaidOut.{LaidOut}
@@ -68,10 +68,11 @@ module _ (u : Program) (x : ProgramRows) (held : Holds) (frame : Frame) (below :
     pub mentioned : (c : Way) → Contains (paths_of x frame) c → (status_now u x frame c ≡ Free) ⊎ (mentions n c ≡ false)
 
   module _ (side right : Term) (left : Option Term) (old : Option Value) (action : Action) (sides : SidesFit u (function_of u frame) (point_of u frame) frame.locals right left old)
-      (is : (point_of u frame).action ≡ action) (of_side : right_of action ≡ side) where
+      (is : (point_of u frame).action ≡ action) (of_side : right_of action ≡ side)
+      (side_fits : TermFits k (stable_of (function_of u frame).body) side) where
     side_has : (given : Kind) (v : Value) → value_kind k side ≡ Some given → rvalue u.layout frame.locals right ≡ yields v → HasKind u.layout given v
     side_has given v kind e = value_fits k (stable_of (function_of u frame).body) frame.locals laid fits.top.typed side right given v
-        (subst (TermFits k (stable_of (function_of u frame).body)) (ap right_of is ∙ of_side) points.right_fits)
+        side_fits
         (subst (λ t. IsWorked k (stable_of (function_of u frame).body) frame.locals t right) (ap right_of is ∙ of_side) sides.right_side) kind e
 
   declaring : (c : Way) → Contains (paths_of x frame) c → FitsDeclaring (function_of u frame) frame.point c (status_before x frame c)
@@ -92,7 +93,7 @@ module _ (u : Program) (x : ProgramRows) (held : Holds) (frame : Frame) (below :
       record {
         right = right; left = left; old = old; is = is; goes_on = ap (λ a. can_have a Next) action;
         sets = ap (λ c. set_by c (point_of u frame).action) none ∙ ap (set_by None) action; kind = kind; known = acts.0;
-        value = served u.layout acts.1.0 kind w (local_at frame.locals m) acts.1.1.1 (side_has side right left old (declare m kind side) sides action refl acts.1.0 w acts.1.1.0 value)
+        value = served u.layout acts.1.0 kind w (local_at frame.locals m) acts.1.1.1 (side_has side right left old (declare m kind side) sides action refl (subst (RightFits k (stable_of (function_of u frame).body)) action points.right_fits) acts.1.0 w acts.1.1.0 value)
             (fits.top.typed m kind acts.0);
         mentioned = λ c i. by_mention m kind side right left old is none action c i (mentions m c) refl;
       }
@@ -100,7 +101,7 @@ module _ (u : Program) (x : ProgramRows) (held : Holds) (frame : Frame) (below :
       let acts = subst (ActionHolds k (function_of u frame).result) action points.kinds.1 in
       record {
         right = right; left = left; old = old; is = is; goes_on = ap (λ a. can_have a Next) action; sets = ap (set_by (point_of u frame).call) action; kind = kind; known = acts.0;
-        value = served u.layout acts.1.0 kind w (local_at frame.locals m) acts.1.1.1 (side_has side right left old (set_local m None kind side) sides action refl acts.1.0 w acts.1.1.0 value)
+        value = served u.layout acts.1.0 kind w (local_at frame.locals m) acts.1.1.1 (side_has side right left old (set_local m None kind side) sides action refl (subst (RightFits k (stable_of (function_of u frame).body)) action points.right_fits) acts.1.0 w acts.1.1.0 value)
             (fits.top.typed m kind acts.0);
         mentioned = λ c i. inr (points.assigned m None kind side c action i);
       }
@@ -114,7 +115,7 @@ module _ (u : Program) (x : ProgramRows) (held : Holds) (frame : Frame) (below :
             (conversion_has u.layout kind told.0 kind made.0 z
                 (operation_has u.layout o (points.whole_local m o kind side action) kind acts.1.1.0 told.0 (local_at frame.locals m) r made.0
                     (has_integer u.layout kind (local_at frame.locals m) (fits.top.typed m kind acts.0) acts.1.0)
-                    (side_has side right left old (set_local m (Some o) kind side) sides action refl acts.1.1.0 r acts.1.1.1.0 value) told.1 made.1)
+                    (side_has side right left old (set_local m (Some o) kind side) sides action refl (subst (RightFits k (stable_of (function_of u frame).body)) action points.right_fits) acts.1.1.0 r acts.1.1.1.0 value) told.1 made.1)
                 (converted_told kind told.0 acts.1.0 told.2) made.2);
         mentioned = λ c i. inr (points.assigned m (Some o) kind side c action i);
       }

@@ -34,7 +34,7 @@ use Rattle.tsa_mean.specs.Outs.{yields}
 use Rattle.tsa_mean.specs.Safe.{IsHeldAlone}
 use Rattle.tsa_mean.specs.States.{Frame, Holds, State, Work, working, running, holds_of, value_at, with_thread, with_value}
 use Rattle.tsa_mean.specs.Working.{lvalue, rvalue}
-use Rattle.tsa_sound.specs.Facts.{FunctionFacts, PointFacts, WritesUnder}
+use Rattle.tsa_sound.specs.Facts.{RightFits, FunctionFacts, PointFacts, WritesUnder}
 use Rattle.tsa_sound.specs.FramesFit.{IsWorkedLeft, OldFits, ProgramRows, SidesFit, WorkFits, function_of, paths_of, setting_with, stable_of, status_before, status_by}
 use Rattle.tsa_sound.specs.Invariant.{StackFits, ThreadFits}
 use Rattle.tsa_sound.specs.LaidOut.{LaidOut}
@@ -164,7 +164,7 @@ module _ (u : Program) (x : ProgramRows) (held : Holds) (frame : Frame) (below :
     worked_right = subst (λ a. IsWorked k stable frame.locals (right_of a) right) action sides.right_side
 
     side_fits : TermFits k stable side
-    side_fits = subst (λ a. TermFits k stable (right_of a)) action points.right_fits
+    side_fits = subst (RightFits k stable) action points.right_fits
 
     placed : Stands k stable written acts.0.0 place
     placed = place_stands_as k stable frame.locals laid fits.top.typed written left acts.0.0 place (points.left_fits written (ap left_of action)) worked_left acts.0.1.0 stands

@@ -4,9 +4,10 @@ use Rattle.tsa_tree.specs.declared.expr.BinaryOp.{BinaryOp}
 use Rattle.tsa_tree.specs.declared.expr.BinaryOp.TheVariants as op
 use Rattle.tsa_tree.specs.declared.kind.Kind.{Kind}
 use Rattle.tsa_way.specs.Ways.{Way}
-use Rattle.tsa_core.specs.Bodies.{Action, can_have, declare, set_cell, set_local}
+use Rattle.tsa_core.specs.Bodies.{Action, can_have, declare, evaluate, set_cell, set_local}
 use Rattle.tsa_core.specs.Control.{Outcome, next_point}
 use Rattle.tsa_core.specs.KindLaws.{signatures}
+use Rattle.tsa_core.specs.Kinds.{Setting}
 use Rattle.tsa_core.specs.Meanings.{Call}
 use Rattle.tsa_core.specs.PointKinds.{PointHolds}
 use Rattle.tsa_core.specs.Programs.{Function, Program}
@@ -51,12 +52,17 @@ abbrev pub IsUnmentioned : ℕ → Option Way → Type 0
 IsUnmentioned n None = Unit {0}
 IsUnmentioned n (Some c) = mentions n c ≡ false
 
+-- The right side of an action fits; of a struct or an array that stands as a statement the place is worked out, whatever guards it.
+abbrev pub RightFits : Setting → (stable : ℕ → Bool) → Action → Type 0
+RightFits k stable (evaluate x) = TermFits k stable x
+RightFits k stable action = TermFits k stable (right_of action)
+
 -- Of the terms at a point.
 pub record PointFacts (u : Program) (paths : List Way) (f : Function) (p : ℕ) : Type 0 where
   -- the terms have the kinds that are wanted of them, and their parts fit
   pub kinds : PointHolds (signatures u) u.layout (slice_get (local_kinds f)) f.result (point_at f p)
   pub args_fit : (c : Call) → (point_at f p).call ≡ Some c → AllFit (setting_with u f None) (stable_of f.body) c.args
-  pub right_fits : TermFits (setting_behind u f (point_at f p)) (stable_of f.body) (right_of (point_at f p).action)
+  pub right_fits : RightFits (setting_behind u f (point_at f p)) (stable_of f.body) (point_at f p).action
   pub left_fits : (left : Term) → left_of (point_at f p).action ≡ Some left → TermFits (setting_behind u f (point_at f p)) (stable_of f.body) left
   -- what is read before the call is told as such, and so is what is read on the way to the left side, and the left side itself
   pub args_read : (c : Call) (b : Bool) (q : Term) → (point_at f p).call ≡ Some c → AllLoad c.args b q
