@@ -16,7 +16,7 @@ use Rattle.tsa_sound.specs.FramesFit.{IsDecided, ProgramRows, SidesFit, WorkFits
 use Rattle.tsa_sound.specs.Invariant.{StackFits}
 use Rattle.tsa_sound.specs.Laws.{IsBranch, TurnsGoWell}
 use Rattle.tsa_sound.specs.PartlyWorked.{IsWorked}
-use Rattle.tsa_sound.specs.Settled.{answer_held, settled}
+use Rattle.tsa_sound.specs.SettledStatuses.{answer_held, settled}
 use Rattle.tsa_sound.proofs.Comes.{IsTest}
 use Rattle.tsa_sound.proofs.Comparisons.{condition_tells}
 use Rattle.tsa_sound.proofs.Deciding.{keeps_settled, still_pending}

@@ -16,7 +16,7 @@ use Rattle.tsa_mean.specs.Operators.{joined_with, operate_on, prefix_on}
 use Rattle.tsa_mean.specs.Outs.{Out, traps, reads, yields, bind}
 use Rattle.tsa_mean.specs.Working.{Locals, local_at, rvalue}
 use Rattle.tsa_sound.specs.PartlyWorked.{IsWorked}
-use Rattle.tsa_sound.specs.Settled.{answer_held}
+use Rattle.tsa_sound.specs.SettledStatuses.{answer_held}
 use Rattle.tsa_sound.proofs.Tests.{IsBeside, as_int, as_null, as_unsigned, beside_is, held_number, never_yields, none_is_some, number, read_yields, same_some, same_yields}
 
 -- the outcome of a test, by the truth of its value

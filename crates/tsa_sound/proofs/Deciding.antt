@@ -13,7 +13,7 @@ use Rattle.tsa_rules.specs.Effects.{after_decision, if_taken, left_by_try, same_
 use Rattle.tsa_rules.specs.Points.{try_kept, try_number, try_variables}
 use Rattle.tsa_mean.specs.Working.{Locals, local_at}
 use Rattle.tsa_sound.specs.FramesFit.{IsDecided}
-use Rattle.tsa_sound.specs.Settled.{answer_held, left_by, left_in, settled}
+use Rattle.tsa_sound.specs.SettledStatuses.{answer_held, left_by, left_in, settled}
 
 -- what a try leaves is settled
 pub data IsSettled : Status → Type 0 where

@@ -15,7 +15,7 @@ use Rattle.tsa_sound.specs.Facts.{FunctionFacts}
 use Rattle.tsa_sound.specs.FramesFit.{ProgramRows, function_of, paths_of, status_before, status_by, status_now}
 use Rattle.tsa_sound.specs.Invariant.{StackFits}
 use Rattle.tsa_sound.specs.Laws.{IsChoice, IsStep, TurnsGoWell}
-use Rattle.tsa_sound.specs.Settled.{settled}
+use Rattle.tsa_sound.specs.SettledStatuses.{settled}
 use Rattle.tsa_sound.proofs.Comes.{Comes, IsBare, IsPlain, comes}
 use Rattle.tsa_sound.proofs.Edges.{edge_to}
 use Rattle.tsa_sound.proofs.Fresh.{effect_untested, later_uncalled}

@@ -18,8 +18,8 @@ pub mod NoPointers
 pub mod PlacesStand
 pub mod Lists
 pub mod Guards
-pub mod Held
-pub mod Loaded
+pub mod HeldLocks
+pub mod LoadsFit
 pub mod ReadLaw
 pub mod Example
 pub mod ExampleLayout

@@ -21,7 +21,7 @@ use Rattle.tsa_mean.specs.Working.{Locals, local_at, or_zero, with_local}
 use Rattle.tsa_mean.proofs.Lists.{all_first, all_more, all_none, all_rest, set_elsewhere}
 use Rattle.tsa_sound.specs.Facts.{IsUnmentioned}
 use Rattle.tsa_sound.specs.FramesFit.{IsDecided}
-use Rattle.tsa_sound.specs.Settled.{answer_held, left_by, left_in, lock_in, settled}
+use Rattle.tsa_sound.specs.SettledStatuses.{answer_held, left_by, left_in, lock_in, settled}
 use Rattle.tsa_sound.proofs.Constants.{differ}
 
 pub all_of_both : {A : Type 0} (P Q R : A → Type 0) → ((x : A) → P x → Q x → R x) → (xs : List A) → All P xs → All Q xs → All R xs

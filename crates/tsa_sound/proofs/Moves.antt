@@ -12,7 +12,7 @@ use Rattle.tsa_mean.specs.States.{Frame, Holds}
 use Rattle.tsa_mean.specs.Working.{Locals}
 use Rattle.tsa_sound.specs.FramesFit.{FrameFits, IsDecided, IsLentOf, LocalsFit, ProgramRows, function_of, owned, owned_below, paths_of, settled_in, status_now}
 use Rattle.tsa_sound.specs.Invariant.{LowerFit, StackFits}
-use Rattle.tsa_sound.specs.Settled.{lock_in, lock_named, settled}
+use Rattle.tsa_sound.specs.SettledStatuses.{lock_in, lock_named, settled}
 use Rattle.tsa_sound.proofs.Fresh.{fresh_status, work_fits}
 use Rattle.tsa_sound.proofs.Sums.{holds_same}
 

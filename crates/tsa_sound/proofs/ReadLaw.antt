@@ -36,16 +36,16 @@ use Rattle.tsa_sound.specs.Invariant.{LowerFit, StackFits}
 use Rattle.tsa_sound.specs.LaidOut.{LaidOut}
 use Rattle.tsa_sound.specs.Laws.{IsRead, TurnsGoWell}
 use Rattle.tsa_sound.specs.PartlyWorked.{IsOfKind, IsWorked, guard_ways}
-use Rattle.tsa_sound.specs.Settled.{holds_for}
+use Rattle.tsa_sound.specs.SettledStatuses.{holds_for}
 use Rattle.tsa_sound.specs.TermFacts.{AllLoad, LoadFits, Loads, TermFits}
 use Rattle.tsa_sound.proofs.Constants.{differ}
 use Rattle.tsa_sound.proofs.Comes.{ReadSource, of_args, of_left, of_old, of_right}
 use Rattle.tsa_sound.proofs.Fresh.{later_uncalled}
 use Rattle.tsa_sound.proofs.Going.{comes_from}
 use Rattle.tsa_sound.proofs.Guards.{GuardHolds, IsGuard, guarded}
-use Rattle.tsa_sound.proofs.Held.{IsHeldBy, held_lock}
+use Rattle.tsa_sound.proofs.HeldLocks.{IsHeldBy, held_lock}
 use Rattle.tsa_sound.proofs.Lists.{all_alike}
-use Rattle.tsa_sound.proofs.Loaded.{right_load_fits, all_load_fits, fits_load, load_fits}
+use Rattle.tsa_sound.proofs.LoadsFit.{right_load_fits, all_load_fits, fits_load, load_fits}
 use Rattle.tsa_sound.proofs.NextRead as next
 use Rattle.tsa_sound.proofs.Threads.{before_turn, own_turn, safe_by_act}
 

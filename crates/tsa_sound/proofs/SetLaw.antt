@@ -32,7 +32,7 @@ use Rattle.tsa_sound.specs.Invariant.{StackFits}
 use Rattle.tsa_sound.specs.LaidOut.{LaidOut}
 use Rattle.tsa_sound.specs.Laws.{IsSet, TurnsGoWell}
 use Rattle.tsa_sound.specs.PartlyWorked.{IsWorked}
-use Rattle.tsa_sound.specs.Settled.{lock_in, lock_named, settled}
+use Rattle.tsa_sound.specs.SettledStatuses.{lock_in, lock_named, settled}
 use Rattle.tsa_sound.specs.TermFacts.{TermFits}
 use Rattle.tsa_sound.proofs.Comes.{SetSource, of_assigned, of_declared, of_joined}
 use Rattle.tsa_sound.proofs.Fresh.{later_uncalled}

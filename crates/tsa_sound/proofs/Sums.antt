@@ -8,7 +8,7 @@ use Rattle.tsa_rules.specs.declared.status.Status.TheVariants.{Free}
 use Rattle.tsa_locks.specs.Locks.{Mode}
 use Rattle.tsa_mean.specs.Returns.{if_lock}
 use Rattle.tsa_mean.specs.Working.{Locals}
-use Rattle.tsa_sound.specs.Settled.{hold, holds_for, lock_in, total, units}
+use Rattle.tsa_sound.specs.SettledStatuses.{hold, holds_for, lock_in, total, units}
 
 -- the first of a list is there, and what is in the rest
 pub first_in : {A : Type 0} (x : A) (xs : List A) → Contains (x ∷ xs) x

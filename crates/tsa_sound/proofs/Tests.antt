@@ -14,7 +14,7 @@ use Rattle.tsa_rules.specs.Conditions.{answer_beside, answer_in, constant_result
 use Rattle.tsa_mean.specs.Outs.{Out, traps, reads, yields}
 use Rattle.tsa_mean.specs.Working.{Locals, rvalue}
 use Rattle.tsa_sound.specs.PartlyWorked.{IsWorked}
-use Rattle.tsa_sound.specs.Settled.{answer_held}
+use Rattle.tsa_sound.specs.SettledStatuses.{answer_held}
 use Rattle.tsa_sound.proofs.Constants.{Matches, constant_as_written, constants_match}
 
 -- an answer as a number

@@ -46,9 +46,9 @@ use Rattle.tsa_sound.proofs.Constants.{both, differ}
 use Rattle.tsa_sound.proofs.Going.{comes_from}
 use Rattle.tsa_sound.proofs.GoingNext.{goes_next}
 use Rattle.tsa_sound.proofs.Guards.{GuardHolds, IsGuard, guarded}
-use Rattle.tsa_sound.proofs.Held.{alone_lock}
+use Rattle.tsa_sound.proofs.HeldLocks.{alone_lock}
 use Rattle.tsa_sound.proofs.Lists.{all_alike}
-use Rattle.tsa_sound.proofs.Loaded.{cell_is}
+use Rattle.tsa_sound.proofs.LoadsFit.{cell_is}
 use Rattle.tsa_sound.proofs.Moves.{goes}
 use Rattle.tsa_sound.proofs.PlacesStand.{Stands, place_stands_as}
 use Rattle.tsa_sound.proofs.Says.{bound}

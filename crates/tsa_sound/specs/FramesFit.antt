@@ -26,7 +26,7 @@ use Rattle.tsa_mean.specs.Frames.{left_of, right_of}
 use Rattle.tsa_mean.specs.Returns.{attrs_of, if_lock, lock_of}
 use Rattle.tsa_mean.specs.States.{Frame, Holds, Work, calling, working}
 use Rattle.tsa_mean.specs.Working.{Locals, local_at}
-use Rattle.tsa_sound.specs.Settled.{answer_held, holds_for, lock_in, lock_named, settled, total, units}
+use Rattle.tsa_sound.specs.SettledStatuses.{answer_held, holds_for, lock_in, lock_named, settled, total, units}
 use Rattle.tsa_sound.specs.PartlyWorked.{AreWorked, IsWorked}
 
 -- for each function, by its number, the paths that it names, and a status of each of them at each point that is listed

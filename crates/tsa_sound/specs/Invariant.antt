@@ -12,7 +12,7 @@ use Rattle.tsa_mean.specs.Returns.{attrs_of, lock_of}
 use Rattle.tsa_mean.specs.StateLaws.{StateIsKept}
 use Rattle.tsa_mean.specs.States.{Frame, Holds, State, Thread, running, trapped, ended, holds_of, thread_at, value_at}
 use Rattle.tsa_sound.specs.FramesFit.{FrameFits, ProgramRows, WorkFits, function_of, owned, owned_below, status_before, status_now}
-use Rattle.tsa_sound.specs.Settled.{lock_named}
+use Rattle.tsa_sound.specs.SettledStatuses.{lock_named}
 
 -- A frame stands at the call of the one above it, whose attributes name there what they name, with the arguments of the call, in the function that is called.
 pub record IsCallOf (u : Program) (frame upper : Frame) : Type 0 where

@@ -1,4 +1,4 @@
-pub mod Settled
+pub mod SettledStatuses
 pub mod PartlyWorked
 pub mod FramesFit
 pub mod Invariant

@@ -16,7 +16,7 @@ use Rattle.tsa_mean.specs.States.{Frame, Holds, Work, calling, working}
 use Rattle.tsa_sound.specs.Facts.{FunctionFacts}
 use Rattle.tsa_sound.specs.FramesFit.{IsLentOf, ProgramRows, function_of, owned_below, paths_of, settled_in, status_before, status_by, status_now}
 use Rattle.tsa_sound.specs.Invariant.{StackFits}
-use Rattle.tsa_sound.specs.Settled.{hold, lock_in, settled, total, units}
+use Rattle.tsa_sound.specs.SettledStatuses.{hold, lock_in, settled, total, units}
 use Rattle.tsa_sound.proofs.Constants.{both}
 
 -- one of a sum is no more than the sum
