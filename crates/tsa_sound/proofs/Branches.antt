@@ -41,7 +41,7 @@ module _ (u : Program) (x : ProgramRows) (held : Holds) (frame : Frame) (below :
       → effect u (function_of u frame) frame.point c (outcome_of taken) (status_before x frame c) ≡ after_test u (function_of u frame) c (outcome_of taken) k (status_before x frame c)
   by_condition c k is =
       ap (after_test u (function_of u frame) c (outcome_of taken) (condition_at (point_of u frame).action))
-          (uncalled u (function_of u frame) frame.point c (outcome_of taken) (status_before x frame c) test.bare.none)
+      (uncalled u (function_of u frame) frame.point c (outcome_of taken) (status_before x frame c) test.bare.none)
       ∙ ap (λ t. after_test u (function_of u frame) c (outcome_of taken) t (status_before x frame c)) (ap condition_at test.tests ∙ is)
 
   sides : SidesFit u (function_of u frame) (point_of u frame) frame.locals test.bare.right test.bare.left test.bare.old
@@ -51,9 +51,9 @@ module _ (u : Program) (x : ProgramRows) (held : Holds) (frame : Frame) (below :
   told : (k : Condition) (n : ℕ) → condition_in test.written ≡ Some k → k.subject ≡ the_local n → (h : Bool) → answer_held (local_at frame.locals n) ≡ Some h → h ≡ meant taken k
   told k n is local h holds =
       let worked = subst (λ a. IsWorked (setting_behind u (function_of u frame) (point_of u frame)) (stable_of (function_of u frame).body) frame.locals (right_of a) test.bare.right)
-              test.tests sides.right_side in
+      test.tests sides.right_side in
       let tells = condition_tells (setting_behind u (function_of u frame) (point_of u frame)) (stable_of (function_of u frame).body) u.layout frame.locals n h holds
-              test.value k local test.written test.bare.right is worked test.found in
+      test.value k local test.written test.bare.right is worked test.found in
       same_some (sym tells ∙ ap (λ b. answer_by (outcome_of b) k) (sym test.by) ∙ meant_is taken k)
 
   module _ (c : Way) (i : Contains (paths_of x frame) c) where

@@ -129,14 +129,14 @@ module _ (k : Setting) (stable : ℕ → Bool) (l : Layout) (locals : Locals) (n
         let is : condition (means j) s ≡ t = same_some e in
         let x_is = local_is a c left_value.0 (local_in a s n subject (ap (λ t. t.subject) is ∙ local)) worked_left left_value.1 in
         subst (λ t. Tells v t held) is (left_tells s j right_value.0 v (beside_is k stable l locals b d right_value.0 j other worked_right right_value.1)
-            (ap (λ x. operate_on o x right_value.0) (sym x_is) ∙ right_value.2))
+        (ap (λ x. operate_on o x right_value.0) (sym x_is) ∙ right_value.2))
 
     on_right : (s : Subject) (j : Bool) → subject_in b ≡ Some s → answer_beside a ≡ Some j → Some (condition (means j) s) ≡ Some t → Tells v t held
     on_right s j subject other e =
         let is : condition (means j) s ≡ t = same_some e in
         let y_is = local_is b d right_value.0 (local_in b s n subject (ap (λ t. t.subject) is ∙ local)) worked_right right_value.1 in
         subst (λ t. Tells v t held) is (right_tells s j left_value.0 v (beside_is k stable l locals a c left_value.0 j other worked_left left_value.1)
-            (ap (operate_on o left_value.0) (sym y_is) ∙ right_value.2))
+        (ap (operate_on o left_value.0) (sym y_is) ∙ right_value.2))
 
     compared : (s : Option Subject) → subject_in a ≡ s → (i : Option Bool) → answer_beside b ≡ i → (r : Option Subject) → subject_in b ≡ r
         → (j : Option Bool) → answer_beside a ≡ j → either (beside means s i) (beside means r j) ≡ Some t → Tells v t held
@@ -171,7 +171,7 @@ module _ (k : Setting) (stable : ℕ → Bool) (l : Layout) (locals : Locals) (n
         let part = bound (rvalue l locals y) (λ w. prefix_on prefix.Not w) v value in
         let w_is = local_is x y part.0 (local_in x s n es (ap (λ t. t.subject) is ∙ local)) worked part.1 in
         subst (λ t. Tells v t held) is (equal_tells s held false v
-            (ap is_true (sym (same_yields (ap (prefix_on prefix.Not) (sym w_is) ∙ part.2))) ∙ denied_number held))
+        (ap is_true (sym (same_yields (ap (prefix_on prefix.Not) (sym w_is) ∙ part.2))) ∙ denied_number held))
       where
         denied_number : (b : Bool) → is_true (of_truth (not (is_true (Int (pos (number b)))))) ≡ same_answer false b
         denied_number true = refl
@@ -186,12 +186,12 @@ module _ (k : Setting) (stable : ℕ → Bool) (l : Layout) (locals : Locals) (n
     condition_tells (prefixed prefix.Not x) y e worked value = absurd worked
     condition_tells (joined op.Equal a b) (joined p c d) e worked value =
         comparison_tells op.Equal itself (λ s j w v beside is. equal_tells s held j v (equal_left held j w v beside is))
-            (λ s j w v beside is. equal_tells s held j v (equal_right held j w v beside is)) a b c d worked.1 worked.2 v
-            (subst (λ o. bind (rvalue l locals c) (λ x. joined_with o x (rvalue l locals d)) ≡ yields v) (sym worked.0) value) t local e
+        (λ s j w v beside is. equal_tells s held j v (equal_right held j w v beside is)) a b c d worked.1 worked.2 v
+        (subst (λ o. bind (rvalue l locals c) (λ x. joined_with o x (rvalue l locals d)) ≡ yields v) (sym worked.0) value) t local e
     condition_tells (joined op.Equal a b) y e worked value = absurd worked
     condition_tells (joined op.Unequal a b) (joined p c d) e worked value =
         comparison_tells op.Unequal not (λ s j w v beside is. unequal_tells s held j v (unequal_left held j w v beside is))
-            (λ s j w v beside is. unequal_tells s held j v (unequal_right held j w v beside is)) a b c d worked.1 worked.2 v
-            (subst (λ o. bind (rvalue l locals c) (λ x. joined_with o x (rvalue l locals d)) ≡ yields v) (sym worked.0) value) t local e
+        (λ s j w v beside is. unequal_tells s held j v (unequal_right held j w v beside is)) a b c d worked.1 worked.2 v
+        (subst (λ o. bind (rvalue l locals c) (λ x. joined_with o x (rvalue l locals d)) ≡ yields v) (sym worked.0) value) t local e
     condition_tells (joined op.Unequal a b) y e worked value = absurd worked
     condition_tells x y e worked value = none_is_some e

@@ -102,10 +102,10 @@ joined_matches : (o : BinaryOp) (left right : Out Value) (l r : Result Number Tr
     → Matches (bind left (λ v. joined_with o v right)) (worked_binary o l r)
 joined_matches op.And left right l r one other = matches_both left l (λ v. joined_with op.And v right) (λ a. if is_nonzero a then as_truth r else Ok (truth false)) one
     (λ a. subst (λ b. Matches (if b then truth_of right else yields (of_truth false)) (if is_nonzero a then as_truth r else Ok (truth false))) (sym (truth_is a))
-        (and_matches (is_nonzero a) right r other))
+    (and_matches (is_nonzero a) right r other))
 joined_matches op.Or left right l r one other = matches_both left l (λ v. joined_with op.Or v right) (λ a. if is_nonzero a then Ok (truth true) else as_truth r) one
     (λ a. subst (λ b. Matches (if b then yields (of_truth true) else truth_of right) (if is_nonzero a then Ok (truth true) else as_truth r)) (sym (truth_is a))
-        (or_matches (is_nonzero a) right r other))
+    (or_matches (is_nonzero a) right r other))
 joined_matches o left right l r one other =
     matches_both left l (λ v. joined_with o v right) (λ a. go_on r (λ b. operate o a b)) one (λ a. second_matches o a right r other)
 

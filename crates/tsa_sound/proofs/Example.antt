@@ -91,7 +91,6 @@ kept_passes : passes locked_write w sheet ≡ true
 unfolding worked
 kept_passes = refl
 
-
 -- the point of a call of a lock function, which loads nothing
 abbrev SilentCall : ℕ → Type 0
 SilentCall p = OfCall (λ c. AllFit (setting_with locked_write w None) (stable_of w.body) c.args × ((b : Bool) (q : Term) → AllLoad c.args b q → ⊥)) (point_at w p).call

@@ -32,7 +32,7 @@ module _ (u : Program) (x : ProgramRows) (held : Holds) (frame : Frame) (below :
     -- a point that is left by an outcome which changes no settled status
     module _ (o : Outcome)
         (keeps : (c : Way) → Contains (paths_of x frame) c → settled u (function_of u frame) frame.locals c (effect u (function_of u frame) frame.point c o (status_before x frame c))
-            ≡ settled u (function_of u frame) frame.locals c (status_before x frame c))
+        ≡ settled u (function_of u frame) frame.locals c (status_before x frame c))
         (pends : (c : Way) (v : ℕ) → effect u (function_of u frame) frame.point c o (status_before x frame c) ≡ Pending v → status_before x frame c ≡ Pending v) where
       went_by : (to : Option ℕ) → point_behind u frame o ≡ to → Goes u x frame frame.locals (or_here frame.point to)
       went_by None is = record {
@@ -64,7 +64,7 @@ module _ (u : Program) (x : ProgramRows) (held : Holds) (frame : Frame) (below :
     pub left_plainly : (to : Option ℕ) → point_behind u frame o ≡ to → StackFits u x held (frame_at u frame frame.locals (or_here frame.point to)) below
     left_plainly = left plain.bare o
         (λ c i. ap (settled u (function_of u frame) frame.locals c)
-            (effect_untested u (function_of u frame) frame.point c o (status_before x frame c) plain.bare.none plain.untold))
+        (effect_untested u (function_of u frame) frame.point c o (status_before x frame c) plain.bare.none plain.untold))
         (λ c v is. sym (effect_untested u (function_of u frame) frame.point c o (status_before x frame c) plain.bare.none plain.untold) ∙ is)
 
   -- a switch goes to its case, or to what is left

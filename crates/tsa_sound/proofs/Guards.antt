@@ -127,13 +127,14 @@ module _ (k : Setting) (stable : ℕ → Bool) (locals : Locals) (laid : LaidOut
   member_guarded s m p from t base type thing struct part is_struct is_part guards stands holds outer =
       subst (All (IsGuard k.layout locals P)) (sym guards)
       (all_both (IsGuard k.layout locals P) (guards_of k.layout from) (guards_by k.layout (Some from) part.guards)
-          (outer (all_left (GuardHolds k.layout locals P) (guard_ways k stable s) inner holds))
-          (member_all k.layout locals P (place_way stable s) from stands part.guards
-              (subst (All (GuardHolds k.layout locals P)) own (all_right (GuardHolds k.layout locals P) (guard_ways k stable s) inner holds))
-              (laid.member_free struct m part is_part)))
+      (outer (all_left (GuardHolds k.layout locals P) (guard_ways k stable s) inner holds))
+      (member_all k.layout locals P (place_way stable s) from stands part.guards
+      (subst (All (GuardHolds k.layout locals P)) own (all_right (GuardHolds k.layout locals P) (guard_ways k stable s) inner holds))
+      (laid.member_free struct m part is_part)))
     where
       inner : List (Option Way)
       inner = guards_in k.layout (place_way stable s) m (option_and_then struct_in (place_type k s))
+
       own : guards_in k.layout (place_way stable s) m (option_and_then struct_in (place_type k s)) ≡ guards_owned (place_way stable s) part.guards
       own = ap (guards_in k.layout (place_way stable s) m) (ap (option_and_then struct_in) type ∙ is_struct) ∙ ap (λ g. guards_owned (place_way stable s) (part_guards g)) is_part
 

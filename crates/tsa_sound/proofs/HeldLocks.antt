@@ -50,7 +50,7 @@ module _ (u : Program) (x : ProgramRows) (held : Holds) (frame : Frame) (below :
       let sum = fits.sum lock mode in
       let one = total_has (λ d. hold u frame.locals d (settled_in u frame (status_now u x frame) d) lock mode) (paths_of x frame) c i in
       let worth : hold u frame.locals c (settled_in u frame (status_now u x frame) c) lock mode ≡ units s mode =
-              ap (λ s. hold u frame.locals c s lock mode) is ∙ hold_is u frame c s lock mode leads in
+      ap (λ s. hold u frame.locals c s lock mode) is ∙ hold_is u frame c s lock mode leads in
       omega (arith, sum, one, worth, some)
 
   leads_some : (s : Status) → settled_in u frame (status_now u x frame) c ≡ s → (s ≡ Free → ⊥) → (lock : ℕ) × (lock_in u frame.locals c ≡ Some lock)

@@ -107,10 +107,10 @@ module _ (k : Setting) (stable : ℕ → Bool) (locals : Locals) (laid : LaidOut
       let found = mapped (λ m. within base.0 m.thing) (option_and_then (λ struct. slice_get (structure_at k.layout.structs struct).members m) (struct_in base.0)) t base.2 in
       let struct = chained (λ struct. slice_get (structure_at k.layout.structs struct).members m) (struct_in base.0) found.0 found.1 in
       let part = const_part (slice_get (structure_at k.layout.structs struct.0).members m)
-              (subst (λ o. IsConstPart (member_part k.layout m o)) (ap (option_and_then struct_in) base.1 ∙ struct.1) const) in
+      (subst (λ o. IsConstPart (member_part k.layout m o)) (ap (option_and_then struct_in) base.1 ∙ struct.1) const) in
       let outer = place_stands_as k stable locals laid typed s u base.0 at.0 fits is.1 base.1 at.1 in
       let stands = laid.members at.0 struct.0 m p outer.placed part.0 outer.there (outer.kind ∙ struct_is base.0 struct.0 struct.1) part.1
-              (ap (member_place k.layout at.0) is.0 ∙ found_some trap.NullPointer (member_place k.layout at.0 n) p at.2) in
+      (ap (member_place k.layout at.0) is.0 ∙ found_some trap.NullPointer (member_place k.layout at.0 n) p at.2) in
       record { placed = stands.placed; there = stands.there; const = stands.const_is ∙ right_true outer.placed.is_const part.0.thing.is_const part.2 }
   const_at (element a b) (element c d) t p fits is type e const =
       let whole = indexed_is (value_kind k b) (place_type k a) t type in
@@ -146,7 +146,7 @@ module _ (k : Setting) (stable : ℕ → Bool) (locals : Locals) (laid : LaidOut
       of_kind : IsOfKind k.layout (value_kind k (load b q)) (store p)
       of_kind = subst (λ o. IsOfKind k.layout o (store p)) (sym (ap (option_and_then cell_kind) fits.type_is ∙ fits.kind_is))
           (subst (λ kind. is_value_of k.layout kind (store p) ≡ true) (stands.kind ∙ (cell_is fits.thing fits.kind fits.kind_is).1)
-              (well p stands.placed stands.there (ap is_structure stands.kind ∙ plain)))
+          (well p stands.placed stands.there (ap is_structure stands.kind ∙ plain)))
 
       -- a pointer that never changes points where it pointed at the start
       initial_is : b ≡ true → initial_at k.layout p ≡ Some (store p)

@@ -80,7 +80,7 @@ module _ (u : Program) (locals : Locals) (n : ℕ) (v : Value) where
   lock_stays c not =
       let parts = no_true (is_rooted_at n c.root) (list_any (is_index n) c.steps) not in
       ap (option_and_then place_in) (other_steps c.steps parts.1 (take_root u.layout (values new) None c.root)
-          ∙ ap (take_steps u.layout (values locals) c.steps) (other_root c.root parts.0))
+      ∙ ap (take_steps u.layout (values locals) c.steps) (other_root c.root parts.0))
 
   pub named_stays : (w : Option Way) → IsUnmentioned n w → option_and_then (lock_in u new) w ≡ option_and_then (lock_in u locals) w
   named_stays None not = refl

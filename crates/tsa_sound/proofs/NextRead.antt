@@ -38,7 +38,7 @@ module _ (k : Setting) (stable : ℕ → Bool) (locals : Locals) (p : ℕ) where
   element_read a b c d first second is (inl e) = in_part (Loads a) (Loads (element a b)) (λ b q l. inl l) (first is.0 e)
   element_read a b c d first second is (inr x) = in_part (Loads b) (Loads (element a b)) (λ b q l. inr l) (second is.1
       (read_of_first (rvalue k.layout locals d) (λ v. or_trap trap.OutOfRange (at_index k.layout (Some x.0) (index_in v))) p
-          (λ v. or_trap_reads_none trap.OutOfRange (at_index k.layout (Some x.0) (index_in v))) x.1.1))
+      (λ v. or_trap_reads_none trap.OutOfRange (at_index k.layout (Some x.0) (index_in v))) x.1.1))
 
   load_read : (m n : Bool) (s t : Term) → (Worked s t → lvalue k.layout locals t ≡ reads p → IsRead (Loads s)) → Worked s t
       → ReadOf {B = Value} (lvalue k.layout locals t) (λ q. reads q) p → IsRead (Loads (load m s))
@@ -57,7 +57,7 @@ module _ (k : Setting) (stable : ℕ → Bool) (locals : Locals) (p : ℕ) where
     place_read (global m) (global n) is e = absurd (or_trap_reads_none trap.NullPointer (global_place k.layout n) p e)
     place_read (member s m) (member t n) is e = in_part (Loads s) (Loads (member s m)) (λ b q l. l) (place_read s t is.1
         (read_of_first (lvalue k.layout locals t) (λ place. or_trap trap.NullPointer (member_place k.layout place n)) p
-            (λ place. or_trap_reads_none trap.NullPointer (member_place k.layout place n)) e))
+        (λ place. or_trap_reads_none trap.NullPointer (member_place k.layout place n)) e))
     place_read (element a b) (element c d) is e = element_read a b c d (place_read a c) (value_read b d) is
         (read_of (lvalue k.layout locals c) (λ place. bind (rvalue k.layout locals d) (λ v. or_trap trap.OutOfRange (at_index k.layout (Some place) (index_in v)))) p e)
     place_read (target s) (target t) is e = in_part (Loads s) (Loads (target s)) (λ b q l. l) (value_read s t is
@@ -124,9 +124,12 @@ module _ (k : Setting) (stable : ℕ → Bool) (locals : Locals) (p : ℕ) where
     element_filled a b c d first second is (inl e) =
         subst (λ out. Worked (element a b) (at_first out (element (fill c) d) (element c (fill d)))) (sym e) (first e, is.1)
     element_filled a b c d first second is (inr x) =
-        subst (λ out. Worked (element a b) (at_first out (element (fill c) d) (element c (fill d)))) (sym x.1.0) (is.0, second
-        (read_of_first (rvalue k.layout locals d) (λ w. or_trap trap.OutOfRange (at_index k.layout (Some x.0) (index_in w))) p
-            (λ w. or_trap_reads_none trap.OutOfRange (at_index k.layout (Some x.0) (index_in w))) x.1.1))
+        subst (λ out. Worked (element a b) (at_first out (element (fill c) d) (element c (fill d)))) (sym x.1.0) (
+          is.0,
+          second
+              (read_of_first (rvalue k.layout locals d) (λ w. or_trap trap.OutOfRange (at_index k.layout (Some x.0) (index_in w))) p
+              (λ w. or_trap_reads_none trap.OutOfRange (at_index k.layout (Some x.0) (index_in w))) x.1.1),
+        )
 
     load_filled : (m n : Bool) (s t : Term) → (lvalue k.layout locals t ≡ reads p → Worked s (fill t)) → m ≡ n → Worked s t → IsSaid (Loads (load m s))
         → ReadOf {B = Value} (lvalue k.layout locals t) (λ q. reads q) p → Worked (load m s) (fill (load n t))
@@ -148,9 +151,12 @@ module _ (k : Setting) (stable : ℕ → Bool) (locals : Locals) (p : ℕ) where
     mutual
       pub place_filled : (x y : Term) → Worked x y → lvalue k.layout locals y ≡ reads p → IsSaid (Loads x) → Worked x (fill y)
       place_filled (global m) (global n) is e said = is
-      place_filled (member s m) (member t n) is e said = (is.0, place_filled s t is.1
-          (read_of_first (lvalue k.layout locals t) (λ place. or_trap trap.NullPointer (member_place k.layout place n)) p
-              (λ place. or_trap_reads_none trap.NullPointer (member_place k.layout place n)) e) said)
+      place_filled (member s m) (member t n) is e said = (
+        is.0,
+        place_filled s t is.1
+            (read_of_first (lvalue k.layout locals t) (λ place. or_trap trap.NullPointer (member_place k.layout place n)) p
+            (λ place. or_trap_reads_none trap.NullPointer (member_place k.layout place n)) e) said,
+      )
       place_filled (element a b) (element c d) is e said = element_filled a b c d
           (λ f. place_filled a c is.0 f (λ b q now l. said b q now (inl l))) (λ f. value_filled b d is.1 f (λ b q now l. said b q now (inr l))) is
           (read_of (lvalue k.layout locals c) (λ place. bind (rvalue k.layout locals d) (λ w. or_trap trap.OutOfRange (at_index k.layout (Some place) (index_in w)))) p e)
@@ -178,10 +184,16 @@ module _ (k : Setting) (stable : ℕ → Bool) (locals : Locals) (p : ℕ) where
           (read_of (lvalue k.layout locals t) (λ q. reads q) p e)
       value_filled (address s) (address t) is e said = place_filled s t is
           (read_of_first (lvalue k.layout locals t) (λ q. yields (Pointer (Some q))) p (λ q r f. no_yield f) e) said
-      value_filled (converted m s) (converted n t) is e said = (is.0, value_filled s t is.1
-          (read_of_first (rvalue k.layout locals t) (λ w. converted_to n w) p (λ w. or_trap_reads_none trap.NullPointer (in_kind n w)) e) said)
-      value_filled (prefixed o s) (prefixed q t) is e said = (is.0, value_filled s t is.1
-          (read_of_first (rvalue k.layout locals t) (λ w. prefix_on q w) p (λ w. prefix_reads_none q w) e) said)
+      value_filled (converted m s) (converted n t) is e said = (
+        is.0,
+        value_filled s t is.1
+            (read_of_first (rvalue k.layout locals t) (λ w. converted_to n w) p (λ w. or_trap_reads_none trap.NullPointer (in_kind n w)) e) said,
+      )
+      value_filled (prefixed o s) (prefixed q t) is e said = (
+        is.0,
+        value_filled s t is.1
+            (read_of_first (rvalue k.layout locals t) (λ w. prefix_on q w) p (λ w. prefix_reads_none q w) e) said,
+      )
       value_filled (joined o a b) (joined q c d) is e said = joined_filled o q a b c d
           (λ f. value_filled a c is.1 f (λ b q now l. said b q now (inl l))) (λ f. value_filled b d is.2 f (λ b q now l. said b q now (inr l))) is.0 is.1 is.2
           (read_of (rvalue k.layout locals c) (λ w. joined_with q w (rvalue k.layout locals d)) p e)
@@ -198,8 +210,11 @@ module _ (k : Setting) (stable : ℕ → Bool) (locals : Locals) (p : ℕ) where
     all_filled_by x y xs ys rest is are said (inl e) =
         subst (λ out. AreWorked k stable locals (x ∷ xs) (at_first out (fill y ∷ ys) (y ∷ filled_all k.layout locals v ys))) (sym e) (value_filled x y is e said, are)
     all_filled_by x y xs ys rest is are said (inr f) =
-        subst (λ out. AreWorked k stable locals (x ∷ xs) (at_first out (fill y ∷ ys) (y ∷ filled_all k.layout locals v ys))) (sym f.1.0) (is, rest
-        (read_of_first (rvalues k.layout locals ys) (λ ws. yields (f.0 ∷ ws)) p (λ ws q g. no_yield g) f.1.1))
+        subst (λ out. AreWorked k stable locals (x ∷ xs) (at_first out (fill y ∷ ys) (y ∷ filled_all k.layout locals v ys))) (sym f.1.0) (
+          is,
+          rest
+              (read_of_first (rvalues k.layout locals ys) (λ ws. yields (f.0 ∷ ws)) p (λ ws q g. no_yield g) f.1.1),
+        )
 
     pub all_filled : (xs ys : List Term) → AreWorked k stable locals xs ys → rvalues k.layout locals ys ≡ reads p → IsSaid (AllLoad xs)
         → AreWorked k stable locals xs (filled_all k.layout locals v ys)

@@ -142,7 +142,10 @@ object_at l n c p (Some x) is e =
     let outer = both (is_addressable x) (is_of n x.kind && (c || not x.is_const)) e in
     let inner = both (is_of n x.kind) (c || not x.is_const) outer.1 in
     record {
-      placed = x; there = is; kind = of_struct n x.kind inner.0; const = const_allowed c x.is_const inner.1;
+      placed = x;
+      there = is;
+      kind = of_struct n x.kind inner.0;
+      const = const_allowed c x.is_const inner.1;
       unguarded = is_not x.is_guarded (both (is_structure x.kind) (not x.is_guarded) outer.0).1;
     }
 
@@ -194,14 +197,14 @@ module _ (k : Setting) (stable : ℕ → Bool) (locals : Locals) (laid : LaidOut
       (ap (λ t. t.kind) part.2)
       (λ e. sym (ap (λ t. t.is_const) part.2) ∙ or_true stands.placed.is_const part.0.thing.is_const base.is_const stands.const e)
       (λ e. either_false stands.placed.is_guarded (has_some part.0.guards)
-          (stands.unguarded (left_empty (guard_ways k stable s) (guards_in k.layout (place_way stable s) m (option_and_then struct_in (place_type k s))) e))
-          (own part.0 struct.0 struct.1 struct.2 (right_empty (guard_ways k stable s) (guards_in k.layout (place_way stable s) m (option_and_then struct_in (place_type k s))) e)))
+      (stands.unguarded (left_empty (guard_ways k stable s) (guards_in k.layout (place_way stable s) m (option_and_then struct_in (place_type k s))) e))
+      (own part.0 struct.0 struct.1 struct.2 (right_empty (guard_ways k stable s) (guards_in k.layout (place_way stable s) m (option_and_then struct_in (place_type k s))) e)))
     where
       own : (part : Part) (struct : ℕ) → struct_in base ≡ Some struct → slice_get (structure_at k.layout.structs struct).members m ≡ Some part
           → guards_in k.layout (place_way stable s) m (option_and_then struct_in (place_type k s)) ≡ [] → has_some part.guards ≡ false
       own part struct is_struct is_part e =
           unmapped _ part.guards (sym (ap (λ g. guards_owned (place_way stable s) (part_guards g)) is_part)
-              ∙ sym (ap (guards_in k.layout (place_way stable s) m) (ap (option_and_then struct_in) type ∙ is_struct)) ∙ e)
+          ∙ sym (ap (guards_in k.layout (place_way stable s) m) (ap (option_and_then struct_in) type ∙ is_struct)) ∙ e)
 
   element_at : (a b : Term) (p from : ℕ) (i : Option ℕ) (t whole : ThingType) → t.kind ≡ whole.kind → t.is_const ≡ whole.is_const → Stands k stable a whole from
       → at_index k.layout (Some from) i ≡ Some p → Stands k stable (element a b) t p
@@ -250,7 +253,7 @@ module _ (k : Setting) (stable : ℕ → Bool) (locals : Locals) (laid : LaidOut
         let to = targeted kind.0 t kind.2 in
         let part = bound (rvalue k.layout locals u) (λ v. or_trap trap.NullPointer (pointed_place v)) p e in
         let object = pointer_object k.layout to.0 to.1 part.0 p (pointer_fits s u to.0 to.1 part.0 fits is (kind.1 ∙ ap Some to.2) part.1)
-                (found_some trap.NullPointer (pointed_place part.0) p part.2) in
+        (found_some trap.NullPointer (pointed_place part.0) p part.2) in
         record { placed = object.placed; there = object.there; kind = object.kind ∙ sym to.3; const = λ c. to.4 ∙ object.const c; unguarded = λ g. object.unguarded }
     place_stands_as (constant v) y t p fits is type e = none_is_some type
     place_stands_as (variable n) y t p fits is type e = none_is_some type
@@ -282,7 +285,7 @@ module _ (k : Setting) (stable : ℕ → Bool) (locals : Locals) (laid : LaidOut
         let stands = place_stands_as s u thing.0 part.0 fits.1 is thing.1 part.1 in
         subst (λ v. is_value_of k.layout (type.Pointer n c) v ≡ true) (same_yields part.2)
         (may_point_to k.layout n c part.0 stands.placed stands.there (stands.kind ∙ struct_is thing.0 struct.0 struct.1 ∙ ap type.Structure same.0)
-            (stands.unguarded fits.0) (λ d. sym same.1 ∙ stands.const d))
+        (stands.unguarded fits.0) (λ d. sym same.1 ∙ stands.const d))
     pointer_fits (converted m s) y n c v fits is kind e = absurd (converted_gives_none n c m (value_kind k s) kind)
     pointer_fits (prefixed o s) y n c v fits is kind e = absurd (prefixed_gives_none n c o (value_kind k s) kind)
     pointer_fits (joined o a b) y n c v fits is kind e = absurd (joined_gives_none n c o (value_kind k a) (value_kind k b) kind)

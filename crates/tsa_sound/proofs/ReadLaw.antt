@@ -64,8 +64,15 @@ module _ (u : Program) (x : ProgramRows) (held : Holds) (frame : Frame) (below :
 
   reworked_top : (status : Way → Status) → FrameFits u x (owned_below u x below) frame status → FrameFits u x (owned_below u x below) (with_work frame work) status
   reworked_top status top = record {
-    with_body = top.with_body; listed = top.listed; locks = top.locks; lent = top.lent; answers = top.answers; typed = top.typed; owed = top.owed;
-    steady = top.steady; at_call = top.at_call;
+    with_body = top.with_body;
+    listed = top.listed;
+    locks = top.locks;
+    lent = top.lent;
+    answers = top.answers;
+    typed = top.typed;
+    owed = top.owed;
+    steady = top.steady;
+    at_call = top.at_call;
   }
 
   pub reworked : WorkFits u (function_of u frame) (point_of u frame) frame.locals work → StackFits u x held (with_work frame work) below
@@ -140,7 +147,7 @@ module _ (u : Program) (x : ProgramRows) (held : Holds) (frame : Frame) (below :
     -- what stands in the cell fits each load of it
     said : (given : Option Kind) (LoadsAt : Bool → Term → Type 0) (p : ℕ)
         → ((b : Bool) (q : Term) → LoadsAt b q → LoadFits (setting_with u (function_of u frame) given) b q
-            × TermFits (setting_with u (function_of u frame) given) (stable_of (function_of u frame).body) q)
+        × TermFits (setting_with u (function_of u frame) given) (stable_of (function_of u frame).body) q)
         → next.IsSaid (setting_with u (function_of u frame) given) (stable_of (function_of u frame).body) frame.locals p (value_at s p) LoadsAt
     said given LoadsAt p each b q now loads is stands =
         fits_load (setting_with u (function_of u frame) given) (stable_of (function_of u frame).body) frame.locals laid fits.top.typed (value_at s) well constants q now p b
@@ -155,10 +162,10 @@ module _ (u : Program) (x : ProgramRows) (held : Holds) (frame : Frame) (below :
         record {
           safe = safe_at None found.place found.now load.0.thing p load.1 found.worked load.0.type_is found.stands
               (guarded_before (λ d. ap (λ work. status_by u frame work d (status_before x frame d)) is) (guard_ways (setting_with u (function_of u frame) None) (stable_of (function_of u frame).body) found.place)
-                  (points.args_read c found.is_stable found.place call found.loads));
+              (points.args_read c found.is_stable found.place call found.loads));
           fit = subst (λ call. ArgsFit u (function_of u frame) frame.locals call (filled_all u.layout frame.locals (value_at s p) args)) (sym call)
               (next.all_filled (setting_with u (function_of u frame) None) (stable_of (function_of u frame).body) frame.locals p (value_at s p) c.args args fit e
-                  (said None (AllLoad c.args) p (λ b q l. all_load_fits (setting_with u (function_of u frame) None) (stable_of (function_of u frame).body) c.args b q (points.args_fit c call) l)));
+              (said None (AllLoad c.args) p (λ b q l. all_load_fits (setting_with u (function_of u frame) None) (stable_of (function_of u frame).body) c.args b q (points.args_fit c call) l)));
           same = λ d r. ap (λ work. status_by u frame work d r) (sym is);
         }
 
@@ -210,14 +217,14 @@ module _ (u : Program) (x : ProgramRows) (held : Holds) (frame : Frame) (below :
           record {
             safe = safe_at given found.place found.now load.0.thing p load.1 found.worked load.0.type_is found.stands
                 (guarded_behind right (Some now) old is (guard_ways (setting_with u (function_of u frame) given) (stable_of (function_of u frame).body) found.place)
-                    (points.left_read written found.is_stable found.place there found.loads));
+                (points.left_read written found.is_stable found.place there found.loads));
             fit = record {
               goes_on = sides.goes_on;
               right_side = sides.right_side;
               left_side = subst (λ w. IsWorkedLeft (setting_with u (function_of u frame) given) (stable_of (function_of u frame).body) frame.locals w
-                      (Some (filled u.layout frame.locals (value_at s p) now))) (sym there)
+                  (Some (filled u.layout frame.locals (value_at s p) now))) (sym there)
                   (next.place_filled (setting_with u (function_of u frame) given) (stable_of (function_of u frame).body) frame.locals p (value_at s p) written now fit e
-                      (said given (Loads written) p (λ b q l. load_fits (setting_with u (function_of u frame) given) (stable_of (function_of u frame).body) written b q (points.left_fits written there) l)));
+                  (said given (Loads written) p (λ b q l. load_fits (setting_with u (function_of u frame) given) (stable_of (function_of u frame).body) written b q (points.left_fits written there) l)));
               old_value = sides.old_value;
             };
             same = λ d r. ap (λ work. status_by u frame work d r) (sym is);
@@ -227,22 +234,22 @@ module _ (u : Program) (x : ProgramRows) (held : Holds) (frame : Frame) (below :
           → IsGoodRead frame.work p (λ v. working right (Some now) (Some v)) (value_at s p)
       old_read written o kind y action p e =
           let cell : IsCellOf (setting_with u (function_of u frame) given) kind written =
-                  (subst (ActionHolds (setting_with u (function_of u frame) given) (function_of u frame).result) action points.kinds.1).0 in
+          (subst (ActionHolds (setting_with u (function_of u frame) given) (function_of u frame).result) action points.kinds.1).0 in
           let worked : IsWorked (setting_with u (function_of u frame) given) (stable_of (function_of u frame).body) frame.locals written now =
-                  subst (λ a. IsWorkedLeft (setting_with u (function_of u frame) given) (stable_of (function_of u frame).body) frame.locals (left_of a) (Some now)) action sides.left_side in
+          subst (λ a. IsWorkedLeft (setting_with u (function_of u frame) given) (stable_of (function_of u frame).body) frame.locals (left_of a) (Some now)) action sides.left_side in
           record {
             safe = safe_at given written now cell.0 p (points.left_fits written (ap left_of action)) worked cell.1.0 e
                 (guarded_behind right (Some now) old is (guard_ways (setting_with u (function_of u frame) given) (stable_of (function_of u frame).body) written)
-                    (points.old_read written o kind y action));
+                (points.old_read written o kind y action));
             fit = record {
               goes_on = sides.goes_on;
               right_side = sides.right_side;
               left_side = sides.left_side;
               old_value = subst (λ a. OldFits u.layout a (Some (value_at s p))) (sym action)
                   (subst (λ o. IsOfKind u.layout o (value_at s p)) (ap (option_and_then cell_kind) cell.1.0 ∙ cell.1.1.0)
-                      (fits_load (setting_with u (function_of u frame) given) (stable_of (function_of u frame).body) frame.locals laid fits.top.typed (value_at s) well constants written now p false
-                          (record { thing = cell.0; type_is = cell.1.0; kind = kind; kind_is = cell.1.1.0; stable = λ e. differ e })
-                          (points.left_fits written (ap left_of action)) worked e).0);
+                  (fits_load (setting_with u (function_of u frame) given) (stable_of (function_of u frame).body) frame.locals laid fits.top.typed (value_at s) well constants written now p false
+                  (record { thing = cell.0; type_is = cell.1.0; kind = kind; kind_is = cell.1.1.0; stable = λ e. differ e })
+                  (points.left_fits written (ap left_of action)) worked e).0);
             };
             same = λ d r. ap (λ work. status_by u frame work d r) (sym is);
           }
@@ -258,7 +265,7 @@ pub reads_go_well : TurnsGoWell IsRead
 reads_go_well u x s pick (to_read place rest) facts inv turn is =
     let fits = before_turn u x s pick (to_read place rest) turn inv in
     let read = good u x (holds_of s pick.thread) turn.frame turn.below (facts.functions turn.frame.function fits.top.with_body) fits facts.laid s inv.typed inv.constant
-            turn.frame.work place rest refl fits.work (comes_from u x (holds_of s pick.thread) turn.frame turn.below (to_read place rest) fits turn.does) in
+    turn.frame.work place rest refl fits.work (comes_from u x (holds_of s pick.thread) turn.frame turn.below (to_read place rest) fits turn.does) in
     record {
       kept = own_turn u x s pick (to_read place rest) turn (running (with_work turn.frame (rest (value_at s place))) turn.below) inv refl
           (reworked u x (holds_of s pick.thread) turn.frame turn.below fits (rest (value_at s place)) read.same read.fit);

@@ -94,7 +94,7 @@ module _ (k : Setting) (stable : ℕ → Bool) (locals : Locals) where
   constant_value x y number v true is_c (Err why) is e worked value = none_is_some e
   constant_value x y number v true is_c (Ok n) is e worked value =
       matched (rvalue k.layout locals x) (subst (Matches (rvalue k.layout locals x)) is (constants_match k.layout locals x is_c))
-          (ap (rvalue k.layout locals) (constant_as_written k stable locals x y is_c worked) ∙ value)
+      (ap (rvalue k.layout locals) (constant_as_written k stable locals x y is_c worked) ∙ value)
       ∙ ap of_number (same_some e)
     where
       matched : (out : Out Value) → Matches out (Ok n) → out ≡ yields v → v ≡ of_number n
@@ -144,7 +144,7 @@ module _ (k : Setting) (stable : ℕ → Bool) (locals : Locals) where
         let index = bound (rvalue k.layout locals d) (λ v. or_trap trap.OutOfRange (at_index k.layout (Some part.0) (index_in v))) p part.2 in
         element_stands k.layout locals (place_way stable a) (index_step stable b) part.0 p (place_stands a c part.0 is.0 part.1)
         (λ s step. index_stands b d (constant_in b) refl s index.0 part.0 p step is.1 index.1
-            (found_some trap.OutOfRange (at_index k.layout (Some part.0) (index_in index.0)) p index.2))
+        (found_some trap.OutOfRange (at_index k.layout (Some part.0) (index_in index.0)) p index.2))
     place_stands (target s) (target t) p is e =
         let part = bound (rvalue k.layout locals t) (λ v. or_trap trap.NullPointer (pointed_place v)) p e in
         along (target_way stable s) part.0 p (value_points s t part.0 is part.1) (found_some trap.NullPointer (pointed_place part.0) p part.2)

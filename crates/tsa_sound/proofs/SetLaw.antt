@@ -91,8 +91,14 @@ module _ (u : Program) (x : ProgramRows) (held : Holds) (frame : Frame) (below :
   good work n v is sides (of_declared right left old m w kind side none action value) =
       let acts = subst (ActionHolds k (function_of u frame).result) action points.kinds.1 in
       record {
-        right = right; left = left; old = old; is = is; goes_on = ap (λ a. can_have a Next) action;
-        sets = ap (λ c. set_by c (point_of u frame).action) none ∙ ap (set_by None) action; kind = kind; known = acts.0;
+        right = right;
+        left = left;
+        old = old;
+        is = is;
+        goes_on = ap (λ a. can_have a Next) action;
+        sets = ap (λ c. set_by c (point_of u frame).action) none ∙ ap (set_by None) action;
+        kind = kind;
+        known = acts.0;
         value = served u.layout acts.1.0 kind w (local_at frame.locals m) acts.1.1.1 (side_has side right left old (declare m kind side) sides action refl (subst (RightFits k (stable_of (function_of u frame).body)) action points.right_fits) acts.1.0 w acts.1.1.0 value)
             (fits.top.typed m kind acts.0);
         mentioned = λ c i. by_mention m kind side right left old is none action c i (mentions m c) refl;
@@ -100,7 +106,14 @@ module _ (u : Program) (x : ProgramRows) (held : Holds) (frame : Frame) (below :
   good work n v is sides (of_assigned right left old m w kind side action value) =
       let acts = subst (ActionHolds k (function_of u frame).result) action points.kinds.1 in
       record {
-        right = right; left = left; old = old; is = is; goes_on = ap (λ a. can_have a Next) action; sets = ap (set_by (point_of u frame).call) action; kind = kind; known = acts.0;
+        right = right;
+        left = left;
+        old = old;
+        is = is;
+        goes_on = ap (λ a. can_have a Next) action;
+        sets = ap (set_by (point_of u frame).call) action;
+        kind = kind;
+        known = acts.0;
         value = served u.layout acts.1.0 kind w (local_at frame.locals m) acts.1.1.1 (side_has side right left old (set_local m None kind side) sides action refl (subst (RightFits k (stable_of (function_of u frame).body)) action points.right_fits) acts.1.0 w acts.1.1.0 value)
             (fits.top.typed m kind acts.0);
         mentioned = λ c i. inr (points.assigned m None kind side c action i);
@@ -110,13 +123,20 @@ module _ (u : Program) (x : ProgramRows) (held : Holds) (frame : Frame) (below :
       let told = number_told (binary_kind o kind acts.1.1.0) acts.1.1.1.1 in
       let made = bound (operate_on o (local_at frame.locals m) r) (λ y. converted_to kind y) z stored in
       record {
-        right = right; left = left; old = old; is = is; goes_on = ap (λ a. can_have a Next) action; sets = ap (set_by (point_of u frame).call) action; kind = kind; known = acts.0;
+        right = right;
+        left = left;
+        old = old;
+        is = is;
+        goes_on = ap (λ a. can_have a Next) action;
+        sets = ap (set_by (point_of u frame).call) action;
+        kind = kind;
+        known = acts.0;
         value = integer_value u.layout kind z acts.1.0
             (conversion_has u.layout kind told.0 kind made.0 z
-                (operation_has u.layout o (points.whole_local m o kind side action) kind acts.1.1.0 told.0 (local_at frame.locals m) r made.0
-                    (has_integer u.layout kind (local_at frame.locals m) (fits.top.typed m kind acts.0) acts.1.0)
-                    (side_has side right left old (set_local m (Some o) kind side) sides action refl (subst (RightFits k (stable_of (function_of u frame).body)) action points.right_fits) acts.1.1.0 r acts.1.1.1.0 value) told.1 made.1)
-                (converted_told kind told.0 acts.1.0 told.2) made.2);
+            (operation_has u.layout o (points.whole_local m o kind side action) kind acts.1.1.0 told.0 (local_at frame.locals m) r made.0
+            (has_integer u.layout kind (local_at frame.locals m) (fits.top.typed m kind acts.0) acts.1.0)
+            (side_has side right left old (set_local m (Some o) kind side) sides action refl (subst (RightFits k (stable_of (function_of u frame).body)) action points.right_fits) acts.1.1.0 r acts.1.1.1.0 value) told.1 made.1)
+            (converted_told kind told.0 acts.1.0 told.2) made.2);
         mentioned = λ c i. inr (points.assigned m (Some o) kind side c action i);
       }
 
@@ -154,7 +174,7 @@ sets_go_well u x s pick (to_set n v) facts inv turn is =
     let fits = before_turn u x s pick (to_set n v) turn inv in
     let function = facts.functions turn.frame.function fits.top.with_body in
     let set = good u x (holds_of s pick.thread) turn.frame turn.below function fits facts.laid turn.frame.work n v refl fits.work
-            (comes_from u x (holds_of s pick.thread) turn.frame turn.below (to_set n v) fits turn.does) in
+    (comes_from u x (holds_of s pick.thread) turn.frame turn.below (to_set n v) fits turn.does) in
     record {
       kept = own_turn u x s pick (to_set n v) turn (running (frame_behind u turn.frame (with_local turn.frame.locals n v) Next) turn.below) inv refl
           (after_set u x (holds_of s pick.thread) turn.frame turn.below function fits facts.laid n v set);

@@ -106,7 +106,7 @@ module _ (l : Layout) where
       result_has (binary_kind o (kind_of m.number) (kind_of n.number)) kind (operate o first.0 second.0) z
       (sym (ap (λ k. binary_kind o k b) m.kind_is ∙ ap (binary_kind o (kind_of m.number)) n.kind_is) ∙ is)
       (subst (λ x. IsGood (binary_kind o (kind_of m.number) (kind_of n.number)) (operate o x second.0)) same_m
-          (subst (λ y. IsGood (binary_kind o (kind_of m.number) (kind_of n.number)) (operate o m.number y)) same_n (operated_good o m.number n.number whole m.fits n.fits)))
+      (subst (λ y. IsGood (binary_kind o (kind_of m.number) (kind_of n.number)) (operate o m.number y)) same_n (operated_good o m.number n.number whole m.fits n.fits)))
       second.2
 
   prefix_has : (o : UnaryOp) (a kind : Kind) (v z : Value) → HasKind l a v → prefix_kind o a ≡ Some kind

@@ -185,8 +185,18 @@ module _ (u : Program) (x : ProgramRows) (held : Holds) (frame : Frame) (below :
   good work place v is sides (of_right_side right left old q w written kind side action stands value) =
       let acts = acts written side right left None old kind q sides action stands in
       record {
-        right = right; left = left; old = old; is = is; written = written; operator = None; kind = kind; side = side; action = action; cell = acts.0;
-        worked = worked_left written side right left None old kind q sides action stands; stands = stands;
+        right = right;
+        left = left;
+        old = old;
+        is = is;
+        written = written;
+        operator = None;
+        kind = kind;
+        side = side;
+        action = action;
+        cell = acts.0;
+        worked = worked_left written side right left None old kind q sides action stands;
+        stands = stands;
         value = served u.layout acts.1.0 kind w (value_at s q) acts.1.1.1 (side_has written side right left None old kind q sides action stands acts.1.0 w acts.1.1.0 value)
             (stood written side right left None old kind q sides action stands);
       }
@@ -196,13 +206,23 @@ module _ (u : Program) (x : ProgramRows) (held : Holds) (frame : Frame) (below :
       let made = bound (operate_on o w r) (λ y. converted_to kind y) z stored in
       let old_value : is_value_of u.layout kind w ≡ true = subst (λ a. OldFits u.layout a (Some w)) action sides.old_value in
       record {
-        right = right; left = left; old = Some w; is = is; written = written; operator = Some o; kind = kind; side = side; action = action; cell = acts.0;
-        worked = worked_left written side right left (Some o) (Some w) kind q sides action stands; stands = stands;
+        right = right;
+        left = left;
+        old = Some w;
+        is = is;
+        written = written;
+        operator = Some o;
+        kind = kind;
+        side = side;
+        action = action;
+        cell = acts.0;
+        worked = worked_left written side right left (Some o) (Some w) kind q sides action stands;
+        stands = stands;
         value = integer_value u.layout kind z acts.1.0
             (conversion_has u.layout kind told.0 kind made.0 z
-                (operation_has u.layout o (points.whole written o kind side action) kind acts.1.1.0 told.0 w r made.0 (has_integer u.layout kind w old_value acts.1.0)
-                    (side_has written side right left (Some o) (Some w) kind q sides action stands acts.1.1.0 r acts.1.1.1.0 value) told.1 made.1)
-                (converted_told kind told.0 acts.1.0 told.2) made.2);
+            (operation_has u.layout o (points.whole written o kind side action) kind acts.1.1.0 told.0 w r made.0 (has_integer u.layout kind w old_value acts.1.0)
+            (side_has written side right left (Some o) (Some w) kind q sides action stands acts.1.1.0 r acts.1.1.1.0 value) told.1 made.1)
+            (converted_told kind told.0 acts.1.0 told.2) made.2);
       }
 
   -- its guards are held alone
@@ -226,9 +246,9 @@ module _ (u : Program) (x : ProgramRows) (held : Holds) (frame : Frame) (below :
     write_safe : All (IsHeldAlone held) (guards_of u.layout place)
     write_safe = all_alike (IsGuard u.layout frame.locals (λ lock. 0 < held lock Exclusive)) (IsHeldAlone held) alone (guards_of u.layout place)
         (guarded k stable frame.locals laid fits.top.typed (λ lock. 0 < held lock Exclusive) write.written write.left write.cell.0 place
-            (points.left_fits write.written (ap left_of write.action)) write.worked write.cell.1.0 write.stands
-            (all_alike (WritesUnder (paths_of x frame) (uses_at (function_of u frame) frame.point).left) (GuardHolds u.layout frame.locals (λ lock. 0 < held lock Exclusive)) each
-                (guard_ways k stable write.written) (points.written write.written write.operator write.kind write.side write.action)))
+        (points.left_fits write.written (ap left_of write.action)) write.worked write.cell.1.0 write.stands
+        (all_alike (WritesUnder (paths_of x frame) (uses_at (function_of u frame) frame.point).left) (GuardHolds u.layout frame.locals (λ lock. 0 < held lock Exclusive)) each
+        (guard_ways k stable write.written) (points.written write.written write.operator write.kind write.side write.action)))
 
     abbrev Typed : ℕ → Value → Type 0
     Typed q w = (p : Placed) → slice_get u.layout.places q ≡ Some p → is_structure p.kind ≡ false → is_value_of u.layout p.kind w ≡ true
@@ -242,7 +262,7 @@ module _ (u : Program) (x : ProgramRows) (held : Holds) (frame : Frame) (below :
     still_typed : IsWellTyped u.layout (value_at (with_value s place v))
     still_typed q = set_keeps Typed s.store place v (Pointer None) well
         (λ p there plain. subst (λ kind. is_value_of u.layout kind v ≡ true)
-            (sym (cell_is write.cell.0 write.kind write.cell.1.1.0).1 ∙ sym stands_here.kind ∙ ap (λ p. p.kind) (same_placed p there)) write.value) q
+        (sym (cell_is write.cell.0 write.kind write.cell.1.1.0).1 ∙ sym stands_here.kind ∙ ap (λ p. p.kind) (same_placed p there)) write.value) q
 
     still_constant : KeepsConst u.layout (value_at s) → KeepsConst u.layout (value_at (with_value s place v))
     still_constant constant q = set_keeps Kept s.store place v (Pointer None) constant
@@ -257,7 +277,7 @@ writes_go_well u x s pick (to_write place v) facts inv turn is =
     let fits = before_turn u x s pick (to_write place v) turn inv in
     let function = facts.functions turn.frame.function fits.top.with_body in
     let write = good u x (holds_of s pick.thread) turn.frame turn.below function fits facts.laid s inv.typed turn.frame.work place v refl fits.work
-            (comes_from u x (holds_of s pick.thread) turn.frame turn.below (to_write place v) fits turn.does) in
+    (comes_from u x (holds_of s pick.thread) turn.frame turn.below (to_write place v) fits turn.does) in
     record {
       kept = turned u x s (with_thread (with_value s place v) pick.thread (running (frame_behind u turn.frame turn.frame.locals Next) turn.below)) pick
           (turn_is u s pick (to_write place v) turn) inv
@@ -265,8 +285,8 @@ writes_go_well u x s pick (to_write place v) facts inv turn is =
           (still_constant u x (holds_of s pick.thread) turn.frame turn.below function fits facts.laid s inv.typed place v write inv.constant) refl
           (λ other differs lock mode. refl)
           (subst (ThreadFits u x (holds_of s pick.thread)) (sym (set_here s.threads pick.thread (running turn.frame turn.below)
-                  (running (frame_behind u turn.frame turn.frame.locals Next) turn.below) turn.runs))
-              (written_on u x (holds_of s pick.thread) turn.frame turn.below function fits facts.laid s inv.typed place v write));
+          (running (frame_behind u turn.frame turn.frame.locals Next) turn.below) turn.runs))
+          (written_on u x (holds_of s pick.thread) turn.frame turn.below function fits facts.laid s inv.typed place v write));
       safe = safe_by_act u s pick (to_write place v) turn
           (write_safe u x (holds_of s pick.thread) turn.frame turn.below function fits facts.laid s inv.typed place v write);
     }
