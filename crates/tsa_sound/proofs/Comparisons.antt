@@ -20,16 +20,16 @@ use Rattle.tsa_sound.specs.SettledStatuses.{answer_held}
 use Rattle.tsa_sound.proofs.Tests.{IsBeside, as_int, as_null, as_unsigned, beside_is, held_number, never_yields, none_is_some, number, read_yields, same_some, same_yields}
 
 -- the outcome of a test, by the truth of its value
-abbrev Tells : Value → Condition → Bool → Type 0
+abbrev pub Tells : Value → Condition → Bool → Type 0
 Tells v k given = answer_by (outcome_of (is_true v)) k ≡ Some given
 
-equal_tells : (s : Subject) (a k : Bool) (v : Value) → is_true v ≡ same_answer k a → Tells v (condition k s) a
+pub equal_tells : (s : Subject) (a k : Bool) (v : Value) → is_true v ≡ same_answer k a → Tells v (condition k s) a
 equal_tells s true true v e = ap (λ b. answer_by (outcome_of b) (condition true s)) e
 equal_tells s true false v e = ap (λ b. answer_by (outcome_of b) (condition false s)) e
 equal_tells s false true v e = ap (λ b. answer_by (outcome_of b) (condition true s)) e
 equal_tells s false false v e = ap (λ b. answer_by (outcome_of b) (condition false s)) e
 
-unequal_tells : (s : Subject) (a k : Bool) (v : Value) → is_true v ≡ not (same_answer k a) → Tells v (condition (not k) s) a
+pub unequal_tells : (s : Subject) (a k : Bool) (v : Value) → is_true v ≡ not (same_answer k a) → Tells v (condition (not k) s) a
 unequal_tells s true true v e = ap (λ b. answer_by (outcome_of b) (condition false s)) e
 unequal_tells s true false v e = ap (λ b. answer_by (outcome_of b) (condition true s)) e
 unequal_tells s false true v e = ap (λ b. answer_by (outcome_of b) (condition false s)) e
@@ -39,7 +39,7 @@ unequal_tells s false false v e = ap (λ b. answer_by (outcome_of b) (condition 
 is_of : (w v : Value) (b : Bool) → yields w ≡ yields v → is_true w ≡ b → is_true v ≡ b
 is_of w v b e is = ap is_true (sym (same_yields e)) ∙ is
 
-equal_left : (a k : Bool) (w v : Value) → IsBeside k w → operate_on op.Equal (Int (pos (number a))) w ≡ yields v → is_true v ≡ same_answer k a
+pub equal_left : (a k : Bool) (w v : Value) → IsBeside k w → operate_on op.Equal (Int (pos (number a))) w ≡ yields v → is_true v ≡ same_answer k a
 equal_left true true w v as_int e = is_of (Int (pos 1)) v true e refl
 equal_left true false w v as_int e = is_of (Int (pos 0)) v false e refl
 equal_left false true w v as_int e = is_of (Int (pos 0)) v false e refl
@@ -50,7 +50,7 @@ equal_left false true w v as_unsigned e = is_of (Int (pos 0)) v false e refl
 equal_left false false w v as_unsigned e = is_of (Int (pos 1)) v true e refl
 equal_left a k w v as_null e = never_yields e
 
-equal_right : (a k : Bool) (w v : Value) → IsBeside k w → operate_on op.Equal w (Int (pos (number a))) ≡ yields v → is_true v ≡ same_answer k a
+pub equal_right : (a k : Bool) (w v : Value) → IsBeside k w → operate_on op.Equal w (Int (pos (number a))) ≡ yields v → is_true v ≡ same_answer k a
 equal_right true true w v as_int e = is_of (Int (pos 1)) v true e refl
 equal_right true false w v as_int e = is_of (Int (pos 0)) v false e refl
 equal_right false true w v as_int e = is_of (Int (pos 0)) v false e refl
@@ -61,7 +61,7 @@ equal_right false true w v as_unsigned e = is_of (Int (pos 0)) v false e refl
 equal_right false false w v as_unsigned e = is_of (Int (pos 1)) v true e refl
 equal_right a k w v as_null e = never_yields e
 
-unequal_left : (a k : Bool) (w v : Value) → IsBeside k w → operate_on op.Unequal (Int (pos (number a))) w ≡ yields v → is_true v ≡ not (same_answer k a)
+pub unequal_left : (a k : Bool) (w v : Value) → IsBeside k w → operate_on op.Unequal (Int (pos (number a))) w ≡ yields v → is_true v ≡ not (same_answer k a)
 unequal_left true true w v as_int e = is_of (Int (pos 0)) v false e refl
 unequal_left true false w v as_int e = is_of (Int (pos 1)) v true e refl
 unequal_left false true w v as_int e = is_of (Int (pos 1)) v true e refl
@@ -72,7 +72,7 @@ unequal_left false true w v as_unsigned e = is_of (Int (pos 1)) v true e refl
 unequal_left false false w v as_unsigned e = is_of (Int (pos 0)) v false e refl
 unequal_left a k w v as_null e = never_yields e
 
-unequal_right : (a k : Bool) (w v : Value) → IsBeside k w → operate_on op.Unequal w (Int (pos (number a))) ≡ yields v → is_true v ≡ not (same_answer k a)
+pub unequal_right : (a k : Bool) (w v : Value) → IsBeside k w → operate_on op.Unequal w (Int (pos (number a))) ≡ yields v → is_true v ≡ not (same_answer k a)
 unequal_right true true w v as_int e = is_of (Int (pos 0)) v false e refl
 unequal_right true false w v as_int e = is_of (Int (pos 1)) v true e refl
 unequal_right false true w v as_int e = is_of (Int (pos 1)) v true e refl

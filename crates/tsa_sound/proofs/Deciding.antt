@@ -34,12 +34,12 @@ not_pending s v shared e = absurd cc
 not_pending s v (exclusive n) e = absurd cc
 not_pending s v lent e = absurd cc
 
-taken_settled : (kind : AttrKind) → IsSettled (taken_by kind)
+pub taken_settled : (kind : AttrKind) → IsSettled (taken_by kind)
 taken_settled attr.TryAcquire = exclusive 1
 taken_settled attr.TryAcquireShared = shared
 taken_settled kind = free
 
-if_settled : (b : Bool) (s : Status) → IsSettled s → IsSettled (if_taken b s)
+pub if_settled : (b : Bool) (s : Status) → IsSettled s → IsSettled (if_taken b s)
 if_settled true s is = is
 if_settled false s is = free
 

@@ -1,87 +1,39 @@
 -- A unit that takes a lock meets all that the laws ask of a program.
-use Rattle.std.proofs.Common.{◌≡◌, ◌∙◌, ℕ, zero, suc, Bool, true, false, List, [], ◌∷◌, Option, Some, None, ◌⊎◌, inl, inr, refl, ap, sym, subst, arith}
+use Rattle.std.proofs.Common.{◌≡◌, ◌∙◌, ℕ, zero, suc, Bool, true, false, List, [], ◌∷◌, length, ◌≤◌, ◌^◌, Some, None, inl, option_and_then, slice_get, refl, ap, sym, subst, arith, leb-true}
 use Rattle.std.specs.Prelude.{All, AllPairs, Contains, IsSome}
 use Rattle.tsa_tree.specs.declared.attr.AttrKind.{AttrKind}
 use Rattle.tsa_tree.specs.declared.attr.AttrKind.TheVariants as attr
-use Rattle.tsa_tree.specs.declared.expr.BinaryOp.{BinaryOp}
-use Rattle.tsa_tree.specs.declared.kind.Kind.{Kind}
 use Rattle.tsa_tree.specs.declared.kind.Kind.TheVariants as type
 use Rattle.tsa_way.specs.Ways.{Way}
-use Rattle.tsa_core.specs.Bodies.{Action, Body, set_local, evaluate, set_cell, go_on, can_have}
-use Rattle.tsa_core.specs.Control.{Edge, Outcome, Next, Yes, No, Rest, Chosen, next_point}
+use Rattle.tsa_core.specs.Bodies.{Body, go_on}
 use Rattle.tsa_core.specs.Meanings.{Call}
 use Rattle.tsa_core.specs.Programs.{Attr, Function}
-use Rattle.tsa_core.specs.Terms.{Term, answer}
+use Rattle.tsa_core.specs.Terms.{Term, address, answer}
+use Rattle.tsa_core.specs.Terms as term
 use Rattle.tsa_rules.specs.Texts.{global}
 use Rattle.tsa_core.proofs.Worked.{worked}
 use Rattle.tsa_rules.specs.KeptLaws.{locked_write}
+use Rattle.tsa_path.specs.Substitution.{as_pointer, given}
 use Rattle.tsa_rules.specs.Points.{attrs_at, edges_of, function_at, point_at, uses_at}
 use Rattle.tsa_rules.specs.Sheets.{passes}
 use Rattle.tsa_rules.proofs.Sheets.{sheets_that_pass_are_kept}
 use Rattle.tsa_mean.proofs.Lists.{all_more, all_none}
 use Rattle.tsa_mean.proofs.Worked.{turned}
+use Rattle.tsa_sound.specs.CallFacts.{CallFacts, first_pointed, of_lock}
 use Rattle.tsa_sound.specs.Examples.{ALockedWriteMeetsTheFacts, rows, sheet}
+use Rattle.tsa_sound.specs.BodyFacts.{AllLead, BodyFacts, MentionsParameters, SaysItsMode}
 use Rattle.tsa_sound.specs.Facts.{FunctionFacts, IsAmong, PointFacts, WritesUnder}
 use Rattle.tsa_sound.specs.FramesFit.{setting_behind, setting_with, stable_of}
 use Rattle.tsa_sound.specs.TermFacts.{AllFit, AllLoad, Loads, TermFits}
-use Rattle.tsa_sound.specs.PartlyWorked.{guard_ways}
+use Rattle.tsa_sound.specs.PartlyWorked.{guard_ways, target_way}
 use Rattle.tsa_sound.proofs.Sums.{first_in}
+use Rattle.tsa_path.specs.Laws.{IsSmall}
 use Rattle.tsa_path.specs.Sameness.{same_way}
+use Rattle.tsa_rules.specs.Attributes.{claim_count}
 use Rattle.tsa_sound.proofs.Constants.{differ}
+use Rattle.tsa_sound.proofs.ExampleForms.{OfCall, OfSet, assigns, for_call, for_set, goes_next, joins, no_assign, no_call, no_declaration, no_join, nothing_loaded}
 use Rattle.tsa_sound.proofs.ExampleLayout.{laid_out}
 use Rattle.tsa_sound.proofs.Tests.{none_is_some, same_some}
-
--- the call of a point, where it has one
-OfCall : (Call → Type 0) → Option Call → Type 0
-OfCall P None = Unit {0}
-OfCall P (Some c) = P c
-
-for_call : (P : Call → Type 0) (o : Option Call) → OfCall P o → (c : Call) → o ≡ Some c → P c
-unfolding OfCall
-for_call P None h c e = none_is_some e
-for_call P (Some d) h c e = subst P (same_some e) h
-
-no_call : {A : Type 0} → IsSome {T = Call} None → A
-no_call h = absurd cc
-
--- the place that an action sets, where it sets a cell
-OfSet : (Term → Type 0) → Action → Type 0
-OfSet P (set_cell place o kind x) = P place
-OfSet P action = Unit {0}
-
-for_set : (P : Term → Type 0) (action : Action) → OfSet P action → (place : Term) (o : Option BinaryOp) (kind : Kind) (x : Term) → action ≡ set_cell place o kind x → P place
-unfolding OfSet
-for_set P action h place o kind x e = subst (OfSet P) e h
-
--- the local that an action assigns, with an operator or without
-assigns : Action → Option ℕ
-assigns (set_local n o kind x) = Some n
-assigns action = None
-
-no_assign : {A : Type 0} (action : Action) → assigns action ≡ None → (n : ℕ) (o : Option BinaryOp) (kind : Kind) (x : Term) → action ≡ set_local n o kind x → A
-unfolding assigns
-no_assign action is n o kind x e = none_is_some (sym is ∙ ap assigns e)
-
--- whether an action sets a cell with an operator
-joins : Action → Bool
-joins (set_cell place (Some o) kind x) = true
-joins action = false
-
-no_join : {A : Type 0} (action : Action) → joins action ≡ false → (place : Term) (o : BinaryOp) (kind : Kind) (x : Term) → action ≡ set_cell place (Some o) kind x → A
-unfolding joins
-no_join action is place o kind x e = differ (sym is ∙ ap joins e)
-
--- an action that only goes on
-goes_next : (es : List Edge) (p : ℕ) (x : Term) → IsSome (next_point es p Next) → (o : Outcome) → can_have (evaluate x) o ≡ true → IsSome (next_point es p o)
-goes_next es p x h Next e = h
-goes_next es p x h Yes e = differ e
-goes_next es p x h No e = differ e
-goes_next es p x h Rest e = differ e
-goes_next es p x h (Chosen z) e = differ e
-
-nothing_loaded : {A : Type 0} → ⊥ ⊎ ⊥ → A
-nothing_loaded (inl a) = absurd a
-nothing_loaded (inr a) = absurd a
 
 -- the function, and its points
 abbrev w : Function
@@ -107,6 +59,50 @@ giving_is_silent : SilentCall 2
 unfolding turned OfCall
 giving_is_silent = (((refl, tt), tt), λ b q l. nothing_loaded l)
 
+-- the attributes of the calls
+taken_attrs : ◌≡◌ {A = List Attr} (record { kind = attr.Acquire; success = false; path = Some (global 0) } ∷ []) (attrs_at locked_write w 0)
+unfolding worked
+taken_attrs = refl
+
+given_attrs : ◌≡◌ {A = List Attr} (record { kind = attr.Release; success = false; path = Some (global 0) } ∷ []) (attrs_at locked_write w 2)
+unfolding worked
+given_attrs = refl
+
+has_path : (kind : AttrKind) → All (λ (a : Attr). IsSome a.path) (record { kind = kind; success = false; path = Some (global 0) } ∷ [])
+has_path kind = all_more (λ (a : Attr). IsSome a.path) (record { kind = kind; success = false; path = Some (global 0) }) [] refl (all_none (λ (a : Attr). IsSome a.path))
+
+-- the one argument leads to the lock
+first_argument : (k : ℕ) (x : Term) (w' : Way) → slice_get (address (term.global 0) ∷ []) k ≡ Some x → option_and_then as_pointer (given (Some (global 0) ∷ []) k) ≡ Some w'
+    → target_way (stable_of w.body) x ≡ Some w'
+first_argument zero x w' arg way = ap (target_way (stable_of w.body)) (sym (same_some arg)) ∙ way
+first_argument (suc k) x w' arg way = none_is_some arg
+
+taking_calls : OfCall (λ c. CallFacts locked_write w 0 c) (point_at w 0).call
+unfolding turned OfCall
+taking_calls = record {
+  acts = tt;
+  gives = λ uses. absurd uses;
+  asks = λ k e. none_is_some e;
+  tries = λ e. differ e;
+  declares = λ n kind x e. no_declaration (point_at w 0).action refl n kind x e;
+  named = subst (All (λ (a : Attr). IsSome a.path)) taken_attrs (has_path attr.Acquire);
+  arguments = λ k struct to_const x w' params arg way. first_argument k x w' arg way;
+  outside = λ none. of_lock (record { kind = attr.Acquire; success = false; path = Some first_pointed }) 0 false refl refl refl refl (inl refl);
+}
+
+giving_calls : OfCall (λ c. CallFacts locked_write w 2 c) (point_at w 2).call
+unfolding turned OfCall
+giving_calls = record {
+  acts = tt;
+  gives = λ uses. absurd uses;
+  asks = λ k e. none_is_some e;
+  tries = λ e. differ e;
+  declares = λ n kind x e. no_declaration (point_at w 2).action refl n kind x e;
+  named = subst (All (λ (a : Attr). IsSome a.path)) given_attrs (has_path attr.Release);
+  arguments = λ k struct to_const x w' params arg way. first_argument k x w' arg way;
+  outside = λ none. of_lock (record { kind = attr.Release; success = false; path = Some first_pointed }) 0 false refl refl refl refl (inl refl);
+}
+
 taking : PointFacts locked_write sheet.paths w 0
 unfolding turned joins assigns OfSet
 taking = record {
@@ -127,6 +123,7 @@ taking = record {
       (point_at w 0).action tt place o kind x e;
   silent = λ b q some l. absurd l;
   goes_on = λ o some can. goes_next (edges_of w) 0 answer refl o can;
+  calls = λ c e. for_call (λ c. CallFacts locked_write w 0 c) (point_at w 0).call taking_calls c e;
 }
 
 giving : PointFacts locked_write sheet.paths w 2
@@ -149,6 +146,7 @@ giving = record {
       (point_at w 2).action tt place o kind x e;
   silent = λ b q some l. absurd l;
   goes_on = λ o some can. goes_next (edges_of w) 2 answer refl o can;
+  calls = λ c e. for_call (λ c. CallFacts locked_write w 2 c) (point_at w 2).call giving_calls c e;
 }
 
 writing : PointFacts locked_write sheet.paths w 1
@@ -172,6 +170,7 @@ writing = record {
       place o kind x e;
   silent = λ b q some l. no_call some;
   goes_on = λ o some can. no_call some;
+  calls = λ c e. none_is_some e;
 }
 
 -- the end
@@ -195,6 +194,7 @@ ending = record {
       (point_at w 3).action tt place o kind x e;
   silent = λ b q some l. no_call some;
   goes_on = λ o some can. no_call some;
+  calls = λ c e. none_is_some e;
 }
 
 -- behind the end nothing stands
@@ -218,6 +218,7 @@ beyond p = record {
       (guard_ways (setting_behind locked_write w (point_at w (suc (suc (suc (suc p)))))) (stable_of w.body) q)) go_on tt place o kind x e;
   silent = λ b q some l. no_call some;
   goes_on = λ o some can. no_call some;
+  calls = λ c e. none_is_some e;
 }
 
 points : (p : ℕ) → PointFacts locked_write sheet.paths w p
@@ -239,14 +240,6 @@ IsNamed a = IsAmong sheet.paths a.path
 one_named : (kind : AttrKind) → All IsNamed (record { kind = kind; success = false; path = Some (global 0) } ∷ [])
 one_named kind = all_more IsNamed (record { kind = kind; success = false; path = Some (global 0) }) [] first_among (all_none IsNamed)
 
-taken_attrs : ◌≡◌ {A = List Attr} (record { kind = attr.Acquire; success = false; path = Some (global 0) } ∷ []) (attrs_at locked_write w 0)
-unfolding worked
-taken_attrs = refl
-
-given_attrs : ◌≡◌ {A = List Attr} (record { kind = attr.Release; success = false; path = Some (global 0) } ∷ []) (attrs_at locked_write w 2)
-unfolding worked
-given_attrs = refl
-
 named : (p : ℕ) → All IsNamed (attrs_at locked_write w p)
 unfolding worked
 named zero = subst (All IsNamed) taken_attrs (one_named attr.Acquire)
@@ -254,6 +247,42 @@ named (suc zero) = all_none IsNamed
 named (suc (suc zero)) = subst (All IsNamed) given_attrs (one_named attr.Release)
 named (suc (suc (suc zero))) = all_none IsNamed
 named (suc (suc (suc (suc p)))) = all_none IsNamed
+
+-- the arguments lead to the lock
+abbrev Leads : ℕ → Type 0
+Leads p = OfCall (λ c. AllLead (stable_of w.body) c.args (uses_at w p).arguments) (point_at w p).call
+
+taking_leads : Leads 0
+unfolding turned OfCall
+taking_leads = (refl, tt)
+
+giving_leads : Leads 2
+unfolding turned OfCall
+giving_leads = (refl, tt)
+
+leads : (p : ℕ) (c : Call) → (point_at w p).call ≡ Some c → AllLead (stable_of w.body) c.args (uses_at w p).arguments
+unfolding turned OfCall
+leads zero c e = for_call (λ c. AllLead (stable_of w.body) c.args (uses_at w 0).arguments) (point_at w 0).call taking_leads c e
+leads (suc zero) c e = none_is_some e
+leads (suc (suc zero)) c e = for_call (λ c. AllLead (stable_of w.body) c.args (uses_at w 2).arguments) (point_at w 2).call giving_leads c e
+leads (suc (suc (suc zero))) c e = none_is_some e
+leads (suc (suc (suc (suc p)))) c e = none_is_some e
+
+none_claimed : (c : Way) → claim_count [] c ≤ 1
+none_claimed c = omega arith
+
+-- it has no attributes, no locals and no value
+body_facts : BodyFacts w
+unfolding worked
+body_facts = record {
+  named = all_none (λ (a : Attr). IsSome a.path);
+  parameters = all_none (λ (a : Attr). MentionsParameters 0 a.path);
+  once = none_claimed;
+  modes = all_none (λ (a : Attr). SaysItsMode a.kind);
+  scalars = λ n kind e. none_is_some e;
+  result = λ e. differ e;
+  answers = λ e. differ e;
+}
 
 function_facts : FunctionFacts locked_write rows 2
 unfolding worked
@@ -263,7 +292,13 @@ function_facts = record {
   own = all_none IsNamed;
   called = named;
   points = points;
+  entered = body_facts;
+  leads = leads;
 }
+
+few_places : IsSmall locked_write.layout
+unfolding worked
+few_places = leb-true (length locked_write.layout.places) (2 ^ 31) refl
 
 no_body : {A : Type 0} → IsSome {T = Body} None → A
 no_body h = absurd cc
@@ -276,4 +311,4 @@ with_body (suc (suc zero)) h = function_facts
 with_body (suc (suc (suc n))) h = no_body h
 
 pub a_locked_write_meets_the_facts : ALockedWriteMeetsTheFacts
-a_locked_write_meets_the_facts = record { laid = laid_out; functions = with_body }
+a_locked_write_meets_the_facts = record { laid = laid_out; small = few_places; functions = with_body }

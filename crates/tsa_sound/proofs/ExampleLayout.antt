@@ -22,7 +22,7 @@ use Rattle.tsa_sound.proofs.Constants.{differ}
 use Rattle.tsa_sound.proofs.Tests.{none_is_some, same_some}
 
 -- a part of a name, and its place
-record Names : Type 0 where
+pub record Names : Type 0 where
   pub name : List ℕ
   pub span : Span
   pub initial : Value
@@ -37,7 +37,7 @@ not_zero : (n : ℕ) → nat_eq (suc n) 0 ≡ false
 not_zero n = grind (arith, nat_tests)
 
 -- a lock with one member, and a number under it
-abbrev layout : (inner lock number : Names) → Layout
+abbrev pub layout : (inner lock number : Names) → Layout
 layout inner lock number = record {
   structs = record { is_lock = true; members = number_part inner [] ∷ [] } ∷ [];
   globals =
@@ -137,7 +137,7 @@ module _ (inner lock number : Names) where
       by true is e = differ (sym is)
       by false is e = none_is_some e
 
-  all_laid_out : LaidOut l
+  pub all_laid_out : LaidOut l
   all_laid_out = record {
     globals = globals;
     members = λ owner struct k place p part e is f g. (members owner struct k place p part e is f g).0;
@@ -151,7 +151,7 @@ module _ (inner lock number : Names) where
   }
 
 -- what the unit has
-abbrev names_of : Option Part → Option Placed → Names
+abbrev pub names_of : Option Part → Option Placed → Names
 names_of (Some part) (Some p) = record { name = part.name; span = part.span; initial = p.initial }
 names_of part p = record { name = []; span = record { from = 0; to = 0 }; initial = Pointer None }
 

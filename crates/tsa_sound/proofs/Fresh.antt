@@ -43,7 +43,8 @@ module _ (k : Setting) (stable : ℕ → Bool) (locals : Locals) where
   left_self None = tt
   left_self (Some x) = worked_self x
 
-no_old : (l : Layout) (action : Action) → OldFits l action None
+-- no old value is known yet
+pub no_old : (l : Layout) (action : Action) → OldFits l action None
 no_old l (set_cell place o kind x) = tt
 no_old l (evaluate x) = tt
 no_old l (set_local n o kind x) = tt

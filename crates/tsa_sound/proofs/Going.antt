@@ -41,6 +41,7 @@ module _ (u : Program) (x : ProgramRows) (held : Holds) (frame : Frame) (below :
         leads = λ c i. inr refl;
         answers = λ c v i pending. fits.top.answers c v i (now_is c ∙ pending);
         typed = fits.top.typed;
+        whole = fits.top.whole;
         steady = fits.top.steady;
       }
       went_by (Some q) is =
@@ -53,6 +54,7 @@ module _ (u : Program) (x : ProgramRows) (held : Holds) (frame : Frame) (below :
             answers = λ c v i pending. fits.top.answers c v i
                 (now_is c ∙ pends c v (sym (facts.kept.goes_along frame.point q o c fits.top.listed there i) ∙ pending));
             typed = fits.top.typed;
+            whole = fits.top.whole;
             steady = fits.top.steady;
           }
 

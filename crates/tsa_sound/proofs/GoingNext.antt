@@ -58,5 +58,6 @@ module _ (u : Program) (x : ProgramRows) (held : Holds) (frame : Frame) (below :
     leads = λ c i. inr refl;
     answers = λ c v i e. fits.top.answers c v i (sym (next_is.row c i) ∙ e);
     typed = fits.top.typed;
+    whole = fits.top.whole;
     steady = fits.top.steady;
   }

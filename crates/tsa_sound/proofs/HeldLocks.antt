@@ -32,7 +32,7 @@ total_has f (y ∷ ys) x i = by i.0 i.1 i.2 (λ k l is. total_has f ys x (k, l, 
 abbrev pub IsHeldBy : Holds → ℕ → Type 0
 IsHeldBy held lock = (mode : Mode) × (0 < held lock mode)
 
-hold_is : (u : Program) (frame : Frame) (c : Way) (s : Status) (lock : ℕ) (mode : Mode) → lock_in u frame.locals c ≡ Some lock → hold u frame.locals c s lock mode ≡ units s mode
+pub hold_is : (u : Program) (frame : Frame) (c : Way) (s : Status) (lock : ℕ) (mode : Mode) → lock_in u frame.locals c ≡ Some lock → hold u frame.locals c s lock mode ≡ units s mode
 hold_is u frame c s lock mode is =
     ap (λ o. if_lock lock o (units s mode)) is ∙ ap (λ (b : Bool). if b then units s mode else 0) (eq-eqb lock lock refl)
 

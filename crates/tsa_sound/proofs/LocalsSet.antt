@@ -1,5 +1,5 @@
 -- What a local that is set leaves of paths and of what is settled.
-use Rattle.std.proofs.Common.{◌≡◌, ◌∙◌, ℕ, zero, suc, nat_eq, Bool, true, false, ◌||◌, List, [], ◌∷◌, Option, Some, None, option_map, option_and_then, slice_get, if◌then◌else◌, inl, inr, refl, ap, sym, subst, eq-eqb}
+use Rattle.std.proofs.Common.{◌≡◌, ◌∙◌, ℕ, zero, suc, ◌<◌, nat_eq, Bool, true, false, ◌||◌, List, [], ◌∷◌, length, Option, Some, None, option_map, option_and_then, slice_get, if◌then◌else◌, inl, inr, refl, ap, sym, subst, arith, eq-eqb}
 use Rattle.std.specs.List.{list_any}
 use Rattle.std.specs.Prelude.{All, IsSome}
 use Rattle.tsa_base.specs.declared.value.Value.{Value}
@@ -36,6 +36,18 @@ locals_keep P (y ∷ ys) zero v all new zero = new
 locals_keep P (y ∷ ys) zero v all new (suc j) = all (suc j)
 locals_keep P (y ∷ ys) (suc i) v all new zero = all zero
 locals_keep P (y ∷ ys) (suc i) v all new (suc j) = locals_keep (λ k. P (suc k)) ys i v (λ k. all (suc k)) new j
+
+-- a local that is set is one of as many
+pub set_length : (xs : Locals) (i : ℕ) (v : Value) → length (with_local xs i v) ≡ length xs
+set_length [] i v = refl
+set_length (y ∷ ys) zero v = refl
+set_length (y ∷ ys) (suc i) v = ap suc (set_length ys i v)
+
+-- and has the value to which it is set
+pub set_local_at : (xs : Locals) (i : ℕ) (v : Value) → i < length xs → local_at (with_local xs i v) i ≡ v
+set_local_at [] i v l = absurd (omega (arith, l))
+set_local_at (y ∷ ys) zero v l = refl
+set_local_at (y ∷ ys) (suc i) v l = set_local_at ys i v (omega (arith, l))
 
 neither : (a b : Bool) → (a || b) ≡ false → (a ≡ false) × (b ≡ false)
 neither true b e = differ (sym e)

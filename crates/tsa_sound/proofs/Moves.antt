@@ -1,9 +1,10 @@
 -- A frame that goes to another point.
-use Rattle.std.proofs.Common.{◌≡◌, ◌∙◌, ℕ, ◌+◌, true, List, [], ◌∷◌, ◌⊎◌, inl, inr, ap, sym, subst}
+use Rattle.std.proofs.Common.{◌≡◌, ◌∙◌, ℕ, ◌+◌, ◌≤◌, true, List, [], ◌∷◌, length, ◌⊎◌, inl, inr, ap, sym, subst}
 use Rattle.std.specs.Prelude.{All, Contains, IsSome, slice_get}
 use Rattle.tsa_way.specs.Ways.{Way}
 use Rattle.tsa_core.specs.Programs.{Program}
 use Rattle.tsa_rules.specs.declared.status.Status.TheVariants.{Free, Lent, Pending}
+use Rattle.tsa_rules.specs.Attributes.{local_kinds}
 use Rattle.tsa_rules.specs.Points.{try_variables}
 use Rattle.tsa_locks.specs.Locks.{Mode}
 use Rattle.tsa_mean.specs.Frames.{frame_at}
@@ -16,7 +17,8 @@ use Rattle.tsa_sound.specs.SettledStatuses.{lock_in, lock_named, settled}
 use Rattle.tsa_sound.proofs.Fresh.{fresh_status, work_fits}
 use Rattle.tsa_sound.proofs.Sums.{holds_same}
 
-free_is_not_lent : {A : Type 0} → Free ≡ Lent → A
+-- free and lent differ
+pub free_is_not_lent : {A : Type 0} → Free ≡ Lent → A
 free_is_not_lent e = cc
 
 -- What is to be known of a frame that goes to a point with some locals: it is listed, settled statuses stay, and what isn't free leads where it led.
@@ -29,6 +31,7 @@ pub record Goes (u : Program) (x : ProgramRows) (frame : Frame) (locals : Locals
   pub answers : (c : Way) (v : ℕ) → Contains (paths_of x frame) c → (x.rows frame.function).status q c ≡ Pending v
       → IsDecided u (function_of u frame) locals c (slice_get (try_variables u (function_of u frame)) v)
   pub typed : LocalsFit u (function_of u frame) locals
+  pub whole : length (local_kinds (function_of u frame)) ≤ length locals
   pub steady : All (λ a. lock_of u frame a ≡ lock_named u locals a) (attrs_of u frame)
 
 module _ (u : Program) (x : ProgramRows) (frame : Frame) (below : List Frame) (locals : Locals) (q : ℕ) (go : Goes u x frame locals q) where
@@ -63,6 +66,7 @@ module _ (u : Program) (x : ProgramRows) (frame : Frame) (below : List Frame) (l
       lent = lent;
       answers = λ c v i is. go.answers c v i (sym (at_row c) ∙ is);
       typed = go.typed;
+      whole = go.whole;
       owed = top.owed;
       steady = go.steady;
       at_call = top.at_call;

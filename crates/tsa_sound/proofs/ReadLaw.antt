@@ -70,6 +70,7 @@ module _ (u : Program) (x : ProgramRows) (held : Holds) (frame : Frame) (below :
     lent = top.lent;
     answers = top.answers;
     typed = top.typed;
+    whole = top.whole;
     owed = top.owed;
     steady = top.steady;
     at_call = top.at_call;

@@ -88,7 +88,7 @@ module _ (k : Setting) (stable : ℕ → Bool) (locals : Locals) where
       subst (λ s. take_step k.layout (values locals) s (Place from) ≡ Some (Place to)) (same_some e) (ap (option_map Place) is)
 
   -- a constant index is worked out to its number
-  constant_value : (x y : Term) (number : Number) (v : Value) (c : Bool) → is_constant x ≡ c → (r : Result Number Trap) → constant_result x ≡ r
+  pub constant_value : (x y : Term) (number : Number) (v : Value) (c : Bool) → is_constant x ≡ c → (r : Result Number Trap) → constant_result x ≡ r
       → (if c then without_trap r else None) ≡ Some number → Worked x y → rvalue k.layout locals y ≡ yields v → v ≡ of_number number
   constant_value x y number v false is_c r is e worked value = none_is_some e
   constant_value x y number v true is_c (Err why) is e worked value = none_is_some e

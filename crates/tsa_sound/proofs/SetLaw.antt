@@ -1,5 +1,5 @@
 -- Locals that are set: paths that aren't free lead where they led, and what was tried stays known.
-use Rattle.std.proofs.Common.{◌≡◌, ◌∙◌, ℕ, nat_eq, Bool, true, false, List, Option, Some, None, slice_get, ◌⊎◌, inl, inr, refl, ap, sym, subst}
+use Rattle.std.proofs.Common.{◌≡◌, ◌∙◌, ℕ, ◌≤◌, nat_eq, Bool, true, false, List, length, Option, Some, None, slice_get, ◌⊎◌, inl, inr, refl, ap, sym, subst}
 use Rattle.std.specs.Prelude.{Contains}
 use Rattle.tsa_base.specs.declared.value.Value.{Value}
 use Rattle.tsa_tree.specs.declared.kind.Kind.{Kind}
@@ -38,7 +38,7 @@ use Rattle.tsa_sound.proofs.Comes.{SetSource, of_assigned, of_declared, of_joine
 use Rattle.tsa_sound.proofs.Fresh.{later_uncalled}
 use Rattle.tsa_sound.proofs.Going.{comes_from}
 use Rattle.tsa_sound.proofs.GoingNext.{next_is}
-use Rattle.tsa_sound.proofs.LocalsSet.{all_of_both, decided_stays, locals_keep, lock_stays, named_stays, settled_stays}
+use Rattle.tsa_sound.proofs.LocalsSet.{all_of_both, decided_stays, locals_keep, lock_stays, named_stays, set_length, settled_stays}
 use Rattle.tsa_sound.proofs.Moves.{Goes, goes}
 use Rattle.tsa_sound.proofs.Says.{bound}
 use Rattle.tsa_sound.proofs.Tests.{same_some}
@@ -162,6 +162,7 @@ module _ (u : Program) (x : ProgramRows) (held : Holds) (frame : Frame) (below :
           answers = λ c w i e. decided_stays u frame.locals n v (function_of u frame) c tries w (fits.top.answers c w i (sym (next.row c i) ∙ e));
           typed = locals_keep (λ j w. (kind : Kind) → slice_get (local_kinds (function_of u frame)) j ≡ Some kind → is_value_of u.layout kind w ≡ true) frame.locals n v fits.top.typed
               (λ kind e. subst (λ kind. is_value_of u.layout kind v ≡ true) (same_some (sym set.known ∙ e)) set.value);
+          whole = subst (λ n. length (local_kinds (function_of u frame)) ≤ n) (sym (set_length frame.locals n v)) fits.top.whole;
           steady = all_of_both (λ a. lock_of u frame a ≡ lock_named u frame.locals a) (λ a. IsUnmentioned n a.path) (λ a. lock_of u frame a ≡ lock_named u (with_local frame.locals n v) a)
               (λ a same not. same ∙ sym (named_stays u frame.locals n v a.path not)) (attrs_of u frame) fits.top.steady (points.attributes n set.sets);
         }

@@ -37,7 +37,7 @@ never_yields e = absurd cc
 pub read_yields : {A B : Type 0} {place : ℕ} {b : A} → ◌≡◌ {A = Out A} (reads place) (yields b) → B
 read_yields e = absurd cc
 
-answers : (n : ℕ) (b : Bool) → yes_or_no n ≡ Some b → n ≡ number b
+pub answers : (n : ℕ) (b : Bool) → yes_or_no n ≡ Some b → n ≡ number b
 answers n b e = by (nat_eq n 1) refl (nat_eq n 0) refl e
   where
     by : (one : Bool) → nat_eq n 1 ≡ one → (zero : Bool) → nat_eq n 0 ≡ zero → (if one then Some true else if zero then Some false else None) ≡ Some b → n ≡ number b

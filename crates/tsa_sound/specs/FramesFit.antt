@@ -1,5 +1,5 @@
 -- What holds of each frame of a thread, over what the frames below it own.
-use Rattle.std.specs.Prelude.{◌≡◌, ◌⊎◌, ◌+◌, ◌<◌, ℕ, Bool, true, false, Contains, List, [], ◌∷◌, Option, Some, None, IsSome, All, slice_get}
+use Rattle.std.specs.Prelude.{◌≡◌, ◌⊎◌, ◌+◌, ◌<◌, ◌≤◌, ℕ, Bool, true, false, Contains, List, [], ◌∷◌, length, Option, Some, None, IsSome, All, slice_get}
 use Rattle.tsa_tree.specs.declared.attr.AttrKind.{AttrKind}
 use Rattle.tsa_tree.specs.declared.attr.AttrKind.TheVariants as attr
 use Rattle.tsa_tree.specs.declared.kind.Kind.{Kind}
@@ -112,6 +112,8 @@ pub record FrameFits (u : Program) (x : ProgramRows) (below : Holds) (frame : Fr
   pub answers : (c : Way) (v : ℕ) → Contains (paths_of x frame) c → status c ≡ Pending v
       → IsDecided u (function_of u frame) frame.locals c (slice_get (try_variables u (function_of u frame)) v)
   pub typed : LocalsFit u (function_of u frame) frame.locals
+  -- and stands in the frame
+  pub whole : length (local_kinds (function_of u frame)) ≤ length frame.locals
   -- what the function owes its caller, or was handed over by it, is a lock
   pub owed : All (λ a. (entry_by (Some a.kind) ≡ Free → ⊥) → IsSome (lock_of u frame a)) (attrs_of u frame)
   -- its attributes name what they named with the arguments of the call

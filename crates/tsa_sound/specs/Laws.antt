@@ -1,10 +1,11 @@
 -- Each turn keeps the invariant, and is no violation.
-use Rattle.std.specs.Prelude.{◌≡◌, ℕ, false, List, Option, Some, None}
+use Rattle.std.specs.Prelude.{◌≡◌, ℕ, false, List, Option, Some, None, All}
 use Rattle.tsa_core.specs.Programs.{Program}
 use Rattle.tsa_sched.specs.declared.event.EventKind.TheVariants as event
 use Rattle.tsa_sched.specs.declared.pick.Pick.{Pick}
-use Rattle.tsa_mean.specs.Acts.{Act, act_of, to_branch, to_read, to_set, to_write, to_step, to_choose, to_trap}
+use Rattle.tsa_mean.specs.Acts.{Act, act_of, to_branch, to_read, to_set, to_write, to_step, to_choose, to_trap, to_take, to_try, to_give, to_ask, to_enter, to_leave}
 use Rattle.tsa_mean.specs.Runs.{step}
+use Rattle.tsa_mean.specs.Sound.{IsPick, SoundRun, Start}
 use Rattle.tsa_mean.specs.States.{Frame, State, Thread, running, trapped, ended, thread_at}
 use Rattle.tsa_sound.specs.Facts.{ProgramFacts}
 use Rattle.tsa_sound.specs.FramesFit.{ProgramRows}
@@ -76,3 +77,52 @@ IsBranch act = ⊥
 abbrev pub IsChoice : Act → Type 0
 IsChoice (to_choose v) = Unit {0}
 IsChoice act = ⊥
+
+-- a lock is taken, tried, or given back
+abbrev pub IsTake : Act → Type 0
+IsTake (to_take mode lock) = Unit {0}
+IsTake act = ⊥
+
+abbrev pub IsTry : Act → Type 0
+IsTry (to_try mode success lock) = Unit {0}
+IsTry act = ⊥
+
+abbrev pub IsGive : Act → Type 0
+IsGive (to_give mode lock) = Unit {0}
+IsGive act = ⊥
+
+-- the environment is called
+abbrev pub IsAsk : Act → Type 0
+IsAsk (to_ask function result) = Unit {0}
+IsAsk act = ⊥
+
+-- it answers with an `int`, which is converted
+abbrev pub EnvironmentCallsGoWell : Type 0
+EnvironmentCallsGoWell = (u : Program) (x : ProgramRows) (s : State) (pick : Pick) (act : Act) → IsPick pick → ProgramFacts u x → Invariant u x s → TakesTurn u s pick act
+    → IsAsk act → GoesWell u x s pick
+
+-- a function with a body is called
+abbrev pub IsEnter : Act → Type 0
+IsEnter (to_enter function args) = Unit {0}
+IsEnter act = ⊥
+
+-- a function returns
+abbrev pub IsLeave : Act → Type 0
+IsLeave (to_leave answer) = Unit {0}
+IsLeave act = ⊥
+
+-- every turn goes well, whatever its thread does next
+abbrev pub EveryTurnGoesWell : Type 0
+EveryTurnGoesWell = (u : Program) (x : ProgramRows) (s : State) (pick : Pick) → IsPick pick → ProgramFacts u x → Invariant u x s → GoesWell u x s pick
+
+-- so every run from a state with the invariant is sound
+abbrev pub RunsAreSound : Type 0
+RunsAreSound = (u : Program) (x : ProgramRows) (s : State) (picks : List Pick) → ProgramFacts u x → Invariant u x s → All IsPick picks → SoundRun u s picks
+
+-- every start has the invariant
+abbrev pub StartsHaveTheInvariant : Type 0
+StartsHaveTheInvariant = (u : Program) (x : ProgramRows) (s : State) → ProgramFacts u x → Start u s → Invariant u x s
+
+-- and so every run from a start is sound
+abbrev pub ProgramsAreSound : Type 0
+ProgramsAreSound = (u : Program) (x : ProgramRows) (s : State) (picks : List Pick) → ProgramFacts u x → Start u s → All IsPick picks → SoundRun u s picks

@@ -4,6 +4,8 @@ pub mod FramesFit
 pub mod Invariant
 pub mod LaidOut
 pub mod TermFacts
+pub mod CallFacts
+pub mod BodyFacts
 pub mod Facts
 pub mod Laws
 pub mod Examples

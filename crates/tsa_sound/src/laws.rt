@@ -1,6 +1,6 @@
 //! The laws of turns.
-ghost use Rattle.tsa_sound.specs.Examples.{ALockedWriteMeetsTheFacts};
-ghost use Rattle.tsa_sound.specs.Laws.{IsBranch, IsChoice, IsRead, IsSet, IsStep, IsTrap, IsWrite, ThreadsThatDoNotRunGoWell, TurnsGoWell, WaitsGoWell};
+ghost use Rattle.tsa_sound.specs.Examples.{ACallMeetsTheFacts, ALockedWriteMeetsTheFacts};
+ghost use Rattle.tsa_sound.specs.Laws.{EnvironmentCallsGoWell, EveryTurnGoesWell, IsBranch, IsChoice, IsEnter, IsGive, IsLeave, IsRead, IsSet, IsStep, IsTake, IsTrap, IsTry, IsWrite, ProgramsAreSound, RunsAreSound, StartsHaveTheInvariant, ThreadsThatDoNotRunGoWell, TurnsGoWell, WaitsGoWell};
 
 /// A turn of a thread that isn't there, has ended or has stopped for good keeps the invariant, and so does one that waits and one that traps; none of them is
 /// a violation.
@@ -43,4 +43,60 @@ pub fn writes_go_well()
 /// A turn that sets a local keeps the invariant, and is no violation.
 pub fn sets_go_well()
     ensures { TurnsGoWell IsSet }
+{}
+
+/// A turn that takes a lock, or waits for it, keeps the invariant, and is no violation.
+pub fn takings_go_well()
+    ensures { TurnsGoWell IsTake }
+{}
+
+/// A turn that tries to take a lock keeps the invariant, and is no violation: whether it took the lock is told by the answer.
+pub fn tries_go_well()
+    ensures { TurnsGoWell IsTry }
+{}
+
+/// A turn that gives a lock back keeps the invariant, and is no violation: its thread holds the lock, in the mode in which it gives it back.
+pub fn givings_go_well()
+    ensures { TurnsGoWell IsGive }
+{}
+
+/// A turn that calls the environment keeps the invariant, and is no violation.
+pub fn environment_calls_go_well()
+    ensures { EnvironmentCallsGoWell }
+{}
+
+/// A turn that calls a function with a body keeps the invariant, and is no violation: what the caller hands over is what the function begins with. So does one
+/// that finds no room for a frame more.
+pub fn calls_go_well()
+    ensures { TurnsGoWell IsEnter }
+{}
+
+/// A turn in which a function returns keeps the invariant, and is no violation: its holds are as it declares, and its caller goes on with them.
+pub fn returns_go_well()
+    ensures { TurnsGoWell IsLeave }
+{}
+
+/// Every turn keeps the invariant, and is no violation.
+pub fn every_turn_goes_well()
+    ensures { EveryTurnGoesWell }
+{}
+
+/// From a state with the invariant no run tells of a violation, and none leads to a race.
+pub fn runs_are_sound()
+    ensures { RunsAreSound }
+{}
+
+/// Every start has the invariant: each thread begins with a function that asks nothing of its caller, and no lock is held.
+pub fn starts_have_the_invariant()
+    ensures { StartsHaveTheInvariant }
+{}
+
+/// A program that has what is asked is sound: no event of any run from any start is a violation, and no state of it is a race.
+pub fn programs_are_sound()
+    ensures { ProgramsAreSound }
+{}
+
+/// A unit that takes a lock, writes what is under it and hands the lock over to a function that gives it back meets all that the laws of turns ask of a program.
+pub fn a_call_meets_the_facts()
+    ensures { ACallMeetsTheFacts }
 {}

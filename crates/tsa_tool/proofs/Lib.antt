@@ -6,3 +6,4 @@ pub mod OneReport
 pub mod TypedLaws
 pub mod Writing
 pub mod Inputs
+pub mod Soundly

@@ -15,6 +15,7 @@ use Rattle.tsa_profile.specs.Units.{refusal_of_profile}
 use Rattle.tsa_unit.specs.Parsing.{unit_of}
 use Rattle.tsa_core.specs.Programs.{program_of}
 use Rattle.tsa_rules.specs.Warnings.{HasNoWarnings}
+use Rattle.tsa_mean.specs.Sound.{Sound}
 use Rattle.tsa_tool.specs.Checks.{byte_of, fit_in}
 use Rattle.tsa_tool.specs.declared.answer.Status.TheVariants.{Accepted}
 use Rattle.tsa_tool.specs.declared.check.Refusal.TheVariants.{Lex, Syntax, Types, Places, Profile}
@@ -44,6 +45,16 @@ AcceptedUnitsBreakNoRule = (text : List ℕ) (report : Report) → IsReport (Som
 -- And such a unit is answered by `accepted`, where its text is no longer than an input may be.
 abbrev pub UnitsThatBreakNoRuleAreAccepted : Type 0
 UnitsThatBreakNoRuleAreAccepted = (text : List ℕ) (report : Report) → length text ≤ INPUT_LIMIT → IsAccepted text → IsReport (Some Check) text report → report ≡ accepted
+
+-- A text spells a unit that is fit, and sound: from any start, whoever takes the turns, no event breaks what guards and attributes say, and no two threads race.
+pub record SpellsSoundUnit (text : List ℕ) : Type 0 where
+  pub items : List UnitItem
+  pub fit : IsFit text items
+  pub sound : Sound items
+
+-- A text that `check` answers by `accepted` spells such a unit.
+abbrev pub AcceptedUnitsAreSound : Type 0
+AcceptedUnitsAreSound = (text : List ℕ) (report : Report) → IsReport (Some Check) text report → report.status ≡ Accepted → SpellsSoundUnit text
 
 -- Such a unit is judged, and another text is refused by what fails first: a byte, a token or a function, a node by its types, a declarator with too many
 -- places, or a node by the profile.

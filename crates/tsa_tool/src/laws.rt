@@ -2,7 +2,7 @@
 ghost use Rattle.tsa_tool.specs.CheckExamples.{ChecksAreAsWritten};
 ghost use Rattle.tsa_tool.specs.PrintedAgain.{PrintedIsPrintedAgain};
 ghost use Rattle.tsa_tool.specs.Reports.{OneReportIsRight};
-ghost use Rattle.tsa_tool.specs.Units.{AcceptedUnitsBreakNoRule, TextsAreRefusedByWhatFailsFirst, UnitsThatBreakNoRuleAreAccepted};
+ghost use Rattle.tsa_tool.specs.Units.{AcceptedUnitsAreSound, AcceptedUnitsBreakNoRule, TextsAreRefusedByWhatFailsFirst, UnitsThatBreakNoRuleAreAccepted};
 
 /// There is one report at most for each command and input.
 #[tactic(auto, using(crate::proofs::OneReport::one_report))]
@@ -21,6 +21,13 @@ pub fn accepted_units_break_no_rule()
 #[tactic(auto, using(crate::proofs::Accepted::quiet_units))]
 pub fn units_that_break_no_rule_are_accepted()
     ensures { UnitsThatBreakNoRuleAreAccepted }
+{}
+
+/// The unit of a text that `check` answers by `accepted` is sound: from any start, whoever takes the turns,
+/// no event breaks what guards and attributes say, and no two threads race.
+#[tactic(auto, using(crate::proofs::Soundly::accepted_units_are_sound))]
+pub fn accepted_units_are_sound()
+    ensures { AcceptedUnitsAreSound }
 {}
 
 /// A unit that is fit is judged, and another text is refused by what fails first, in the order of the stages.

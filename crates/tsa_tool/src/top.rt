@@ -1,10 +1,12 @@
 //! The top call.
-ghost use Rattle.std.specs.Prelude.{◌≡◌, ◌≤◌, map, string_bytes};
+ghost use Rattle.std.specs.Prelude.{◌≡◌, ◌≤◌, Some, map, string_bytes};
 ghost use Rattle.std.specs.Io.KnownBytes.{Keeps};
 ghost use Rattle.tsa_base.specs.Causes.{Rose};
 ghost use Rattle.tsa_tool.specs.Commands.{command_of};
 ghost use Rattle.tsa_tool.specs.Reports.{IsReport, Reads};
 ghost use Rattle.tsa_tool.specs.Runs.{OfInput, IsAnswer, Answers, ReadsItsInput, WritesFront};
+ghost use Rattle.tsa_tool.specs.Units.{SpellsSoundUnit};
+ghost use Rattle.tsa_tool.specs.declared.command.Command.TheVariants.{Check};
 
 use crate::ask::{Trouble, ask};
 use crate::command::command_from;
@@ -25,6 +27,9 @@ pub fn tool<I: Source, O: Sink>(alloc: Global, words: &[String], input: &mut I, 
         Answers (command_of (map string_bytes words.now)) bytes (O.taken out.old) (O.taken out.new) result) }
     ensures consumed { IsAnswer result → OfInput (I.left input.old) (λ bytes.
         ReadsItsInput (command_of (map string_bytes words.now)) bytes (I.left input.old) (I.left input.new)) }
+
+    // The unit of an input that is accepted is sound.
+    ensures sound { result ≡ 0 → command_of (map string_bytes words.now) ≡ Some Check → OfInput (I.left input.old) SpellsSoundUnit }
 
     // The source failed: a command that reads, and nothing was written.
     ensures reads { result ≡ 4 → Reads (command_of (map string_bytes words.now)) }

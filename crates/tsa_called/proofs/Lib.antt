@@ -1,0 +1,17 @@
+pub mod ArgumentsLead
+pub mod CallTypes
+pub mod CallsAsked
+pub mod ConditionsAsked
+pub mod DeedCalls
+pub mod Declarations
+pub mod AttributeKinds
+pub mod LockParameters
+pub mod LockFunctions
+pub mod OutsideShapes
+pub mod PlacedPoints
+pub mod TryNumbers
+pub mod LocalsBelow
+pub mod CallSignatures
+pub mod ScopesMoved
+pub mod NamedAttributes
+pub mod CallsMeet

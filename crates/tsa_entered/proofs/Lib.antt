@@ -1,0 +1,12 @@
+pub mod SmallLayouts
+pub mod ArgumentsLead
+pub mod CallsLead
+pub mod Functions
+pub mod PointsLead
+pub mod HeadScopes
+pub mod AttributesAsked
+pub mod ParametersMentioned
+pub mod JudgedHeads
+pub mod ScalarLocals
+pub mod AnswersGiven
+pub mod FunctionBodies

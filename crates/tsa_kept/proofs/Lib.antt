@@ -1,0 +1,10 @@
+pub mod Visited
+pub mod NamedPaths
+pub mod FinePaths
+pub mod StablePaths
+pub mod CountedLocals
+pub mod SetLocals
+pub mod HeadScopes
+pub mod TryLocals
+pub mod SetsApart
+pub mod Functions

@@ -1,0 +1,4 @@
+pub mod Mentions
+pub mod FreeGuards
+pub mod Guarding
+pub mod Laying

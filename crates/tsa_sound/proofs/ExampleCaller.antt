@@ -1,0 +1,340 @@
+-- A function that takes a lock and hands it over meets all that the laws ask of it.
+use Rattle.std.proofs.Common.{◌≡◌, ◌∙◌, ℕ, zero, suc, Bool, true, false, List, [], ◌∷◌, ◌≤◌, Some, None, inl, option_and_then, slice_get, refl, ap, sym, subst, arith}
+use Rattle.std.specs.List.{list_any}
+use Rattle.std.specs.Prelude.{All, AllPairs, Contains, IsSome}
+use Rattle.tsa_tree.specs.declared.attr.AttrKind.{AttrKind}
+use Rattle.tsa_tree.specs.declared.attr.AttrKind.TheVariants as attr
+use Rattle.tsa_tree.specs.declared.kind.Kind.TheVariants as type
+use Rattle.tsa_way.specs.Ways.{Way}
+use Rattle.tsa_core.specs.Bodies.{Action, Body, go_on}
+use Rattle.tsa_core.specs.Meanings.{Call}
+use Rattle.tsa_core.specs.Programs.{Attr, Function}
+use Rattle.tsa_core.specs.Terms.{Term, address, answer}
+use Rattle.tsa_core.specs.Terms as term
+use Rattle.tsa_rules.specs.Texts.{global}
+use Rattle.tsa_core.proofs.Worked.{worked}
+use Rattle.tsa_path.specs.Substitution.{as_pointer, given}
+use Rattle.tsa_rules.specs.Points.{local_begun, attrs_at, edges_of, function_at, point_at, uses_at}
+use Rattle.tsa_rules.specs.Sheets.{passes}
+use Rattle.tsa_rules.proofs.Sheets.{sheets_that_pass_are_kept}
+use Rattle.tsa_mean.proofs.Lists.{all_more, all_none}
+use Rattle.tsa_mean.proofs.Worked.{turned}
+use Rattle.tsa_sound.specs.CallFacts.{CallFacts, CanCall, UsesAnswer, first_pointed, of_lock}
+use Rattle.tsa_sound.specs.Examples.{call_rows, locked_call, sheet}
+use Rattle.tsa_sound.specs.BodyFacts.{AllLead, BodyFacts, MentionsParameters, SaysItsMode}
+use Rattle.tsa_sound.specs.Facts.{FunctionFacts, IsAmong, PointFacts, WritesUnder}
+use Rattle.tsa_sound.specs.FramesFit.{setting_behind, setting_with, stable_of}
+use Rattle.tsa_sound.specs.TermFacts.{AllFit, AllLoad, Loads, TermFits}
+use Rattle.tsa_sound.specs.PartlyWorked.{guard_ways, target_way}
+use Rattle.tsa_sound.proofs.Sums.{first_in}
+use Rattle.tsa_path.specs.Sameness.{same_way}
+use Rattle.tsa_rules.specs.Attributes.{claim_count, is_try}
+use Rattle.tsa_rules.specs.Conditions.{condition_at}
+use Rattle.tsa_sound.proofs.Constants.{differ}
+use Rattle.tsa_sound.proofs.ExampleForms.{OfCall, OfSet, assigns, for_call, for_set, goes_next, joins, no_assign, no_call, no_declaration, no_join, nothing_loaded}
+use Rattle.tsa_sound.proofs.Tests.{none_is_some, same_some}
+
+-- the function, and its points
+abbrev w : Function
+w = function_at locked_call 3
+
+kept_passes : passes locked_call w sheet ≡ true
+unfolding worked
+kept_passes = refl
+
+-- the point of a call of a lock function, which loads nothing
+abbrev SilentCall : ℕ → Type 0
+SilentCall p = OfCall (λ c. AllFit (setting_with locked_call w None) (stable_of w.body) c.args × ((b : Bool) (q : Term) → AllLoad c.args b q → ⊥)) (point_at w p).call
+
+silent_args : (p : ℕ) → SilentCall p → (c : Call) → (point_at w p).call ≡ Some c
+    → AllFit (setting_with locked_call w None) (stable_of w.body) c.args × ((b : Bool) (q : Term) → AllLoad c.args b q → ⊥)
+silent_args p h c e = for_call (λ c. AllFit (setting_with locked_call w None) (stable_of w.body) c.args × ((b : Bool) (q : Term) → AllLoad c.args b q → ⊥)) (point_at w p).call h c e
+
+taking_is_silent : SilentCall 0
+unfolding turned OfCall
+taking_is_silent = (((refl, tt), tt), λ b q l. nothing_loaded l)
+
+giving_is_silent : SilentCall 2
+unfolding turned OfCall
+giving_is_silent = (((refl, tt), tt), λ b q l. nothing_loaded l)
+
+-- the attributes of the calls
+taken_attrs : ◌≡◌ {A = List Attr} (record { kind = attr.Acquire; success = false; path = Some (global 0) } ∷ []) (attrs_at locked_call w 0)
+unfolding worked
+taken_attrs = refl
+
+given_attrs : ◌≡◌ {A = List Attr} (record { kind = attr.Release; success = false; path = Some (global 0) } ∷ []) (attrs_at locked_call w 2)
+unfolding worked
+given_attrs = refl
+
+has_path : (kind : AttrKind) → All (λ (a : Attr). IsSome a.path) (record { kind = kind; success = false; path = Some (global 0) } ∷ [])
+has_path kind = all_more (λ (a : Attr). IsSome a.path) (record { kind = kind; success = false; path = Some (global 0) }) [] refl (all_none (λ (a : Attr). IsSome a.path))
+
+-- the one argument leads to the lock
+first_argument : (k : ℕ) (x : Term) (w' : Way) → slice_get (address (term.global 0) ∷ []) k ≡ Some x → option_and_then as_pointer (given (Some (global 0) ∷ []) k) ≡ Some w'
+    → target_way (stable_of w.body) x ≡ Some w'
+first_argument zero x w' arg way = ap (target_way (stable_of w.body)) (sym (same_some arg)) ∙ way
+first_argument (suc k) x w' arg way = none_is_some arg
+
+taking_calls : OfCall (λ c. CallFacts locked_call w 0 c) (point_at w 0).call
+unfolding turned OfCall
+taking_calls = record {
+  acts = tt;
+  gives = λ uses. absurd uses;
+  asks = λ k e. none_is_some e;
+  tries = λ e. differ e;
+  declares = λ n kind x e. no_declaration (point_at w 0).action refl n kind x e;
+  named = subst (All (λ (a : Attr). IsSome a.path)) taken_attrs (has_path attr.Acquire);
+  arguments = λ k struct to_const x w' params arg way. first_argument k x w' arg way;
+  outside = λ none. of_lock (record { kind = attr.Acquire; success = false; path = Some first_pointed }) 0 false refl refl refl refl (inl refl);
+}
+
+-- the function that is called has a body
+no_body : {A : Type 0} → IsSome {T = Body} None → A
+no_body h = absurd cc
+
+body_there : IsSome (function_at locked_call 2).body
+unfolding worked
+body_there = refl
+
+has_a_body : {A : Type 0} → (function_at locked_call 2).body ≡ None → A
+has_a_body none = no_body (subst IsSome none body_there)
+
+-- what is done with the call, and with which arguments
+abbrev handing : Action
+handing = (point_at w 2).action
+
+acts_there : CanCall handing
+unfolding turned
+acts_there = tt
+
+no_use : UsesAnswer handing → ⊥
+unfolding turned
+no_use uses = uses
+
+no_condition : condition_at handing ≡ None
+unfolding turned
+no_condition = refl
+
+none_begun : local_begun handing ≡ None
+unfolding turned
+none_begun = refl
+
+no_try : list_any (λ a. is_try a.kind) (function_at locked_call 2).attrs ≡ false
+unfolding worked
+no_try = refl
+
+ways_there : (uses_at w 2).arguments ≡ Some (global 0) ∷ []
+unfolding turned
+ways_there = refl
+
+module _ (c : Call) (function : c.function ≡ 2) (args : c.args ≡ address (term.global 0) ∷ []) where
+  handing_calls : CallFacts locked_call w 2 c
+  handing_calls = record {
+    acts = acts_there;
+    gives = λ uses. absurd (no_use uses);
+    asks = λ k e. none_is_some (sym no_condition ∙ e);
+    tries = λ e. differ (sym (ap (λ n. list_any (λ a. is_try a.kind) (function_at locked_call n).attrs) function ∙ no_try) ∙ e);
+    declares = λ n kind x e. no_declaration handing none_begun n kind x e;
+    named = subst (All (λ (a : Attr). IsSome a.path)) given_attrs (has_path attr.Release);
+    arguments = λ k struct to_const x w' params arg way. first_argument k x w' (ap (λ xs. slice_get xs k) (sym args) ∙ arg)
+        (ap (λ ways. option_and_then as_pointer (given ways k)) (sym ways_there) ∙ way);
+    outside = λ none. has_a_body (ap (λ n. (function_at locked_call n).body) (sym function) ∙ none);
+  }
+
+giving_calls : OfCall (λ c. CallFacts locked_call w 2 c) (point_at w 2).call
+unfolding turned OfCall
+giving_calls = handing_calls (record { function = 2; args = address (term.global 0) ∷ [] }) refl refl
+
+taking : PointFacts locked_call sheet.paths w 0
+unfolding turned joins assigns OfSet
+taking = record {
+  kinds = ((type.Pointer 0 false ∷ [], (refl, ((type.Pointer 0 false, (refl, refl)), tt))), refl);
+  args_fit = λ c e. (silent_args 0 taking_is_silent c e).0;
+  right_fits = tt;
+  left_fits = λ left e. none_is_some e;
+  args_read = λ c b q e l. absurd ((silent_args 0 taking_is_silent c e).1 b q l);
+  right_read = λ b q none l. absurd l;
+  left_read = λ left b q e l. none_is_some e;
+  old_read = λ place o kind x e. no_join (point_at w 0).action refl place o kind x e;
+  whole = λ place o kind x e. no_join (point_at w 0).action refl place o kind x e;
+  whole_local = λ n o kind x e. no_assign (point_at w 0).action refl n (Some o) kind x e;
+  assigned = λ n o kind x c e i. no_assign (point_at w 0).action refl n o kind x e;
+  attributes = λ n e. none_is_some e;
+  tries = λ n w m e i. none_is_some e;
+  written = λ place o kind x e. for_set (λ q. All (WritesUnder sheet.paths (uses_at w 0).left) (guard_ways (setting_behind locked_call w (point_at w 0)) (stable_of w.body) q))
+      (point_at w 0).action tt place o kind x e;
+  silent = λ b q some l. absurd l;
+  goes_on = λ o some can. goes_next (edges_of w) 0 answer refl o can;
+  calls = λ c e. for_call (λ c. CallFacts locked_call w 0 c) (point_at w 0).call taking_calls c e;
+}
+
+giving : PointFacts locked_call sheet.paths w 2
+unfolding turned joins assigns OfSet
+giving = record {
+  kinds = ((type.Pointer 0 false ∷ [], (refl, ((type.Pointer 0 false, (refl, refl)), tt))), refl);
+  args_fit = λ c e. (silent_args 2 giving_is_silent c e).0;
+  right_fits = tt;
+  left_fits = λ left e. none_is_some e;
+  args_read = λ c b q e l. absurd ((silent_args 2 giving_is_silent c e).1 b q l);
+  right_read = λ b q none l. absurd l;
+  left_read = λ left b q e l. none_is_some e;
+  old_read = λ place o kind x e. no_join (point_at w 2).action refl place o kind x e;
+  whole = λ place o kind x e. no_join (point_at w 2).action refl place o kind x e;
+  whole_local = λ n o kind x e. no_assign (point_at w 2).action refl n (Some o) kind x e;
+  assigned = λ n o kind x c e i. no_assign (point_at w 2).action refl n o kind x e;
+  attributes = λ n e. none_is_some e;
+  tries = λ n w m e i. none_is_some e;
+  written = λ place o kind x e. for_set (λ q. All (WritesUnder sheet.paths (uses_at w 2).left) (guard_ways (setting_behind locked_call w (point_at w 2)) (stable_of w.body) q))
+      (point_at w 2).action tt place o kind x e;
+  silent = λ b q some l. absurd l;
+  goes_on = λ o some can. goes_next (edges_of w) 2 answer refl o can;
+  calls = λ c e. for_call (λ c. CallFacts locked_call w 2 c) (point_at w 2).call giving_calls c e;
+}
+
+writing : PointFacts locked_call sheet.paths w 1
+unfolding turned joins assigns OfSet
+writing = record {
+  kinds = (tt, ((record { kind = type.Int; length = None; is_const = false }, (refl, (refl, refl))), (type.Int, (refl, refl))));
+  args_fit = λ c e. none_is_some e;
+  right_fits = refl;
+  left_fits = λ left e. subst (TermFits (setting_behind locked_call w (point_at w 1)) (stable_of w.body)) (same_some e) tt;
+  args_read = λ c b q e l. none_is_some e;
+  right_read = λ b q none l. absurd l;
+  left_read = λ left b q e l. absurd (subst (λ x. Loads x b q) (sym (same_some e)) l);
+  old_read = λ place o kind x e. no_join (point_at w 1).action refl place o kind x e;
+  whole = λ place o kind x e. no_join (point_at w 1).action refl place o kind x e;
+  whole_local = λ n o kind x e. no_assign (point_at w 1).action refl n (Some o) kind x e;
+  assigned = λ n o kind x c e i. no_assign (point_at w 1).action refl n o kind x e;
+  attributes = λ n e. none_is_some e;
+  tries = λ n w m e i. none_is_some e;
+  written = λ place o kind x e. for_set (λ q. All (WritesUnder sheet.paths (uses_at w 1).left) (guard_ways (setting_behind locked_call w (point_at w 1)) (stable_of w.body) q))
+      (point_at w 1).action (all_more (WritesUnder sheet.paths (uses_at w 1).left) (Some (global 0)) [] (first_in (global 0) [], refl) (all_none (WritesUnder sheet.paths (uses_at w 1).left)))
+      place o kind x e;
+  silent = λ b q some l. no_call some;
+  goes_on = λ o some can. no_call some;
+  calls = λ c e. none_is_some e;
+}
+
+-- the end
+ending : PointFacts locked_call sheet.paths w 3
+unfolding turned joins assigns OfSet
+ending = record {
+  kinds = (tt, (refl, λ e. differ e));
+  args_fit = λ c e. none_is_some e;
+  right_fits = tt;
+  left_fits = λ left e. none_is_some e;
+  args_read = λ c b q e l. none_is_some e;
+  right_read = λ b q none l. absurd l;
+  left_read = λ left b q e l. none_is_some e;
+  old_read = λ place o kind x e. no_join (point_at w 3).action refl place o kind x e;
+  whole = λ place o kind x e. no_join (point_at w 3).action refl place o kind x e;
+  whole_local = λ n o kind x e. no_assign (point_at w 3).action refl n (Some o) kind x e;
+  assigned = λ n o kind x c e i. no_assign (point_at w 3).action refl n o kind x e;
+  attributes = λ n e. none_is_some e;
+  tries = λ n w m e i. none_is_some e;
+  written = λ place o kind x e. for_set (λ q. All (WritesUnder sheet.paths (uses_at w 3).left) (guard_ways (setting_behind locked_call w (point_at w 3)) (stable_of w.body) q))
+      (point_at w 3).action tt place o kind x e;
+  silent = λ b q some l. no_call some;
+  goes_on = λ o some can. no_call some;
+  calls = λ c e. none_is_some e;
+}
+
+-- behind the end nothing stands
+beyond : (p : ℕ) → PointFacts locked_call sheet.paths w (suc (suc (suc (suc p))))
+unfolding turned joins assigns OfSet
+beyond p = record {
+  kinds = (tt, tt);
+  args_fit = λ c e. none_is_some e;
+  right_fits = refl;
+  left_fits = λ left e. none_is_some e;
+  args_read = λ c b q e l. none_is_some e;
+  right_read = λ b q none l. absurd l;
+  left_read = λ left b q e l. none_is_some e;
+  old_read = λ place o kind x e. no_join go_on refl place o kind x e;
+  whole = λ place o kind x e. no_join go_on refl place o kind x e;
+  whole_local = λ n o kind x e. no_assign go_on refl n (Some o) kind x e;
+  assigned = λ n o kind x c e i. no_assign go_on refl n o kind x e;
+  attributes = λ n e. none_is_some e;
+  tries = λ n w m e i. none_is_some e;
+  written = λ place o kind x e. for_set (λ q. All (WritesUnder sheet.paths (uses_at w (suc (suc (suc (suc p))))).left)
+      (guard_ways (setting_behind locked_call w (point_at w (suc (suc (suc (suc p)))))) (stable_of w.body) q)) go_on tt place o kind x e;
+  silent = λ b q some l. no_call some;
+  goes_on = λ o some can. no_call some;
+  calls = λ c e. none_is_some e;
+}
+
+points : (p : ℕ) → PointFacts locked_call sheet.paths w p
+points zero = taking
+points (suc zero) = writing
+points (suc (suc zero)) = giving
+points (suc (suc (suc zero))) = ending
+points (suc (suc (suc (suc p)))) = beyond p
+
+alone : AllPairs (λ c d. same_way c d ≡ false) (global 0 ∷ [])
+alone i j d less inside = absurd (omega (arith, less, inside))
+
+first_among : (c : Way) → Some (global 0) ≡ Some c → Contains (global 0 ∷ []) c
+first_among c e = subst (Contains (global 0 ∷ [])) (same_some e) (first_in (global 0) [])
+
+abbrev IsNamed : Attr → Type 0
+IsNamed a = IsAmong sheet.paths a.path
+
+one_named : (kind : AttrKind) → All IsNamed (record { kind = kind; success = false; path = Some (global 0) } ∷ [])
+one_named kind = all_more IsNamed (record { kind = kind; success = false; path = Some (global 0) }) [] first_among (all_none IsNamed)
+
+named : (p : ℕ) → All IsNamed (attrs_at locked_call w p)
+unfolding worked
+named zero = subst (All IsNamed) taken_attrs (one_named attr.Acquire)
+named (suc zero) = all_none IsNamed
+named (suc (suc zero)) = subst (All IsNamed) given_attrs (one_named attr.Release)
+named (suc (suc (suc zero))) = all_none IsNamed
+named (suc (suc (suc (suc p)))) = all_none IsNamed
+
+-- the arguments lead to the lock
+abbrev Leads : ℕ → Type 0
+Leads p = OfCall (λ c. AllLead (stable_of w.body) c.args (uses_at w p).arguments) (point_at w p).call
+
+taking_leads : Leads 0
+unfolding turned OfCall
+taking_leads = (refl, tt)
+
+giving_leads : Leads 2
+unfolding turned OfCall
+giving_leads = (refl, tt)
+
+leads : (p : ℕ) (c : Call) → (point_at w p).call ≡ Some c → AllLead (stable_of w.body) c.args (uses_at w p).arguments
+unfolding turned OfCall
+leads zero c e = for_call (λ c. AllLead (stable_of w.body) c.args (uses_at w 0).arguments) (point_at w 0).call taking_leads c e
+leads (suc zero) c e = none_is_some e
+leads (suc (suc zero)) c e = for_call (λ c. AllLead (stable_of w.body) c.args (uses_at w 2).arguments) (point_at w 2).call giving_leads c e
+leads (suc (suc (suc zero))) c e = none_is_some e
+leads (suc (suc (suc (suc p)))) c e = none_is_some e
+
+none_claimed : (c : Way) → claim_count [] c ≤ 1
+none_claimed c = omega arith
+
+-- it has no attributes, no locals and no value
+body_facts : BodyFacts w
+unfolding worked
+body_facts = record {
+  named = all_none (λ (a : Attr). IsSome a.path);
+  parameters = all_none (λ (a : Attr). MentionsParameters 0 a.path);
+  once = none_claimed;
+  modes = all_none (λ (a : Attr). SaysItsMode a.kind);
+  scalars = λ n kind e. none_is_some e;
+  result = λ e. differ e;
+  answers = λ e. differ e;
+}
+
+pub caller_facts : FunctionFacts locked_call call_rows 3
+unfolding worked
+caller_facts = record {
+  kept = sheets_that_pass_are_kept locked_call w sheet kept_passes;
+  once = alone;
+  own = all_none IsNamed;
+  called = named;
+  points = points;
+  entered = body_facts;
+  leads = leads;
+}

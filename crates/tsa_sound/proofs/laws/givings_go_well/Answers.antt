@@ -1,0 +1,5 @@
+use Rattle.tsa_sound.proofs.LockLaws as lock_laws
+use Rattle.tsa_sound.proofs.laws.givings_go_well.Goals as goal
+
+pub returns : goal.returns
+returns c = lock_laws.givings_go_well

@@ -1,0 +1,4 @@
+pub mod Laws
+pub mod PointTerms
+pub mod Units
+pub mod CallTerms
