@@ -48,14 +48,14 @@ slot_more (z ∷ xs) y x (suc k) h = let rest = slot_more xs y x k h in (λ less
 -- a stage more, or none
 module _ (cases : ℕ → Case) (b : Block) (from : Statuses) (lane index : ℕ) (row : List Statuses) (old new : List (List Statuses)) (inside : index < last_in b)
     (here : IsCarried cases b from index (set_at row lane)) (before : AreStages cases b from lane old) where
-  stage_more : index ≡ length old * 16 → (k : ℕ) (r : List Statuses) → slice_get (old ++ row ∷ []) k ≡ Some r → (k * 16 < last_in b) × IsCarried cases b from (k * 16) (set_at r lane)
+  stage_more : index ≡ length old * 4 → (k : ℕ) (r : List Statuses) → slice_get (old ++ row ∷ []) k ≡ Some r → (k * 4 < last_in b) × IsCarried cases b from (k * 4) (set_at r lane)
   stage_more begins k r at = elim (dec_lt k (length old)) [
     | yes less ↦ before k r ((slot_more old row r k at).0 less)
     | no past ↦ (
         let count : length (old ++ row ∷ []) ≡ length old + 1 = length-append old (row ∷ []) in
         let within : k < length (old ++ row ∷ []) = slice_get_within (old ++ row ∷ []) k r at in
         let last : length old ≡ k = omega (arith, count, within, past) in
-        let place : index ≡ k * 16 = begins ∙ ap (λ n. n * 16) last in
+        let place : index ≡ k * 4 = begins ∙ ap (λ n. n * 4) last in
         (subst (λ n. n < last_in b) place inside, subst (λ n. IsCarried cases b from n (set_at r lane)) place (subst (λ x. IsCarried cases b from index (set_at x lane)) ((slot_more old row r k at).1 last) here)))
   ]
 

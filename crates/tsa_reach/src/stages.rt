@@ -1,4 +1,4 @@
-//! The statuses at each sixteenth place of blocks.
+//! The statuses at each fourth place of blocks.
 ghost use Rattle.std.specs.Prelude.{◌≡◌, ◌++◌, ◌∷◌, ◌+◌, ◌*◌, ◌<◌, ◌≤◌, ◌↔◌, ℕ, [], List, Some, All, length, slice_get, slice_index_or, IfOk, OnOk};
 ghost use Rattle.tsa_blocks.specs.Rows.{last_in, point_in};
 ghost use Rattle.tsa_reach.specs.Passing.{ArePoints};
@@ -14,7 +14,7 @@ use tsa_base::NoMemory;
 use tsa_blocks::{Block, Blocks};
 
 /// How many places a stage is long.
-pub(crate) const STAGE: usize = 16;
+pub(crate) const STAGE: usize = 4;
 
 /// The statuses at the beginning of each stage of each block. Contracts see the lists.
 #[derive(Drop)]
