@@ -10,14 +10,14 @@ use Rattle.tsa_sound.specs.Facts.{FunctionFacts, PointFacts, ProgramFacts}
 use Rattle.tsa_sound.specs.FramesFit.{ProgramRows}
 use Rattle.tsa_sound.specs.LaidOut.{LaidOut}
 use Rattle.tsa_profile.specs.Paths.{paths_of}
-use Rattle.tsa_terms.specs.Units.{IsInProfile}
-use Rattle.tsa_terms.proofs.PointsFit.{arguments_have_their_paths, points_have_their_terms}
-use Rattle.tsa_laid.proofs.Laying.{places_are_laid_out}
-use Rattle.tsa_kept.specs.Visits.{rows_of}
-use Rattle.tsa_kept.proofs.Functions.{locals_are_set_apart, program_layout, units_keep_their_rows}
-use Rattle.tsa_called.proofs.CallsMeet.{calls_have_their_facts}
-use Rattle.tsa_entered.proofs.FunctionBodies.{bodies_may_be_entered}
-use Rattle.tsa_entered.proofs.SmallLayouts.{layouts_are_small}
+use Rattle.tsa_accepted.specs.terms.Units.{IsInProfile}
+use Rattle.tsa_accepted.proofs.terms.PointsFit.{arguments_have_their_paths, points_have_their_terms}
+use Rattle.tsa_accepted.proofs.laid.Laying.{places_are_laid_out}
+use Rattle.tsa_accepted.specs.kept.Visits.{rows_of}
+use Rattle.tsa_accepted.proofs.kept.Functions.{locals_are_set_apart, program_layout, units_keep_their_rows}
+use Rattle.tsa_accepted.proofs.called.CallsMeet.{calls_have_their_facts}
+use Rattle.tsa_accepted.proofs.entered.FunctionBodies.{bodies_may_be_entered}
+use Rattle.tsa_accepted.proofs.entered.SmallLayouts.{layouts_are_small}
 
 -- the paths of each function, and the rows that are read off its walks
 abbrev pub program_rows : Program → ProgramRows

@@ -5,7 +5,7 @@ use Rattle.tsa_core.specs.Calls.{Layout}
 use Rattle.tsa_core.specs.Programs.{program_of}
 use Rattle.tsa_rules.specs.Warnings.{HasNoWarnings}
 use Rattle.tsa_mean.specs.Sound.{Sound}
-use Rattle.tsa_terms.specs.Units.{IsInProfile}
+use Rattle.tsa_accepted.specs.terms.Units.{IsInProfile}
 
 abbrev pub UnitsWithoutWarningsAreSound : Type 0
 UnitsWithoutWarningsAreSound = (items : List UnitItem) (l : Layout) → IsInProfile items l → HasNoWarnings (program_of items) → Sound items

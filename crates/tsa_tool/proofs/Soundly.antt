@@ -8,7 +8,7 @@ use Rattle.tsa_expr.specs.declared.refusal.SyntaxCode.{SyntaxCode}
 use Rattle.tsa_expr.specs.declared.refusal.SyntaxCode.TheVariants.{SY1, AT1, AT2, LM2, LM3, LM5}
 use Rattle.tsa_seen.specs.declared.premise.ProfileCode.{ProfileCode}
 use Rattle.tsa_seen.specs.declared.premise.ProfileCode.TheVariants.{PF1, PF2, PF3, PF4, PF5, PF6, PF7, PF8, PF9, LM4, LM7}
-use Rattle.tsa_terms.specs.Units.{IsInProfile}
+use Rattle.tsa_accepted.specs.terms.Units.{IsInProfile}
 use Rattle.tsa_report.specs.Warned.{Warned}
 use Rattle.tsa_accepted.proofs.Accepted.{units_without_warnings_are_sound}
 use Rattle.tsa_tool.specs.Checks.{fit_in}
