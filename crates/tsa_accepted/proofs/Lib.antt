@@ -1,7 +1,2 @@
-pub mod terms
-pub mod laid
-pub mod kept
-pub mod entered
-pub mod called
 pub mod Facts
 pub mod Accepted
