@@ -25,10 +25,11 @@ use Rattle.tsa_expr.specs.Gives.{Fails}
 use Rattle.tsa_expr.proofs.Answering.{fails_then, fails_same}
 use Rattle.tsa_attr.proofs.Joining.{append-append}
 use Rattle.tsa_local.specs.Outcomes.{one_token}
-use Rattle.tsa_stmt.specs.declared.heads.Head.{Head}
-use Rattle.tsa_stmt.specs.declared.heads.Head.TheVariants as head
-use Rattle.tsa_stmt.specs.declared.heads.Marked.{Marked}
-use Rattle.tsa_stmt.specs.Heads.{IsMarked, IsOpened, ended, ended_with, if_with, do_end_at}
+use Rattle.tsa_header.specs.declared.heads.Head.{Head}
+use Rattle.tsa_header.specs.declared.heads.Head.TheVariants as head
+use Rattle.tsa_header.specs.declared.heads.Marked.{Marked}
+use Rattle.tsa_header.specs.Heads.{IsMarked, IsOpened, ended}
+use Rattle.tsa_stmt.specs.Closings.{ended_with, if_with, do_end_at}
 use Rattle.tsa_leaf.specs.Outcomes.{test_at}
 use Rattle.tsa_leaf.specs.Pointed.{IsPointed, ArePointed, ArmsPointed, IsPartAt, IsStepAt}
 use Rattle.tsa_leaf.specs.Seen.{init_seen, step_seen}

@@ -12,7 +12,7 @@ use Rattle.tsa_tree.specs.statements.Syntax.{Statement, if_alone, if_else}
 use Rattle.tsa_attr.proofs.Joining.{then-same}
 use Rattle.tsa_leaf.specs.Outcomes.{test_at, body_at}
 use Rattle.tsa_leaf.proofs.RowLaws.{going, stmt, again, row_is, word_is, test_is as test_row, body_is as body_row}
-use Rattle.tsa_stmt.specs.Heads.{arm_at}
+use Rattle.tsa_stmt.specs.Closings.{arm_at}
 
 module _ (ts : List Lexeme) (aliases : Aliases) where
   else_is : (d m : ℕ) (x : Expression) (arm : Statement) (k : ℕ) → going ts aliases (if_end ts aliases d m x arm k) k ≡ arm_at ts aliases d m x arm k

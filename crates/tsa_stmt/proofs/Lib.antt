@@ -1,6 +1,4 @@
-pub mod LeafRows
 pub mod IfRows
-pub mod HeadLaws
-pub mod OpeningLaws
+pub mod BeginningLaws
 pub mod ClosingLaws
 pub mod StatementLaws

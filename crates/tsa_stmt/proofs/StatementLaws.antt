@@ -19,9 +19,10 @@ use Rattle.tsa_expr.specs.Gives.{Fails, Gives}
 use Rattle.tsa_expr.proofs.Answering.{fails_then, fails_same, gives_same, in_limit, over_limit}
 use Rattle.tsa_attr.proofs.Joining.{append-nil}
 use Rattle.tsa_local.specs.Outcomes.{opening_brace}
-use Rattle.tsa_stmt.specs.declared.heads.Head.{Head}
+use Rattle.tsa_header.specs.declared.heads.Head.{Head}
 use Rattle.tsa_leaf.specs.declared.points.Read.{Read}
-use Rattle.tsa_stmt.specs.Heads.{ended, ended_at, arms_at, do_end_at, if_with}
+use Rattle.tsa_header.specs.Heads.{ended, ended_at}
+use Rattle.tsa_stmt.specs.Closings.{arms_at, do_end_at, if_with}
 use Rattle.tsa_leaf.specs.Outcomes.{body_at, statements_after}
 use Rattle.tsa_stmt.specs.Kept.{IsKept}
 use Rattle.tsa_leaf.specs.Pointed.{IsPointed, ArePointed}

@@ -1,4 +1,3 @@
-pub mod Near
-pub mod Heads
-pub mod Openings
+pub use Rattle.tsa_header.specs.Near
+pub mod Closings
 pub mod Kept

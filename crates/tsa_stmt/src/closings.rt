@@ -8,12 +8,13 @@ ghost use Rattle.tsa_tree.specs.statements.Syntax.{block};
 ghost use Rattle.tsa_tree.specs.statements.Shapes.{stmt_shape, stmt_shapes};
 ghost use Rattle.tsa_expr.specs.Source.{input, named};
 ghost use Rattle.tsa_expr.specs.Gives.{Gives};
-ghost use Rattle.tsa_stmt.specs.Heads.{IsMarked, IsOpened, do_end_at, ended as spec_ended, ended_with, if_with};
+ghost use Rattle.tsa_header.specs.Heads.{IsMarked, IsOpened, ended as spec_ended};
+ghost use Rattle.tsa_stmt.specs.Closings.{do_end_at, ended_with, if_with};
 ghost use Rattle.tsa_leaf.specs.Pointed.{ArePointed, IsPointed, ArmsPointed};
 ghost use Rattle.tsa_leaf.specs.Seen.{seen_statement};
 
-use crate::heads::{Head, Marked, marked_test};
 use tsa_expr::{Reader, SyntaxRefusal};
+use tsa_header::{Head, Marked, marked_test};
 use tsa_leaf::{Body, Read, while_word};
 use tsa_local::semicolon;
 use tsa_tree::stmt::{Point, Stmt, StmtKind};

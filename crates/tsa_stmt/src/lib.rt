@@ -2,10 +2,7 @@
 #![tactic(auto)]
 
 mod closings;
-mod heads;
-mod loops;
-mod openings;
-mod statements;
-mod text;
+mod reader;
 
-pub use text::TextReader;
+pub use reader::statements;
+pub use tsa_header::TextReader;

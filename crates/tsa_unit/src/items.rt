@@ -17,7 +17,7 @@ use tsa_decl::{begin_item, keep_function};
 use tsa_expr::{Aliases, Reader, SyntaxRefusal};
 use tsa_leaf::mark;
 use tsa_local::{in_arena, open_brace};
-use tsa_stmt::TextReader;
+use tsa_stmt::{TextReader, statements};
 use tsa_tree::item::{FnTree, Item};
 use tsa_tree::sign::Sign;
 use tsa_tree::stmt::{Action, Point, Stmt};
@@ -68,7 +68,7 @@ fn function<'a>(
     }
     let inside = open_brace(source.reader, at, 0)?;
     let mut points = Vec::new(*list.allocator());
-    let (body, next) = source.statements(inside, 1, &mut points)?;
+    let (body, next) = statements(source, inside, 1, &mut points)?;
     mark(&mut points, Action::End, source.reader.span(next - 1))?;
     let points = in_arena(source.reader.bump, &points)?;
     let whole = with_body(head, body, points);

@@ -1,7 +1,7 @@
 use Rattle.tsa_expr.specs.Source.{input}
 use Rattle.std.proofs.Common.{◌∙◌, ap}
 use Rattle.tsa_tree.specs.tokens.Signs.{span_at}
-use Rattle.tsa_stmt.specs.Heads.{ended}
+use Rattle.tsa_header.specs.Heads.{ended}
 use Rattle.tsa_stmt.proofs.ClosingLaws.{ended_pointed, ended_shaped, over_from}
 use Rattle.tsa_stmt.proofs.closings.headed_with_body.Goals as goal
 

@@ -9,7 +9,7 @@ ghost use Rattle.tsa_tree.specs.statements.Shapes.{point_shape};
 ghost use Rattle.tsa_expr.specs.Source.{input, named};
 ghost use Rattle.tsa_expr.specs.Gives.{Gives, Leads};
 ghost use Rattle.tsa_leaf.specs.Outcomes.{test_at};
-ghost use Rattle.tsa_stmt.specs.Heads.{IsOpened, IsUnpointed, ended_at, seen_head, seen_marked};
+ghost use Rattle.tsa_header.specs.Heads.{IsOpened, IsUnpointed, ended_at, seen_head, seen_marked};
 
 use crate::text::TextReader;
 use tsa_expr::{Reader, SyntaxRefusal};

@@ -4,7 +4,7 @@ ghost use Rattle.std.proofs.Props.{props};
 ghost use Rattle.tsa_base.specs.declared.limits.TheConstants.{INPUT_LIMIT};
 ghost use Rattle.tsa_tree.specs.tokens.Signs.{span_at as spec_span};
 ghost use Rattle.tsa_expr.specs.Source.{input};
-ghost use Rattle.tsa_stmt.specs.Near.{AreNear};
+ghost use Rattle.tsa_header.specs.Near.{AreNear};
 
 use tsa_expr::Reader;
 

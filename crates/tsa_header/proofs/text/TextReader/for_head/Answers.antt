@@ -1,7 +1,7 @@
 use Rattle.tsa_tree.specs.tokens.Signs.{span_at}
 use Rattle.tsa_expr.specs.Source.{input}
-use Rattle.tsa_stmt.proofs.HeadLaws.{for_opened}
-use Rattle.tsa_stmt.proofs.text.TextReader.for_head.Goals as goal
+use Rattle.tsa_header.proofs.HeadLaws.{for_opened}
+use Rattle.tsa_header.proofs.text.TextReader.for_head.Goals as goal
 
 pub returns-clause-opened : goal.returns-clause-opened
 returns-clause-opened c =

@@ -27,13 +27,13 @@ use Rattle.tsa_expr.proofs.Answering.{fails_then, fails_same}
 use Rattle.tsa_expr.proofs.Places.{sign_within}
 use Rattle.tsa_attr.proofs.Joining.{append-append}
 use Rattle.tsa_local.specs.Outcomes.{one_token, opening}
-use Rattle.tsa_stmt.specs.declared.heads.Head.TheVariants as head
-use Rattle.tsa_stmt.specs.declared.heads.Headed.{Headed}
-use Rattle.tsa_stmt.specs.Heads.{ended_at, IsOpened}
+use Rattle.tsa_header.specs.declared.heads.Head.TheVariants as head
+use Rattle.tsa_header.specs.declared.heads.Headed.{Headed}
+use Rattle.tsa_header.specs.Heads.{ended_at, IsOpened}
 use Rattle.tsa_leaf.specs.Outcomes.{test_at, value_or_none_at, step_at, body_at}
 use Rattle.tsa_leaf.specs.Pointed.{IsStepAt, IsBegun, IsStepped}
 use Rattle.tsa_leaf.specs.Seen.{init_seen, step_seen}
-use Rattle.tsa_stmt.proofs.LeafRows.{label_is}
+use Rattle.tsa_header.proofs.LeafRows.{label_is}
 use Rattle.tsa_leaf.proofs.MarkLaws.{tested_point, spanned, one_more}
 use Rattle.tsa_leaf.proofs.RowLaws.{while_is, switch_is, case_is, otherwise_is, for_is}
 

@@ -5,8 +5,8 @@ ghost use Rattle.tsa_tree.specs.Rows.{a_statement, statement as statement_call};
 ghost use Rattle.tsa_tree.specs.tokens.Signs.{sign_at as spec_sign, span_at as spec_span};
 ghost use Rattle.tsa_expr.specs.Source.{input, named};
 ghost use Rattle.tsa_expr.specs.Gives.{Gives, Leads};
-ghost use Rattle.tsa_stmt.specs.Heads.{IsOpened, ended_at, seen_head};
-ghost use Rattle.tsa_stmt.specs.Openings.{HoldsNoBody, ends_with_body};
+ghost use Rattle.tsa_header.specs.Heads.{IsOpened, ended_at, seen_head};
+ghost use Rattle.tsa_header.specs.Openings.{HoldsNoBody, ends_with_body};
 ghost use Rattle.tsa_leaf.specs.Pointed.{IsPointed};
 ghost use Rattle.tsa_leaf.specs.Seen.{seen_statement};
 

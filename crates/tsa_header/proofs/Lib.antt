@@ -1,0 +1,3 @@
+pub mod LeafRows
+pub mod HeadLaws
+pub mod OpeningLaws
