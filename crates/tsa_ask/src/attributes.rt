@@ -45,10 +45,16 @@ struct Within<'w, 'a> {
 }
 
 /// What the attributes before one name: results of tries, and paths.
-#[derive(Drop)]
 struct Before {
     tries: Tries,
     paths: PathSet,
+}
+
+impl Drop for Before {
+    /// Lets its parts go, in one call for all who let one go.
+    fn drop(self) {
+        let Before { tries: _, paths: _ } = self;
+    }
 }
 
 impl Before {

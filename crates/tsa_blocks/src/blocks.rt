@@ -11,11 +11,21 @@ pub struct Exit {
 }
 
 /// A longest run of points: the outcomes of the edges from each of them to the next, and the edges from the last one.
-#[derive(Drop)]
 pub struct Block {
     pub points: Vec<u32>,
     pub inner: Vec<Outcome>,
     pub exits: Vec<Exit>,
+}
+
+impl Drop for Block {
+    /// Lets its parts go, in one call for all who let one go.
+    fn drop(self) {
+        let Block {
+            points: _,
+            inner: _,
+            exits: _,
+        } = self;
+    }
 }
 
 /// Where a point stands: the number of its block, and its place there.
@@ -26,9 +36,18 @@ pub struct Place {
 }
 
 /// The blocks of a body, and the places of its points by their numbers.
-#[derive(Drop)]
 pub struct Blocks {
     pub blocks: Vec<Block>,
     pub places: Vec<Place>,
     pub ghost formed: { AreFormed blocks.items places.items },
+}
+
+impl Drop for Blocks {
+    /// Lets its parts go, in one call for all who let one go.
+    fn drop(self) {
+        let Blocks {
+            blocks: _,
+            places: _,
+        } = self;
+    }
 }

@@ -12,10 +12,19 @@ use tsa_held::{Ground, Knowledge, outset};
 use tsa_tree::item::{FnTree, Param};
 
 /// What is known in front of an item of a unit, and the parameters of each function that is declared, by its number, as they are declared first.
-#[derive(Drop)]
 pub struct Course<'a> {
     pub(crate) known: Knowledge<'a>,
     pub(crate) firsts: Vec<&'a [Param<'a>]>,
+}
+
+impl Drop for Course<'_> {
+    /// Lets its parts go, in one call for all who let one go.
+    fn drop(self) {
+        let Course {
+            known: _,
+            firsts: _,
+        } = self;
+    }
 }
 
 impl<'a> Course<'a> {

@@ -20,11 +20,21 @@ use tsa_texts::PathTexts;
 use tsa_tree::item::{FnTree, Item};
 
 /// What is told of a body: the function, what walks bring to its points, and the texts of its paths.
-#[derive(Drop)]
 pub struct ToldBody<'a> {
     pub head: &'a FnTree<'a>,
     pub flow: FunctionFlow<'a>,
     pub texts: PathTexts,
+}
+
+impl Drop for ToldBody<'_> {
+    /// Lets its parts go, in one call for all who let one go.
+    fn drop(self) {
+        let ToldBody {
+            head: _,
+            flow: _,
+            texts: _,
+        } = self;
+    }
 }
 
 /// A unit in the profile whose bodies are told one by one.

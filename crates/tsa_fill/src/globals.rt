@@ -23,12 +23,23 @@ use tsa_tree::kind::ThingType;
 
 /// The structs of a unit's first items, its globals with the first place of each, and all places so far, of which there are no more than a unit
 /// may have. Contracts see a layout.
-#[derive(Drop)]
 pub struct Globals {
     structs: Structures,
     globals: Vec<Part>,
     starts: Vec<u32>,
     places: Vec<Placed>,
+}
+
+impl Drop for Globals {
+    /// Lets its parts go, in one call for all who let one go.
+    fn drop(self) {
+        let Globals {
+            structs: _,
+            globals: _,
+            starts: _,
+            places: _,
+        } = self;
+    }
 }
 
 impl Model for Globals {

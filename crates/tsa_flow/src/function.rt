@@ -6,10 +6,20 @@ use tsa_blocks::Blocks;
 use tsa_view::RuleView;
 
 /// A function's view, with the blocks of its body and what walks bring to its points, path by path.
-#[derive(Drop)]
 pub struct FunctionFlow<'a> {
     pub(crate) view: RuleView<'a>,
     pub(crate) blocks: Blocks,
     pub(crate) paths: PathFlows,
     pub ghost claimed: { AreClaimed view paths.caps.items paths.claims },
+}
+
+impl Drop for FunctionFlow<'_> {
+    /// Lets its parts go, in one call for all who let one go.
+    fn drop(self) {
+        let FunctionFlow {
+            view: _,
+            blocks: _,
+            paths: _,
+        } = self;
+    }
 }

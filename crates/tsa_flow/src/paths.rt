@@ -5,7 +5,6 @@ use tsa_reach::Reached;
 use tsa_stops::Claims;
 
 /// What walks bring for paths in lanes: the path of each lane, the lane of each path, the lanes that points claim, and what is reached.
-#[derive(Drop)]
 pub struct PathFlows {
     pub(crate) caps: Vec<u32>,
     pub(crate) count: u32,
@@ -13,4 +12,17 @@ pub struct PathFlows {
     pub(crate) claims: Claims,
     pub(crate) reached: Reached,
     pub ghost counted: { count ≡ length caps.items },
+}
+
+impl Drop for PathFlows {
+    /// Lets its parts go, in one call for all who let one go.
+    fn drop(self) {
+        let PathFlows {
+            caps: _,
+            count: _,
+            numbers: _,
+            claims: _,
+            reached: _,
+        } = self;
+    }
 }

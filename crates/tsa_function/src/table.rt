@@ -9,10 +9,19 @@ use std::marker::Model;
 use tsa_base::NoMemory;
 
 /// Names of functions with which of their locals never change, each by its first body. Contracts see the list of them.
-#[derive(Drop)]
 pub struct Table<'a> {
     alloc: Global,
     entries: IndexMap<&'a [u8], Vec<bool>>,
+}
+
+impl Drop for Table<'_> {
+    /// Lets its parts go, in one call for all who let one go.
+    fn drop(self) {
+        let Table {
+            alloc: _,
+            entries: _,
+        } = self;
+    }
 }
 
 impl<'a> Model for Table<'a> {

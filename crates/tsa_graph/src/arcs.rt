@@ -18,10 +18,16 @@ pub enum Exit {
 }
 
 /// How each point is left, and the edges into it.
-#[derive(Drop)]
 pub struct Arcs {
     pub outs: Vec<Exit>,
     pub ins: Entries,
+}
+
+impl Drop for Arcs {
+    /// Lets its parts go, in one call for all who let one go.
+    fn drop(self) {
+        let Arcs { outs: _, ins: _ } = self;
+    }
 }
 
 /// One edge more leads from a point.

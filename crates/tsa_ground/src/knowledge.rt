@@ -10,7 +10,6 @@ use tsa_scope::{Scope, outset};
 use tsa_seen::{Failure, NamedLocks};
 
 /// What is known by name, the locks that functions name and the paths of bodies by the numbers of functions, and the first functions that pass a limit.
-#[derive(Drop)]
 pub struct Knowledge<'a> {
     pub scope: Scope<'a>,
     pub attributes: Vec<NamedLocks>,
@@ -19,12 +18,41 @@ pub struct Knowledge<'a> {
     pub paths: Option<Failure>,
 }
 
+impl Drop for Knowledge<'_> {
+    /// Lets its parts go, in one call for all who let one go.
+    fn drop(self) {
+        let Knowledge {
+            scope: _,
+            attributes: _,
+            tables: _,
+            tries: _,
+            paths: _,
+        } = self;
+    }
+}
+
 impl<'a> Model for Knowledge<'a> {
     ghost use Rattle.tsa_ground.specs.Judging.{Knowledge};
 
     ghost Value = { Knowledge };
 
     ghost view = { λ k. record { here = k.scope; attributes = k.attributes.items; tables = k.tables.items; tries = k.tries; paths = k.paths } };
+}
+
+impl<'a> Knowledge<'a> {
+    /// The paths of bodies, by the numbers of functions.
+    pub fn into_tables(self) -> Vec<Option<PathTable>>
+        ensures { result.items ≡ self.entry.tables }
+    {
+        let Knowledge {
+            scope: _,
+            attributes: _,
+            tables,
+            tries: _,
+            paths: _,
+        } = self;
+        tables
+    }
 }
 
 /// What failed first, or else what fails now.

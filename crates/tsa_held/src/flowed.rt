@@ -14,10 +14,16 @@ use tsa_site::{Fit, Places};
 use tsa_tree::item::UnitTree;
 
 /// A unit in the profile, with what walks bring to the points of its functions, by their numbers.
-#[derive(Drop)]
 pub struct Flowed<'a> {
     pub(crate) fit: Fit<'a>,
     pub(crate) flows: Flows<'a>,
+}
+
+impl Drop for Flowed<'_> {
+    /// Lets its parts go, in one call for all who let one go.
+    fn drop(self) {
+        let Flowed { fit: _, flows: _ } = self;
+    }
 }
 
 /// What walks bring to the points of the functions of a unit in the profile, in one walk along its items. The places are those of the unit.

@@ -16,7 +16,6 @@ use tsa_site::{Fit, Ground, Places};
 use tsa_tree::item::Item;
 
 /// The items of a typed unit with its layout, its bodies by name, and what kinds of locks its structs are.
-#[derive(Drop)]
 pub struct UnitTables<'w, 'a> {
     pub(crate) items: &'a [Item<'a>],
     layout: Layout<'w>,
@@ -26,6 +25,18 @@ pub struct UnitTables<'w, 'a> {
     ghost laid: { layout ≡ (program_of (item_shapes items.now)).layout },
     ghost bodied: { bodies.items ≡ items },
     ghost locks: { kinds_of kinds.items ≡ (program_of (item_shapes items.now)).locks },
+}
+
+impl Drop for UnitTables<'_, '_> {
+    /// Lets its parts go, in one call for all who let one go.
+    fn drop(self) {
+        let UnitTables {
+            items: _,
+            layout: _,
+            bodies: _,
+            kinds: _,
+        } = self;
+    }
 }
 
 impl<'w, 'a> UnitTables<'w, 'a> {

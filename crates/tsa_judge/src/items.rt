@@ -84,5 +84,5 @@ pub fn judge(
 {
     let mut known = at_outset(alloc, ground)?;
     all(ground, &mut known)?;
-    Ok(known.tables)
+    Ok(known.into_tables())
 }

@@ -12,12 +12,23 @@ use tsa_tree::kind::{Kind, ThingType};
 use tsa_way::{Path, Scope, Symbols, View};
 
 /// A member or a global: its name, its type, the paths of its guards in order, of which some may have none, and where its declarator stands.
-#[derive(Drop)]
 pub struct Part {
     pub name: Vec<u8>,
     pub thing: ThingType,
     pub guards: Vec<Option<Path>>,
     pub span: Span,
+}
+
+impl Drop for Part {
+    /// Lets its parts go, in one call for all who let one go.
+    fn drop(self) {
+        let Part {
+            name: _,
+            thing: _,
+            guards: _,
+            span: _,
+        } = self;
+    }
 }
 
 impl Model for Part {

@@ -19,12 +19,23 @@ fn few(count: u64) -> u32
 
 /// A struct: whether it is a lock, its members in order, how far behind the first place of them each begins, and how many places an object of
 /// it takes.
-#[derive(Drop)]
 pub struct Defined {
     pub(crate) is_lock: bool,
     pub(crate) members: Vec<Part>,
     pub(crate) begins: Vec<u32>,
     pub(crate) size: u32,
+}
+
+impl Drop for Defined {
+    /// Lets its parts go, in one call for all who let one go.
+    fn drop(self) {
+        let Defined {
+            is_lock: _,
+            members: _,
+            begins: _,
+            size: _,
+        } = self;
+    }
 }
 
 impl Defined {

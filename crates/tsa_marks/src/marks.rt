@@ -14,11 +14,21 @@ use tsa_base::NoMemory;
 use tsa_rules::Mark;
 
 /// A row for each point that is begun, and in it a mark for each path by its number; where nothing is noted, the point says nothing of the path.
-#[derive(Drop)]
 pub struct Marks {
     pub(crate) alloc: Global,
     pub(crate) marks: IndexMap<u64, Mark>,
     rows: u32,
+}
+
+impl Drop for Marks {
+    /// Lets its parts go, in one call for all who let one go.
+    fn drop(self) {
+        let Marks {
+            alloc: _,
+            marks: _,
+            rows: _,
+        } = self;
+    }
 }
 
 impl Model for Marks {

@@ -10,9 +10,15 @@ use tsa_base::NoMemory;
 use tsa_way::Path;
 
 /// Different paths, as many as there are, in the order in which they came. Contracts see the list of them.
-#[derive(Drop)]
 pub struct PathSet {
     keys: IndexSet<Key>,
+}
+
+impl Drop for PathSet {
+    /// Lets its parts go, in one call for all who let one go.
+    fn drop(self) {
+        let PathSet { keys: _ } = self;
+    }
 }
 
 impl Model for PathSet {

@@ -10,9 +10,15 @@ use std::marker::Model;
 use tsa_way::Path;
 
 /// Different paths, numbered from 0 in the order in which they came. Contracts see the list of them.
-#[derive(Drop)]
 pub struct PathTable {
     keys: IndexSet<Key>,
+}
+
+impl Drop for PathTable {
+    /// Lets its parts go, in one call for all who let one go.
+    fn drop(self) {
+        let PathTable { keys: _ } = self;
+    }
 }
 
 impl Model for PathTable {

@@ -40,10 +40,19 @@ fn leave_point<'a>(scope: &mut Scope<'a>, action: &Action<'a>) -> Result<(), NoM
 }
 
 /// What is known on the way through a body, and how many names were known where each open block began.
-#[derive(Drop)]
 pub struct Walk<'a> {
     scope: Scope<'a>,
     blocks: Vec<usize>,
+}
+
+impl Drop for Walk<'_> {
+    /// Lets its parts go, in one call for all who let one go.
+    fn drop(self) {
+        let Walk {
+            scope: _,
+            blocks: _,
+        } = self;
+    }
 }
 
 impl<'a> Model for Walk<'a> {
@@ -75,7 +84,8 @@ impl<'a> Walk<'a> {
     pub fn into_scope(self) -> Scope<'a>
         ensures { result ≡ self.entry.here }
     {
-        self.scope
+        let Walk { scope, blocks: _ } = self;
+        scope
     }
 
     /// Sets how many locals there are, as where a body is walked through once more.

@@ -19,13 +19,23 @@ use tsa_tree::item::UnitTree;
 
 /// A typed unit of which no premise of the profile fails, where the functions of some numbers may have their bodies elsewhere, with the paths of its
 /// functions.
-#[derive(Drop)]
 pub struct Fit<'a> {
     pub(crate) typed: Typed<'a>,
     pub(crate) outside: Vec<u32>,
     pub(crate) tables: Vec<Option<PathTable>>,
     pub ghost profiled: { refusal_with outside.items (item_shapes typed.unit.now.items.now) ≡ None },
     ghost tabled: { tables.items ≡ map (paths_if (program_of (item_shapes typed.unit.now.items.now))) (program_of (item_shapes typed.unit.now.items.now)).functions },
+}
+
+impl Drop for Fit<'_> {
+    /// Lets its parts go, in one call for all who let one go.
+    fn drop(self) {
+        let Fit {
+            typed: _,
+            outside: _,
+            tables: _,
+        } = self;
+    }
 }
 
 impl<'a> Fit<'a> {

@@ -150,9 +150,7 @@ fn write_bodies<'s, 'a, O: Sink>(
 {
     'each: for item in teller.pass.ground.items {
         if let Some(body) = teller.item(course, item)? {
-            let written = write_body(desk.alloc, desk.starts, &body, out);
-            drop(body);
-            written?;
+            write_body(desk.alloc, desk.starts, &body, out)?;
         }
     }
     Ok(())

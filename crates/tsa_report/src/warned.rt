@@ -106,9 +106,7 @@ impl UnitLines {
         let alloc = *self.text.allocator();
         'each: for item in teller.pass.ground.items {
             if let Some(body) = teller.item(course, item)? {
-                let added = self.add_body(alloc, starts, &body);
-                drop(body);
-                added?;
+                self.add_body(alloc, starts, &body)?;
             }
         }
         Ok(())

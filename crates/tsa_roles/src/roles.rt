@@ -15,11 +15,21 @@ use tsa_told::{Duty, Looked};
 
 /// What each point of a body does for the rules, and the numbers of its try variables. Contracts see what the points do, where of the locals only try
 /// variables are declared.
-#[derive(Drop)]
 pub struct Roles {
     duties: Vec<Duty>,
     variables: Vec<Option<Variable>>,
     tries: u32,
+}
+
+impl Drop for Roles {
+    /// Lets its parts go, in one call for all who let one go.
+    fn drop(self) {
+        let Roles {
+            duties: _,
+            variables: _,
+            tries: _,
+        } = self;
+    }
 }
 
 impl Model for Roles {

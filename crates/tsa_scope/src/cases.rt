@@ -8,9 +8,15 @@ use std::marker::Model;
 use tsa_base::NoMemory;
 
 /// The values of a switch's cases, modulo 2^32, each with the place of the first case that has it. Contracts see the list of them.
-#[derive(Drop)]
 pub struct Cases {
     entries: IndexMap<u32, u32>,
+}
+
+impl Drop for Cases {
+    /// Lets its parts go, in one call for all who let one go.
+    fn drop(self) {
+        let Cases { entries: _ } = self;
+    }
 }
 
 impl Model for Cases {

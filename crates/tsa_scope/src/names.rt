@@ -9,9 +9,15 @@ use std::marker::Model;
 use tsa_base::NoMemory;
 
 /// Names with what they mean, each once, in order of declaration. Contracts see the list of them.
-#[derive(Drop)]
 pub struct Names<'a, T: Copy> {
     entries: IndexMap<&'a [u8], T>,
+}
+
+impl<T: Copy> Drop for Names<'_, T> {
+    /// Lets its parts go, in one call for all who let one go.
+    fn drop(self) {
+        let Names { entries: _ } = self;
+    }
 }
 
 impl<'a, T: Copy> Model for Names<'a, T> {

@@ -17,11 +17,21 @@ use tsa_tree::meaning::{Entry, Meaning, Tag};
 
 /// A function by its first declaration: the type of its result, those of its parameters in order, and whether a body was there
 /// so far (C11 6.9.1).
-#[derive(Drop)]
 pub struct FunctionTypes {
     pub result: ThingType,
     pub params: Vec<ThingType>,
     pub has_body: bool,
+}
+
+impl Drop for FunctionTypes {
+    /// Lets its parts go, in one call for all who let one go.
+    fn drop(self) {
+        let FunctionTypes {
+            result: _,
+            params: _,
+            has_body: _,
+        } = self;
+    }
 }
 
 impl Model for FunctionTypes {
@@ -34,7 +44,6 @@ impl Model for FunctionTypes {
 
 /// The tags of the whole unit and which of its structs are locks; the structs, names and functions that are known so far, and in a
 /// guard the members before it; and how many globals and, in a body, locals there are. Contracts see them as a scope.
-#[derive(Drop)]
 pub struct Scope<'a> {
     pub(crate) alloc: Global,
     pub(crate) tags: Names<'a, Tag>,
@@ -45,6 +54,23 @@ pub struct Scope<'a> {
     pub(crate) functions: Vec<FunctionTypes>,
     pub(crate) globals: u32,
     pub(crate) locals: u32,
+}
+
+impl Drop for Scope<'_> {
+    /// Lets its parts go, in one call for all who let one go.
+    fn drop(self) {
+        let Scope {
+            alloc: _,
+            tags: _,
+            locks: _,
+            structs: _,
+            owned: _,
+            names: _,
+            functions: _,
+            globals: _,
+            locals: _,
+        } = self;
+    }
 }
 
 impl<'a> Model for Scope<'a> {

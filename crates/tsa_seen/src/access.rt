@@ -9,11 +9,21 @@ use tsa_base::{NoMemory, Span};
 use tsa_path::Path;
 
 /// A cell as it is read or written: where the expression stands that stands for it, and the paths of its guards in order, of which some may have none.
-#[derive(Drop)]
 pub struct Access {
     pub span: Span,
     pub is_write: bool,
     pub guards: Vec<Option<Path>>,
+}
+
+impl Drop for Access {
+    /// Lets its parts go, in one call for all who let one go.
+    fn drop(self) {
+        let Access {
+            span: _,
+            is_write: _,
+            guards: _,
+        } = self;
+    }
 }
 
 impl Model for Access {

@@ -8,11 +8,21 @@ use std::mem::replace;
 use tsa_base::NoMemory;
 
 /// Accesses in order of the text, and room in which those of one expression are found. Contracts see the list of them.
-#[derive(Drop)]
 pub struct Footprint {
     alloc: Global,
     accesses: Vec<Access>,
     room: Vec<Access>,
+}
+
+impl Drop for Footprint {
+    /// Lets its parts go, in one call for all who let one go.
+    fn drop(self) {
+        let Footprint {
+            alloc: _,
+            accesses: _,
+            room: _,
+        } = self;
+    }
 }
 
 impl Model for Footprint {

@@ -10,11 +10,21 @@ use tsa_path::{Path, substitute};
 use tsa_tree::attr::AttrKind;
 
 /// A lock that an attribute of a function names: the path to it, where it has one; of a try, the result for which it is taken.
-#[derive(Drop)]
 pub struct NamedLock {
     pub kind: AttrKind,
     pub success: bool,
     pub path: Option<Path>,
+}
+
+impl Drop for NamedLock {
+    /// Lets its parts go, in one call for all who let one go.
+    fn drop(self) {
+        let NamedLock {
+            kind: _,
+            success: _,
+            path: _,
+        } = self;
+    }
 }
 
 impl Model for NamedLock {
@@ -26,9 +36,15 @@ impl Model for NamedLock {
 }
 
 /// The locks that the attributes of a function name, in order.
-#[derive(Drop)]
 pub struct NamedLocks {
     pub locks: Vec<NamedLock>,
+}
+
+impl Drop for NamedLocks {
+    /// Lets its parts go, in one call for all who let one go.
+    fn drop(self) {
+        let NamedLocks { locks: _ } = self;
+    }
 }
 
 impl Model for NamedLocks {

@@ -23,13 +23,25 @@ use tsa_tree::item::{FnTree, Item};
 use tsa_tree::stmt::Stmt;
 
 /// A body that is entered: its function by number and head, its statements, which of its locals never change, and what is left behind it.
-#[derive(Drop)]
 pub struct Inside<'a> {
     pub number: u32,
     pub head: &'a FnTree<'a>,
     pub body: &'a [Stmt<'a>],
     pub stable: Vec<bool>,
     outside: Outside,
+}
+
+impl Drop for Inside<'_> {
+    /// Lets its parts go, in one call for all who let one go.
+    fn drop(self) {
+        let Inside {
+            number: _,
+            head: _,
+            body: _,
+            stable: _,
+            outside: _,
+        } = self;
+    }
 }
 
 /// Enters the body of a function whose head is typed: its parameters are known there, and its own attributes.

@@ -23,10 +23,19 @@ use tsa_tree::item::{FnTree, Item};
 use tsa_way::Sight;
 
 /// What is known by name, and the locks that the declared functions name, by their numbers.
-#[derive(Drop)]
 pub struct Knowledge<'a> {
     pub scope: Scope<'a>,
     pub attributes: Vec<NamedLocks>,
+}
+
+impl Drop for Knowledge<'_> {
+    /// Lets its parts go, in one call for all who let one go.
+    fn drop(self) {
+        let Knowledge {
+            scope: _,
+            attributes: _,
+        } = self;
+    }
 }
 
 impl<'a> Model for Knowledge<'a> {

@@ -10,10 +10,16 @@ use tsa_path::{PathNames, path_text};
 use tsa_way::{Path, PathStep, Root};
 
 /// What a path is told by: its text, and the locals that it mentions. Contracts see these two.
-#[derive(Drop)]
 pub struct PathText {
     text: Vec<u8>,
     locals: Vec<u32>,
+}
+
+impl Drop for PathText {
+    /// Lets its parts go, in one call for all who let one go.
+    fn drop(self) {
+        let PathText { text: _, locals: _ } = self;
+    }
 }
 
 impl Model for PathText {

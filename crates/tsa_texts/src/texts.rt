@@ -16,11 +16,21 @@ use tsa_marks::Numbers;
 use tsa_path::PathNames;
 
 /// The paths of a function with their texts, by their numbers, and the order in which they are told. Contracts see what each path is told by.
-#[derive(Drop)]
 pub struct PathTexts {
     texts: Vec<PathText>,
     order: Vec<u32>,
     ranks: Vec<u32>,
+}
+
+impl Drop for PathTexts {
+    /// Lets its parts go, in one call for all who let one go.
+    fn drop(self) {
+        let PathTexts {
+            texts: _,
+            order: _,
+            ranks: _,
+        } = self;
+    }
 }
 
 impl Model for PathTexts {

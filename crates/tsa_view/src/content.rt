@@ -8,11 +8,22 @@ use tsa_notes::{Marks, Notes, Numbers};
 
 /// All that the rules go by in a function: its paths by their numbers, the kind of the lock to which each leads and what the function says of it, and what
 /// its points do and say of each path.
-#[derive(Drop)]
 pub struct RuleView<'a> {
     pub(crate) numbers: Numbers,
     pub(crate) kinds: Vec<Option<LockKind<'a>>>,
     pub(crate) own: Marks,
     pub(crate) notes: Notes,
     pub ghost few: { tries_in notes.roles < pending_places },
+}
+
+impl Drop for RuleView<'_> {
+    /// Lets its parts go, in one call for all who let one go.
+    fn drop(self) {
+        let RuleView {
+            numbers: _,
+            kinds: _,
+            own: _,
+            notes: _,
+        } = self;
+    }
 }

@@ -24,10 +24,16 @@ pub enum PathStep {
 }
 
 /// A root and the steps from it, in order. Contracts see it as a way.
-#[derive(Drop)]
 pub struct Path {
     root: Root,
     steps: Vec<PathStep>,
+}
+
+impl Drop for Path {
+    /// Lets its parts go, in one call for all who let one go.
+    fn drop(self) {
+        let Path { root: _, steps: _ } = self;
+    }
 }
 
 impl Model for Path {

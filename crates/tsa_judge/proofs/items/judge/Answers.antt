@@ -6,4 +6,4 @@ use Rattle.tsa_judge.proofs.items.judge.Goals as goal
 pub returns-clause-tables : goal.returns-clause-tables
 returns-clause-tables c =
     let u = unit_at c.args.ground.now in
-    ap (λ m. m.tables) c.known.view_is ∙ ap (λ m. m.tables) c.in_ok-all.ensures.behind ∙ tables_all u (outset_of u) u.items
+    c.into_tables.ensures ∙ ap (λ m. m.tables) c.in_ok-all.ensures.behind ∙ tables_all u (outset_of u) u.items

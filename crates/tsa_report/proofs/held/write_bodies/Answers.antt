@@ -13,7 +13,7 @@ use Rattle.tsa_report.proofs.Pieces.{no_piece_added, piece_added}
 use Rattle.tsa_report.proofs.Progress.{all_told, at_body, later, no_body, one_told, outset_told, the_body}
 use Rattle.tsa_report.proofs.Unique.{body_held_once}
 use Rattle.tsa_report.proofs.held.write_bodies.Goals as goal
-use Rattle.tsa_report.proofs.held.write_bodies.Goals.{in-Some+in_ok-written, in_default}
+use Rattle.tsa_report.proofs.held.write_bodies.Goals.{in-Some+in_ok-write_body, in_default}
 
 pub each-init : goal.each-init
 each-init g c = record {
@@ -37,8 +37,8 @@ returns-in_err-body-clause-front g c = any_error c.from_residual.result _ (λ li
     front_of_first IsPiece (body_held_once c.args.desk.starts.now items) taken each each h.done (bodies_from (course_of c.each.course).known.here (item_shapes (drop c.each.item-index trees))) h.lines lines
     h.held h.written (subst (λ bs. Pieces IsPiece bs lines) h.told.whole there))
 
-pub returns-in_err-written-clause-front : goal.returns-in_err-written-clause-front
-returns-in_err-written-clause-front g c = any_error c.from_residual-in_err-written.result _ (λ lines held.
+pub returns-in_err-write_body-clause-front : goal.returns-in_err-write_body-clause-front
+returns-in_err-write_body-clause-front g c = any_error c.from_residual-in_err-write_body.result _ (λ lines held.
     let trees = c.args.teller.now.pass.ground.items.now in
     let items = item_shapes trees in
     let x = c.item-item.result in
@@ -50,9 +50,9 @@ returns-in_err-written-clause-front g c = any_error c.from_residual-in_err-writt
     let IsPiece = IsBodyHeld c.args.desk.starts.now items in
     let found = the_body items new c.in-Some.body (subst (Tells items new) c.in-Some.is c.in_ok-body.ensures.told) in
     let there = held in
-    front_of_pieces IsPiece (body_held_once c.args.desk.starts.now items) (g.O.Sink.taken c.args.out.now) (g.O.Sink.taken c.each.out) (g.O.Sink.taken c.write_body-written.new.out) h.done found.0
+    front_of_pieces IsPiece (body_held_once c.args.desk.starts.now items) (g.O.Sink.taken c.args.out.now) (g.O.Sink.taken c.each.out) (g.O.Sink.taken c.write_body.new.out) h.done found.0
     (later trees i x k h.done at_i h.told) h.lines lines h.held h.written
-    (c.in_err-written.ensures.front items found.0 found.1.1)
+    (c.in_err-write_body.ensures.front items found.0 found.1.1)
     (subst (λ bs. Pieces IsPiece bs lines) (at_body trees i x k h.done at_i h.told found.0 found.1.0) there))
 
 pub each-preserved : goal.each-preserved
@@ -67,17 +67,17 @@ each-preserved g c =
     let at_i = drop-cons trees i x c.each-test.true ∙ ap (λ y. y ∷ drop (suc i) trees) (sym c.item-item.is) in
     let taken = g.O.Sink.taken c.args.out.now in
     elim c.match-branch-2.branch [
-      | in-Some+in_ok-written w ↦
+      | in-Some+in_ok-write_body w ↦
           let found = the_body items new w.in-Some.body (subst (Tells items new) w.in-Some.is c.in_ok-body.ensures.told) in
-          let told = w.in_ok-written.ensures.all items found.0 found.1.1 in
+          let told = w.in_ok-write_body.ensures.all items found.0 found.1.1 in
           record {
-            later = subst (λ o. g.O.Sink.faults c.args.out.now ≤ g.O.Sink.faults o) (sym w.out-is) (omega (arith, h.later, w.write_body-written.ensures.later));
+            later = subst (λ o. g.O.Sink.faults c.args.out.now ≤ g.O.Sink.faults o) (sym w.out-is) (omega (arith, h.later, w.write_body.ensures.later));
             done = h.done ++ new;
             told = one_told trees i x k h.done at_i h.told (course_of c.item.new.course) c.in_ok-body.ensures.behind;
             lines = h.lines ++ told.0;
             held = piece_added (IsBodyHeld c.args.desk.starts.now items) h.done new found.0 h.lines told.0 found.1.0 h.held told.1.0;
             written = subst (λ o. Appends taken (g.O.Sink.taken o) (h.lines ++ told.0)) (sym w.out-is)
-                (appends_more taken (g.O.Sink.taken c.each.out) (g.O.Sink.taken w.write_body-written.new.out) h.lines told.0 h.written told.1.1);
+                (appends_more taken (g.O.Sink.taken c.each.out) (g.O.Sink.taken w.write_body.new.out) h.lines told.0 h.written told.1.1);
           }
       | in_default w ↦ record {
         later = subst (λ o. g.O.Sink.faults c.args.out.now ≤ g.O.Sink.faults o) (sym w.out-is) h.later;

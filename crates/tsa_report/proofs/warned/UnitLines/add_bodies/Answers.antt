@@ -9,7 +9,7 @@ use Rattle.tsa_report.specs.Warned.{AreWarned}
 use Rattle.tsa_report.proofs.Lines.{body_added, no_body_added}
 use Rattle.tsa_report.proofs.Progress.{all_told, no_body, one_told, outset_told, the_body}
 use Rattle.tsa_report.proofs.warned.UnitLines.add_bodies.Goals as goal
-use Rattle.tsa_report.proofs.warned.UnitLines.add_bodies.Goals.{in-Some+in_ok-added, in_default}
+use Rattle.tsa_report.proofs.warned.UnitLines.add_bodies.Goals.{in-Some+in_ok-add_body, in_default}
 
 pub each-init : goal.each-init
 each-init c = record {
@@ -32,9 +32,9 @@ each-preserved c =
       done = h.done ++ new;
       told = one_told trees i x k h.done at_i h.told (course_of c.item.new.course) c.in_ok-body.ensures.behind;
       lines = λ none. elim c.match-branch-2.branch [
-        | in-Some+in_ok-added w ↦
+        | in-Some+in_ok-add_body w ↦
             let found = the_body items new w.in-Some.body (subst (Tells items new) w.in-Some.is c.in_ok-body.ensures.told) in
-            let told = w.in_ok-added.ensures items found.0 found.1.1 in
+            let told = w.in_ok-add_body.ensures items found.0 found.1.1 in
             body_added c.args.starts.now items h.done new found.0 (warned_of c.each.self) told.0 (warned_of c.match-branch-2.self) found.1.0 (ap warned_of w.self-is ∙ told.1.1) (h.lines none) told.1.0
         | in_default w ↦
             subst (λ l. AreWarned c.args.starts.now items (h.done ++ new) (warned_of l)) (sym w.self-is)
