@@ -1,3 +1,4 @@
+mod Alike
 pub mod Slots
 pub mod Lacking
 pub mod Taking

@@ -5,13 +5,11 @@ use Rattle.tsa_links.specs.declared.link.Outcome as code
 use Rattle.tsa_rules.specs.declared.case.Asked.{Asked}
 use Rattle.tsa_rules.specs.declared.case.Asked.TheVariants as asked
 use Rattle.tsa_rules.specs.declared.case.Case.{Case}
-use Rattle.tsa_rules.specs.declared.case.Role.{Role}
-use Rattle.tsa_rules.specs.declared.case.Role.TheVariants as role
 use Rattle.tsa_rules.specs.declared.status.Status.{Status}
 use Rattle.tsa_rules.specs.declared.status.Status.TheVariants.{Pending}
 use Rattle.tsa_rules.specs.declared.statuses.Statuses.{Statuses}
 use Rattle.tsa_rules.specs.Sets.{Has}
-use Rattle.tsa_reach.specs.Passing.{IsPassed, IsPending, IsUnseen}
+use Rattle.tsa_reach.specs.Passing.{IsPassed, IsUnseen}
 use Rattle.tsa_reach.specs.Rows.{set_at}
 
 module _ (cases : ℕ → Case) (o : code.Outcome) (claims : List ℕ) (old now new : List Statuses) (k : ℕ) (done : (l : ℕ) → l < k → IsPassed (cases l) o claims l (set_at old l) (set_at now l))
@@ -26,12 +24,6 @@ module _ (cases : ℕ → Case) (o : code.Outcome) (claims : List ℕ) (old now 
   rest_on l low = elsewhere l (λ e. absurd (omega (arith, e, low))) ∙ rest l (omega (arith, low))
 
 -- what holds an answer unseen does so together with others
-unseen_among : (a : Asked) (set all : Statuses) → ((s : Status) → Has set s → Has all s) → IsUnseen a set → IsUnseen a all
+pub unseen_among : (a : Asked) (set all : Statuses) → ((s : Status) → Has set s → Has all s) → IsUnseen a set → IsUnseen a all
 unseen_among asked.Call set all inside h = h
 unseen_among (asked.Variable v) set all inside h = inside (Pending v) h
-
-pub pending_among : (r : Role) (set all : Statuses) → ((s : Status) → Has set s → Has all s) → IsPending r set → IsPending r all
-pending_among (role.Tests t) set all inside h = unseen_among t.asked set all inside h
-pending_among (role.Declares v) set all inside h = h
-pending_among (role.Leaves answer) set all inside h = h
-pending_among role.Passes set all inside h = h

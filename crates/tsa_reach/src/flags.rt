@@ -11,9 +11,15 @@ use tsa_base::NoMemory;
 use tsa_rules::Statuses;
 
 /// A flag for each lane, which says that no edges disagree there so far. Contracts see the list.
-#[derive(Drop)]
 pub struct Flags {
     bits: Vec<bool>,
+}
+
+impl Drop for Flags {
+    /// Lets its parts go, in one call for all who let one go.
+    fn drop(self) {
+        let Flags { bits: _ } = self;
+    }
 }
 
 impl Model for Flags {
@@ -81,6 +87,9 @@ impl Flags {
         requires { length self.old ≡ count }
         ensures { AreLanesCompared count set.now brought.now self.old self.new }
     {
+        if set.is_same(brought) {
+            return;
+        }
         'lanes: for lane in 0..count {
             let mine = set.at(lane);
             let all = brought.at(lane);

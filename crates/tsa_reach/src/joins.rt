@@ -17,10 +17,19 @@ use tsa_blocks::Blocks;
 use tsa_rules::Statuses;
 
 /// What walks bring to the first point of each block, lane by lane: the statuses, and whether all edges that are reached there bring the same.
-#[derive(Drop)]
 pub struct Joins {
     pub(crate) rows: Vec<Row>,
     pub(crate) agreeing: Vec<Flags>,
+}
+
+impl Drop for Joins {
+    /// Lets its parts go, in one call for all who let one go.
+    fn drop(self) {
+        let Joins {
+            rows: _,
+            agreeing: _,
+        } = self;
+    }
 }
 
 /// What walks bring to the first points of the blocks of a body.

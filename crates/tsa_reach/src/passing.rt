@@ -1,5 +1,5 @@
 //! What points make of the statuses of lanes.
-ghost use Rattle.std.specs.Prelude.{◌≡◌, ◌+◌, ◌<◌, ◌↔◌, ℕ, nat_eq, length, IfOk, IsTrue};
+ghost use Rattle.std.specs.Prelude.{◌≡◌, ◌+◌, ◌<◌, ◌↔◌, ℕ, nat_eq, length, IfOk, IsFalse, IsTrue};
 ghost use Rattle.std.specs.List.{list_any};
 ghost use Rattle.tsa_blocks.specs.Rows.{last_in, outcome_in, point_in};
 ghost use Rattle.tsa_links.specs.Links.{outcome_of};
@@ -35,6 +35,16 @@ fn is_pending(role: Role, set: Statuses) -> bool
 {
     match role {
         Role::Tests(test) => is_unseen(test.asked, set),
+        _ => false,
+    }
+}
+
+/// Whether a point tests a variable whose answer some lane may hold unseen.
+fn may_be_pending(role: Role, row: &Row) -> bool
+    ensures { IsFalse result → (lane : ℕ) → IsPending role (set_at row.now lane) → ⊥ }
+{
+    match role {
+        Role::Tests(test) => is_unseen(test.asked, row.all()),
         _ => false,
     }
 }
@@ -88,7 +98,7 @@ fn pass_row<L: Lanes>(lanes: &L, pass: Pass, row: &mut Row)
     ensures each { (lane : ℕ) → pass.point < L.points lanes.now → lane < L.count lanes.now → Passes (L.cases lanes.now lane pass.point) pass.outcome (set_at row.old lane) (set_at row.new lane) }
 {
     let claims = lanes.claims(pass.point);
-    if is_pending(lanes.role(pass.point), row.all()) {
+    if may_be_pending(lanes.role(pass.point), row) {
         pass_pending(lanes, pass, claims, row);
     }
     pass_claims(lanes, pass, claims, row);

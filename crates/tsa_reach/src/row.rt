@@ -9,9 +9,15 @@ use tsa_base::NoMemory;
 use tsa_rules::Statuses;
 
 /// The statuses of all lanes at one place. Contracts see the list.
-#[derive(Drop)]
 pub struct Row {
     sets: Vec<Statuses>,
+}
+
+impl Drop for Row {
+    /// Lets its parts go, in one call for all who let one go.
+    fn drop(self) {
+        let Row { sets: _ } = self;
+    }
 }
 
 impl Model for Row {
@@ -96,6 +102,13 @@ impl Row {
         ensures { (lane : ℕ) (s : _) → Has (set_at self.now lane) s → Has result s }
     {
         unite(&self.sets)
+    }
+
+    /// Whether all lanes have the same statuses as in another row.
+    pub(crate) fn is_same(&self, other: &Row) -> bool
+        ensures { IsTrue result → self.now ≡ other.now }
+    {
+        self.sets == other.sets
     }
 
     /// Puts statuses into a lane, where it is there.

@@ -22,10 +22,19 @@ use tsa_blocks::{Block, Blocks, Place};
 use tsa_rules::Statuses;
 
 /// What walks bring to the points of a body, lane by lane: to the first points of blocks, and to where the stages of blocks begin.
-#[derive(Drop)]
 pub struct Reached {
     pub(crate) joins: Joins,
     pub(crate) stages: Stages,
+}
+
+impl Drop for Reached {
+    /// Lets its parts go, in one call for all who let one go.
+    fn drop(self) {
+        let Reached {
+            joins: _,
+            stages: _,
+        } = self;
+    }
 }
 
 /// A point in a lane.
