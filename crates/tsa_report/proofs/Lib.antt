@@ -1,8 +1,4 @@
-pub mod Pieces
 pub mod SortedOnce
-pub mod Ranges
-pub mod Fronts
-pub mod Parts
 pub mod Unique
 pub mod Having
 pub mod Beside
@@ -10,6 +6,4 @@ pub mod Told
 pub mod Quiet
 pub mod Lines
 pub mod OneLine
-pub mod Paging
-pub mod Trying
 pub mod Progress

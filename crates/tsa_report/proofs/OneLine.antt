@@ -1,50 +1,24 @@
 -- Lines, put together of their parts behind a text.
-use Rattle.std.proofs.Common.{◌≡◌, ◌∙◌, ◌+◌, ◌≤◌, ◌<◌, arith, ℕ, suc, Bool, true, false, eqb-true, List, [], ◌∷◌, ◌++◌, length, drop, Option, Some, None, option_map, slice_index_or, nat_eq, refl, sym, ap, append_assoc, append-nil}
+use Rattle.std.proofs.Common.{◌≡◌, ◌∙◌, ◌+◌, ◌≤◌, ◌<◌, arith, ℕ, suc, List, [], ◌∷◌, ◌++◌, length, drop, Option, Some, None, option_map, slice_index_or, sym, ap, append_assoc, append-nil}
 use Rattle.std.proofs.Math.Seq.{drop-cons}
 use Rattle.std.proofs.lemmas.List.{drop_all}
 use Rattle.std.specs.List.{flat_map}
 use Rattle.std.specs.Option.{option_map_or, unwrap_or}
 use Rattle.tsa_way.specs.Ways.{Way}
 use Rattle.tsa_core.specs.Programs.{Function, Program}
-use Rattle.tsa_rules.specs.declared.statuses.Statuses.{Statuses}
-use Rattle.tsa_texts.specs.Orders.{texts_of}
 use Rattle.tsa_texts.specs.Ranks.{PathText, told_by}
-use Rattle.tsa_lines.specs.HeldLines.{held_text}
 use Rattle.tsa_lines.specs.Lines.{warning_text}
 use Rattle.tsa_failures.specs.declared.failure.RuleFailure.{RuleFailure}
 use Rattle.tsa_bodies.specs.Bodies.{BodyText}
-use Rattle.tsa_report.specs.Held.{Account, paths_in, set_line, tries_in, unless_nothing}
-use Rattle.tsa_report.specs.Lines.{held_line, kind_text, place_of, warning_line}
+use Rattle.tsa_report.specs.Lines.{kind_text, place_of, warning_line}
 
 together : (text place says end : List ℕ) → ((text ++ place) ++ says) ++ end ≡ text ++ (place ++ (says ++ end))
 together text place says end = append_assoc (text ++ place) says end ∙ append_assoc text place (says ++ end)
 
 -- a line behind a text
-line_behind : (place says old placed said new : List ℕ) → placed ≡ old ++ place → said ≡ placed ++ says → new ≡ said ++ 10 ∷ [] → new ≡ old ++ (place ++ (says ++ 10 ∷ []))
+pub line_behind : (place says old placed said new : List ℕ) → placed ≡ old ++ place → said ≡ placed ++ says → new ≡ said ++ 10 ∷ [] → new ≡ old ++ (place ++ (says ++ 10 ∷ []))
 line_behind place says old placed said new is_placed is_said is_new =
     is_new ∙ ap (λ t. t ++ 10 ∷ []) (is_said ∙ ap (λ t. t ++ says) is_placed) ∙ together old place says (10 ∷ [])
-
-not_zero : (n : ℕ) → (n ≡ 0 → ⊥) → nat_eq n 0 ≡ false
-not_zero n h = by (nat_eq n 0) refl
-  where
-    by : (b : Bool) → nat_eq n 0 ≡ b → nat_eq n 0 ≡ false
-    by true is = absurd (h (eqb-true n 0 is))
-    by false is = is
-
-module _ (bytes : List ℕ) (a : Account) (point cap : ℕ) (set : Statuses) where
-  abbrev held : List ℕ
-  held = held_line bytes (tries_in a) (texts_of a.names (paths_in a)) a.body point cap set
-
-  pub no_line : set.bits ≡ 0 → set_line bytes a point cap set ≡ []
-  no_line none = ap (λ n. unless_nothing (nat_eq n 0) held) none
-
-  pub held_is : (set.bits ≡ 0 → ⊥) → (old placed said new : List ℕ) → placed ≡ old ++ place_of bytes a.body.points point
-      → said ≡ placed ++ held_text (tries_in a) a.body.name (told_by (texts_of a.names (paths_in a)) cap).text set → new ≡ said ++ 10 ∷ []
-      → new ≡ old ++ set_line bytes a point cap set
-  unfolding held_line
-  held_is some old placed said new is_placed is_said is_new =
-      line_behind (place_of bytes a.body.points point) (held_text (tries_in a) a.body.name (told_by (texts_of a.names (paths_in a)) cap).text set) old placed said new is_placed is_said is_new
-      ∙ sym (ap (λ b. old ++ unless_nothing b held) (not_zero set.bits some))
 
 -- the text of a kind that may not be there
 pub kind_is : {R : Type 0} (now : R → List ℕ) (k : Option R) (o : Option Way) (text : Way → List ℕ) (e : R) → now e ≡ [] → option_map now k ≡ option_map text o

@@ -7,7 +7,7 @@ use Rattle.std.specs.Fmt.{decimal}
 use Rattle.tsa_print.specs.UnitPieces.{canonical_unit}
 use Rattle.tsa_tree.specs.units.Syntax.{UnitItem}
 use Rattle.tsa_tool.specs.Checks.{fit_in, tree_in}
-use Rattle.tsa_report.specs.Held.{IsHeld}
+use Rattle.tsa_show.specs.Held.{IsHeld}
 use Rattle.tsa_report.specs.Warned.{IsWarned, Warned}
 use Rattle.tsa_base.specs.declared.token.LexCode.{LexCode}
 use Rattle.tsa_base.specs.declared.token.LexCode.TheVariants.{LX1, LX2, LX3, LX4, LX5}

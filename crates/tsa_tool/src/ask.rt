@@ -15,7 +15,7 @@ use crate::command::Command;
 use bumpalo::Bump;
 use std::alloc::Global;
 use tsa_base::{NoMemory, PushTrouble, ReadTrouble, Sink, Source, read_all, write_all};
-use tsa_report::{WriteRefusal, write_held};
+use tsa_show::{WriteRefusal, write_held};
 
 /// Why there is no answer, or only a first part of one.
 #[derive(Clone, Copy)]

@@ -1,6 +1,6 @@
 use Rattle.std.proofs.Common.{sym, subst}
 use Rattle.std.specs.Prelude.{IfOk, OnErr}
-use Rattle.tsa_report.proofs.Fronts.{on_error}
+use Rattle.tsa_show.proofs.Fronts.{on_error}
 use Rattle.tsa_tool.specs.Answer.{report_of}
 use Rattle.tsa_tool.specs.Reports.{IsAnswerTo}
 use Rattle.tsa_tool.specs.Runs.{Gives, WritesFront}

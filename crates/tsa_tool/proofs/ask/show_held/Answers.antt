@@ -1,6 +1,6 @@
 use Rattle.std.proofs.Common.{◌∙◌, Err, ap}
 use Rattle.tsa_tree.specs.units.Shapes.{item_shapes}
-use Rattle.tsa_report.proofs.Fronts.{any_error}
+use Rattle.tsa_show.proofs.Fronts.{any_error}
 use Rattle.tsa_tool.specs.Answer.{report_of}
 use Rattle.tsa_tool.specs.Checks.{fit_in}
 use Rattle.tsa_tool.specs.Reports.{IsHeldOf, OfUnit}
