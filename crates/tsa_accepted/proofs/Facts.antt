@@ -4,6 +4,7 @@ use Rattle.std.specs.Prelude.{IsSome}
 use Rattle.tsa_tree.specs.units.Syntax.{UnitItem}
 use Rattle.tsa_core.specs.Calls.{Layout}
 use Rattle.tsa_core.specs.Programs.{Program, program_of}
+use Rattle.tsa_core.proofs.ProgramKinds.{program_layout}
 use Rattle.tsa_rules.specs.Points.{function_at}
 use Rattle.tsa_rules.specs.Warnings.{HasNoWarnings}
 use Rattle.tsa_sound.specs.Facts.{FunctionFacts, PointFacts, ProgramFacts}
@@ -14,7 +15,7 @@ use Rattle.tsa_accepted.specs.terms.Units.{IsInProfile}
 use Rattle.tsa_accepted.proofs.terms.PointsFit.{arguments_have_their_paths, points_have_their_terms}
 use Rattle.tsa_accepted.proofs.laid.Laying.{places_are_laid_out}
 use Rattle.tsa_accepted.specs.kept.Visits.{rows_of}
-use Rattle.tsa_accepted.proofs.kept.Functions.{locals_are_set_apart, program_layout, units_keep_their_rows}
+use Rattle.tsa_accepted.proofs.kept.Functions.{locals_are_set_apart, units_keep_their_rows}
 use Rattle.tsa_accepted.proofs.called.CallsMeet.{calls_have_their_facts}
 use Rattle.tsa_accepted.proofs.entered.FunctionBodies.{bodies_may_be_entered}
 use Rattle.tsa_accepted.proofs.entered.SmallLayouts.{layouts_are_small}

@@ -4,7 +4,6 @@ pub mod FinePaths
 pub mod StablePaths
 pub mod CountedLocals
 pub mod SetLocals
-pub mod HeadScopes
 pub mod TryLocals
 pub mod SetsApart
 pub mod Functions

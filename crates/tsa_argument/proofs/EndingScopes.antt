@@ -4,6 +4,7 @@ use Rattle.std.proofs.lemmas.Bool.Decides.{nat_tests}
 use Rattle.std.specs.Prelude.{option_and_then}
 use Rattle.std.specs.Str.{bytes_eq}
 use Rattle.tsa_base.specs.declared.value.Value.TheVariants.{Pointer}
+use Rattle.tsa_base.proofs.Truths.{never}
 use Rattle.tsa_tree.specs.declarations.Syntax.{Declaration}
 use Rattle.tsa_tree.specs.declared.expr.UnaryOp.TheVariants as prefix
 use Rattle.tsa_tree.specs.declared.kind.Kind.{Kind}
@@ -31,7 +32,7 @@ use Rattle.tsa_layout.specs.Calls.{Layout, evaluated, no_locals}
 use Rattle.tsa_layout.specs.Parts.{no_stable}
 use Rattle.tsa_item.specs.Items.{known_global, or_zero}
 use Rattle.tsa_fill.specs.Units.{address_in, cell_value}
-use Rattle.tsa_core.proofs.KindTests.{never, both_true}
+use Rattle.tsa_core.proofs.KindTests.{both_true}
 use Rattle.tsa_core.proofs.SameConstants.{SameConstants, same_value}
 use Rattle.tsa_core.proofs.ScopesAlike.{Alike, no_function, known_found, value_same}
 use Rattle.tsa_core.proofs.UnitScopes.{or_other, found_append, item_alike}

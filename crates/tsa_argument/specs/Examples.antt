@@ -1,19 +1,14 @@
 -- Expressions for the parameters of a function, each with its value, or none.
-use Rattle.std.specs.Prelude.{◌≡◌, ℕ, pos, negsuc, List, [], ◌++◌, Option, Some, None, option_map, slice_get, Ok, Err, codes}
-use Rattle.std.specs.declared.result.Result.{Result}
-use Rattle.tsa_base.specs.Tokens.{Lexeme, BadByte}
+use Rattle.std.specs.Prelude.{◌≡◌, ℕ, pos, negsuc, List, ◌++◌, Option, Some, None, option_map, slice_get, codes}
 use Rattle.tsa_base.specs.declared.value.Value.{Value}
 use Rattle.tsa_base.specs.declared.value.Value.TheVariants.{Int, Unsigned, Pointer}
 use Rattle.tsa_lex.specs.Quick.{quick_tokens_of}
-use Rattle.tsa_forms.specs.Reading.{Outcome}
-use Rattle.tsa_tree.specs.Reads.{read}
-use Rattle.tsa_tree.specs.Rows as rows
-use Rattle.tsa_tree.specs.expressions.Syntax.{Expression, null, nowhere}
 use Rattle.tsa_tree.specs.declared.premise.TypeCode.{TypeCode}
 use Rattle.tsa_tree.specs.declared.premise.TypeCode.TheVariants.{TY1, TY9}
 use Rattle.tsa_tree.specs.types.FirstFailing.{first_failing}
 use Rattle.tsa_tree.specs.types.Texts.{unit_in}
 use Rattle.tsa_tree.specs.units.Syntax.{UnitItem}
+use Rattle.tsa_tree.specs.types.ExpressionExamples.{read_in}
 use Rattle.tsa_core.specs.Programs.{program_of}
 use Rattle.tsa_argument.specs.Arguments.{argument_of}
 
@@ -26,14 +21,6 @@ text =
 
 abbrev unit : List UnitItem
 unit = unit_in (quick_tokens_of text)
-
-abbrev read_as : Outcome Expression → Expression
-read_as (Ok found) = found.0
-read_as (Err refusal) = null nowhere
-
-abbrev read_in : Result (List Lexeme) BadByte → Expression
-read_in (Ok tokens) = read_as (read tokens rows.an_expression (rows.expression [] 0 0) 0)
-read_in (Err bad) = null nowhere
 
 -- the value of a text for a parameter of `f`, which is the second function
 abbrev value_for : ℕ → List ℕ → Option Value

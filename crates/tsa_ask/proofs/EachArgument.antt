@@ -1,6 +1,7 @@
 -- What is asked of the arguments of attributes, one after the other.
-use Rattle.std.proofs.Common.{◌≡◌, ◌∙◌, ℕ, ◌+◌, suc, arith, Bool, true, false, not, ◌&&◌, List, [], ◌∷◌, ◌++◌, drop, Option, Some, None, is_none, refl, ap, sym}
+use Rattle.std.proofs.Common.{◌≡◌, ◌∙◌, ℕ, ◌+◌, suc, Bool, true, false, not, ◌&&◌, List, [], ◌∷◌, ◌++◌, drop, Option, Some, None, is_none, refl, ap, sym}
 use Rattle.tsa_base.specs.declared.token.Span.{Span}
+use Rattle.tsa_base.proofs.Numbers.{one_behind as plus_one}
 use Rattle.tsa_tree.specs.declared.attr.AttrKind.{AttrKind}
 use Rattle.tsa_tree.specs.declared.expr.Expr.{Expr}
 use Rattle.tsa_tree.specs.expressions.Shapes.{shape, shapes}
@@ -14,9 +15,6 @@ use Rattle.tsa_use.specs.Expressions.{View, own, parts}
 use Rattle.tsa_seen.specs.Premises.{Premise, or_else, first}
 use Rattle.tsa_ask.specs.Declarations.{argument, attribute_arguments, is_among, is_call, is_named_once, is_order, way, ways_behind, with_way}
 use Rattle.tsa_ask.proofs.Firsts.{calls, goes_on, lacks, nothing_fails, repeats, stands, stops}
-
-plus_one : (i : ℕ) → i + 1 ≡ suc i
-plus_one i = omega arith
 
 -- an argument in the arena
 module _ (v : View) (kind : AttrKind) (ways : List Way) (x : Expr) where

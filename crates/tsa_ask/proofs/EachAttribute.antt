@@ -1,9 +1,10 @@
 -- What is asked of attributes, one after the other.
-use Rattle.std.proofs.Common.{◌≡◌, ◌∙◌, ℕ, ◌+◌, suc, arith, Bool, true, false, not, ◌&&◌, ◌||◌, List, [], ◌∷◌, ◌++◌, drop, map, Option, Some, None, refl, ap, sym, if◌then◌else◌}
+use Rattle.std.proofs.Common.{◌≡◌, ◌∙◌, ℕ, ◌+◌, suc, Bool, true, false, not, ◌&&◌, ◌||◌, List, [], ◌∷◌, ◌++◌, drop, map, Option, Some, None, refl, ap, sym, if◌then◌else◌}
 use Rattle.std.specs.List.{list_any}
 use Rattle.tsa_tree.specs.attributes.Syntax.{Attribute, attr_shape, attr_shapes}
 use Rattle.tsa_tree.specs.declared.attr.Attr.{Attr}
 use Rattle.tsa_tree.specs.declared.kind.Kind.{Kind}
+use Rattle.tsa_tree.specs.types.Runnable.{is_generic}
 use Rattle.tsa_way.specs.Ways.{Way}
 use Rattle.tsa_seen.specs.declared.premise.Failure.{Failure}
 use Rattle.tsa_seen.specs.declared.premise.ProfileCode.TheVariants.{PF7}
@@ -11,12 +12,10 @@ use Rattle.tsa_use.specs.Expressions.{View}
 use Rattle.tsa_seen.specs.Locks.{is_try}
 use Rattle.tsa_seen.specs.Premises.{Premise, premise, or_else, first}
 use Rattle.tsa_ask.specs.declared.tries.Tries.{Tries}
-use Rattle.tsa_ask.specs.Declarations.{attribute_arguments, attribute_premises, guard_premises, is_generic, is_int, misfits, value_of, ways_behind}
+use Rattle.tsa_ask.specs.Declarations.{attribute_arguments, attribute_premises, guard_premises, is_int, misfits, value_of, ways_behind}
 use Rattle.tsa_ask.specs.Tries.{misfits_beside, names_other, some_other, tries_among, with_attribute}
 use Rattle.tsa_ask.proofs.Firsts.{goes_on, nothing_fails, stops}
-
-plus_one : (i : ℕ) → i + 1 ≡ suc i
-plus_one i = omega arith
+use Rattle.tsa_base.proofs.Numbers.{one_behind as plus_one}
 
 -- those of a member or of a global
 module _ (v : View) (attrs : List Attr) (i : ℕ) where

@@ -1,6 +1,7 @@
 -- What is asked of initialisers, one after the other.
-use Rattle.std.proofs.Common.{◌≡◌, ◌∙◌, ℕ, ◌+◌, suc, arith, false, List, [], ◌∷◌, ◌++◌, drop, Option, Some, None, refl, ap, sym}
+use Rattle.std.proofs.Common.{◌≡◌, ◌∙◌, ℕ, ◌+◌, suc, false, List, [], ◌∷◌, ◌++◌, drop, Option, Some, None, refl, ap, sym}
 use Rattle.tsa_base.specs.declared.token.Span.{Span}
+use Rattle.tsa_base.proofs.Numbers.{one_behind as plus_one}
 use Rattle.tsa_tree.specs.declarations.Shapes.{init_shape, init_shapes}
 use Rattle.tsa_tree.specs.declarations.Syntax.{Initialisers, value, list}
 use Rattle.tsa_tree.specs.declared.decl.Init.{Init}
@@ -11,9 +12,6 @@ use Rattle.tsa_use.specs.Expressions.{View, own, parts}
 use Rattle.tsa_seen.specs.Premises.{first}
 use Rattle.tsa_ask.specs.Declarations.{init_premises, item_premises}
 use Rattle.tsa_ask.proofs.Firsts.{goes_on, nothing_fails, stops}
-
-plus_one : (i : ℕ) → i + 1 ≡ suc i
-plus_one i = omega arith
 
 module _ (v : View) where
   pub value_asked : (e : Expression) → first (own v Inside false e ++ parts v Inside e) ≡ first (init_premises v (value e))

@@ -1,6 +1,7 @@
 -- What is asked of the heads of functions.
 use Rattle.std.proofs.Common.{◌≡◌, ◌≤◌, ◌∙◌, ℕ, length, ◌+◌, suc, arith, Bool, true, false, not, ◌&&◌, List, [], ◌∷◌, ◌++◌, drop, Option, Some, None, is_some, refl, ap, sym}
 use Rattle.tsa_base.specs.declared.token.Span.{Span}
+use Rattle.tsa_base.proofs.Numbers.{one_behind as plus_one}
 use Rattle.tsa_tree.specs.attributes.Syntax.{Attribute, attr_shape, attr_shapes}
 use Rattle.tsa_tree.specs.declarations.Shapes.{param_shape, param_shapes}
 use Rattle.tsa_tree.specs.declarations.Syntax.{DeclaredType, Parameter}
@@ -17,9 +18,6 @@ use Rattle.tsa_seen.specs.declared.premise.ProfileCode.TheVariants.{PF4, PF6}
 use Rattle.tsa_seen.specs.Premises.{Premise, premise, first}
 use Rattle.tsa_ask.specs.Declarations.{param_premises}
 use Rattle.tsa_ask.proofs.Firsts.{nothing_fails, passed_first, told_first}
-
-plus_one : (i : ℕ) → i + 1 ≡ suc i
-plus_one i = omega arith
 
 opposite : (b : Bool) → b ≡ true → not b ≡ false
 opposite b h = ap not h

@@ -10,7 +10,7 @@ use Rattle.tsa_tree.specs.declared.kind.Kind.TheVariants as type
 use Rattle.tsa_tree.specs.expressions.Syntax.{Expression, call, Arguments, none, more}
 use Rattle.tsa_tree.specs.points.Syntax.{expression_span}
 use Rattle.tsa_tree.specs.types.DeclaredTypes.{thing_type}
-use Rattle.tsa_tree.specs.types.Runnable.{is_small, is_lock_function, is_environment}
+use Rattle.tsa_tree.specs.types.Runnable.{is_small, is_lock_function, is_environment, is_generic}
 use Rattle.tsa_tree.specs.types.Scopes.{Scope, found}
 use Rattle.tsa_way.specs.LockPaths.{lock_way}
 use Rattle.tsa_way.specs.Ways.{Way}
@@ -76,12 +76,6 @@ attribute_arguments v kind ways (more first rest) =
 unfoldable pub guard_premises : View → List Attribute → List Premise
 guard_premises v [] = []
 guard_premises v (a ∷ rest) = attribute_arguments v a.kind [] a.args ++ guard_premises v rest
-
--- An attribute fits a function's body. Only one without a body gives back a lock in whatever mode; a try has an `int` for a result, and all its
--- attributes name the same value.
-abbrev pub is_generic : AttrKind → Bool
-is_generic attr.ReleaseGeneric = true
-is_generic _ = false
 
 abbrev pub is_int : Kind → Bool
 is_int type.Int = true

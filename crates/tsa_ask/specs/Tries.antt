@@ -3,9 +3,10 @@ use Rattle.std.specs.Prelude.{Bool, true, false, not, ◌&&◌, ◌||◌, List, 
 use Rattle.std.specs.List.{list_any}
 use Rattle.tsa_tree.specs.attributes.Syntax.{Attribute}
 use Rattle.tsa_tree.specs.declared.kind.Kind.{Kind}
+use Rattle.tsa_tree.specs.types.Runnable.{is_generic}
 use Rattle.tsa_seen.specs.Locks.{is_try}
 use Rattle.tsa_ask.specs.declared.tries.Tries.{Tries}
-use Rattle.tsa_ask.specs.Declarations.{is_generic, is_int, is_otherwise, value_of}
+use Rattle.tsa_ask.specs.Declarations.{is_int, is_otherwise, value_of}
 
 -- a try names another result than this
 abbrev pub names_other : Bool → Attribute → Bool

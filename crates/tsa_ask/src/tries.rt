@@ -1,6 +1,7 @@
 //! Tries among the attributes of a function, which all name the same result.
 ghost use Rattle.std.specs.Prelude.{◌≡◌, []};
-ghost use Rattle.tsa_ask.specs.Declarations.{is_generic as spec_is_generic, is_int as spec_is_int, value_of as spec_value_of};
+ghost use Rattle.tsa_tree.specs.types.Runnable.{is_generic as spec_is_generic};
+ghost use Rattle.tsa_ask.specs.Declarations.{is_int as spec_is_int, value_of as spec_value_of};
 ghost use Rattle.tsa_ask.specs.Tries.{misfits_beside, some_other, tries_among, with_attribute};
 ghost use Rattle.tsa_tree.specs.attributes.Syntax.{attr_shape};
 ghost use Rattle.tsa_seen.specs.Locks.{is_try as spec_is_try};

@@ -13,7 +13,7 @@ use Rattle.tsa_expr.specs.Gives.{Fails, Gives}
 use Rattle.tsa_attr.specs.Outcomes.{IsOfAttributes}
 use Rattle.tsa_forms.specs.Reading.{Outcome}
 
-given_by : {Y : Type 0} (e : SyntaxRefusal) (r : Outcome Y) → Fails e r → IsOfAttributes e
+pub given_by : {Y : Type 0} (e : SyntaxRefusal) (r : Outcome Y) → Fails e r → IsOfAttributes e
 given_by (At SY1 token) r h = tt
 given_by (At AT1 token) r h = tt
 given_by (At AT2 token) r h = tt

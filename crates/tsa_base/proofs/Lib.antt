@@ -12,3 +12,6 @@ pub mod Falling
 pub mod TokenPlaces
 pub mod BadFronts
 pub mod OneWay
+pub mod Options
+pub mod Truths
+pub mod Numbers

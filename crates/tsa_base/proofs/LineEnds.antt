@@ -1,14 +1,12 @@
 -- Where a line ends, and that what is after it has no part in its word.
-use Rattle.std.proofs.Common.{◌≡◌, ℕ, suc, ◌+◌, Bool, true, false, List, [], ◌∷◌, ◌++◌, length, take, drop, refl, arith}
+use Rattle.std.proofs.Common.{◌≡◌, ℕ, ◌+◌, Bool, true, false, List, [], ◌∷◌, ◌++◌, length, take, drop, refl, arith}
 use Rattle.std.proofs.lemmas.Bool.{and_parts, and_from}
 use Rattle.std.proofs.lemmas.Bool.Decides.{nat_tests}
 use Rattle.std.specs.List.{list_all, prefix_len}
 use Rattle.tsa_base.specs.Bytes.{is_line_byte, is_word_byte, is_indent}
 use Rattle.tsa_base.specs.Tokens.{line_len, line_word, front_word}
 use Rattle.tsa_base.specs.PieceLaws.{ReachesLineEnd}
-
-one_more : (n : ℕ) → 1 + n ≡ suc n
-one_more n = omega arith
+use Rattle.tsa_base.proofs.Numbers.{one_more}
 
 -- bytes that pass up to one that doesn't are as many as pass
 prefix-all : (p : ℕ → Bool) (xs ys : List ℕ) → list_all p xs ≡ true → prefix_len p ys ≡ 0 → prefix_len p (xs ++ ys) ≡ length xs

@@ -4,8 +4,8 @@ use Rattle.std.proofs.lemmas.Bool.Decides.{nat_tests}
 use Rattle.std.proofs.lemmas.Option.{none-some, same_Some}
 use Rattle.tsa_graph.specs.declared.blocks.Block.{Block}
 use Rattle.tsa_graph.specs.Graphs.{points_in}
+use Rattle.tsa_graph.proofs.WaysMade.{equal}
 use Rattle.tsa_runs.specs.Runs.{bit, times, times_in}
-use Rattle.tsa_blocks.proofs.Members.{equal}
 
 pub side : (p n : ℕ) → (p < n) ⊎ (n ≤ p)
 side p n = by (nat_lt p n) refl

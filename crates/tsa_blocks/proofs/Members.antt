@@ -1,10 +1,10 @@
 -- Members of lists, and the edges of points.
 use Rattle.std.proofs.Common.{◌≡◌, ◌∙◌, ℕ, zero, suc, ◌<◌, arith, Bool, true, false, true≢false, nat_eq, ◌⊎◌, inl, inr, List, [], ◌∷◌, map, length, get_or, All, Contains, Some, slice_get, if◌then◌else◌, refl, sym, ap, subst}
-use Rattle.std.proofs.lemmas.Bool.Decides.{nat_tests}
 use Rattle.std.proofs.lemmas.List.Elements.{All-get_or, Contains-get_or}
 use Rattle.std.proofs.lemmas.Option.{slice_get_within, slice_get-get_or, get_or_from_slice_get}
 use Rattle.tsa_graph.specs.Control.{Edge}
 use Rattle.tsa_graph.specs.Edges.{edges_from, edges_into}
+use Rattle.tsa_graph.proofs.WaysMade.{equal}
 
 pub here : {A : Type 0} (x : A) (xs : List A) → Contains (x ∷ xs) x
 here x xs = (zero, omega arith, refl)
@@ -48,9 +48,6 @@ each_member P xs f = λ k d w. f (get_or xs k d) (Contains-get_or xs k d w)
 -- what stands inside a list doesn't depend on what is read behind its end
 pub any_default : {A : Type 0} (xs : List A) (i : ℕ) (c d : A) → i < length xs → get_or xs i c ≡ get_or xs i d
 any_default xs i c d w = get_or_from_slice_get xs i (get_or xs i d) c (slice_get-get_or xs i d w)
-
-pub equal : (p q : ℕ) → p ≡ q → nat_eq p q ≡ true
-equal p q e = grind (arith, nat_tests, e)
 
 -- an edge that a test keeps or leaves out
 keeps : (b : Bool) (d e : Edge) (xs : List Edge) → Contains xs e → Contains (if b then d ∷ xs else xs) e

@@ -25,9 +25,7 @@ use Rattle.tsa_bodies.specs.Bodies.{BodyText, IsToldBody}
 use Rattle.tsa_bodies.specs.Courses.{Course, first_params}
 use Rattle.tsa_bodies.specs.Entered.{IsBodyAt, labels_at}
 use Rattle.tsa_bodies.specs.declared.told.ToldBody.{ToldBody}
-
-same : {A : Type 0} {x y : A} → Some x ≡ Some y → x ≡ y
-same e = cc
+use Rattle.tsa_base.proofs.Options.{some_same as same}
 
 flow_by : (u : Program) (f : Function) (paths : List Way) (w : FunctionFlow) → IsFlowBy u f (Some paths) (Some w) → IsFlowOf u f paths w
 flow_by u f paths w (x, (is, h)) = subst (IsFlowOf u f paths) (sym (same is)) h

@@ -1,7 +1,8 @@
 -- The premises of a statement that has others in it, and of statements one by one.
-use Rattle.std.proofs.Common.{ℕ, ◌≡◌, ◌∙◌, ◌+◌, suc, arith, List, [], ◌∷◌, ◌++◌, drop, Option, Some, None, Err, Result, refl, sym, ap, subst}
+use Rattle.std.proofs.Common.{ℕ, ◌≡◌, ◌∙◌, ◌+◌, suc, List, [], ◌∷◌, ◌++◌, drop, Option, Some, None, Err, Result, refl, sym, ap, subst}
 use Rattle.std.specs.Prelude.{⊤}
 use Rattle.tsa_base.specs.declared.token.Span.{Span}
+use Rattle.tsa_base.proofs.Numbers.{plus_one}
 use Rattle.tsa_tree.specs.declared.stmt.Stmt.{Stmt}
 use Rattle.tsa_tree.specs.expressions.Syntax.{Identifier, Expression}
 use Rattle.tsa_tree.specs.statements.Shapes.{stmt_shapes}
@@ -87,10 +88,6 @@ module _ (a : Around) (here : Scope) where
   label_wrong name body span = first_append (label_premises a name span) (statement_premises a here body)
 
 pub ruleset wrongs = (block_wrong, if_wrong, else_wrong, while_wrong, do_wrong, for_wrong, switch_wrong, case_wrong, default_wrong, label_wrong)
-
--- the statements that are left
-pub plus_one : (n : ℕ) → suc n ≡ n + 1
-plus_one n = omega arith
 
 module _ (a : Around) (here : Scope) (items : List Stmt) (i : ℕ) where
   abbrev wrong_from : Scope → ℕ → Option Failure

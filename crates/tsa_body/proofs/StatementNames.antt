@@ -1,6 +1,7 @@
 -- The names of a statement that has others in it, and of statements one by one.
-use Rattle.std.proofs.Common.{ℕ, ◌≡◌, ◌∙◌, ◌+◌, suc, arith, List, [], ◌∷◌, ◌++◌, drop, Option, refl, sym, ap}
+use Rattle.std.proofs.Common.{ℕ, ◌≡◌, ◌∙◌, ◌+◌, suc, List, [], ◌∷◌, ◌++◌, drop, Option, refl, sym, ap}
 use Rattle.tsa_base.specs.declared.token.Span.{Span}
+use Rattle.tsa_base.proofs.Numbers.{plus_one}
 use Rattle.tsa_tree.specs.expressions.Syntax.{Identifier, Expression}
 use Rattle.tsa_tree.specs.declared.stmt.Stmt.{Stmt}
 use Rattle.tsa_tree.proofs.statements.Trees.{shape_of}
@@ -67,14 +68,10 @@ module _ (here : Scope) (function : ℕ) where
 
 pub ruleset namings = (block_names, if_names, else_names, while_names, do_names, for_names, switch_names, case_names, default_names, label_names)
 
--- statements one by one
-plus_one : (n : ℕ) → suc n ≡ n + 1
-plus_one n = omega arith
-
-step : (notes after : Notes) (own rest all : Names) → after ≡ noted notes own → all ≡ own ++ rest → noted after rest ≡ noted notes all
+pub step : (notes after : Notes) (own rest all : Names) → after ≡ noted notes own → all ≡ own ++ rest → noted after rest ≡ noted notes all
 step notes after own rest all is whole = ap (λ n. noted n rest) is ∙ sym (noted_append notes own rest) ∙ ap (noted notes) (sym whole)
 
-nothing : (notes : Notes) (all : Names) → all ≡ [] → noted notes all ≡ notes
+pub nothing : (notes : Notes) (all : Names) → all ≡ [] → noted notes all ≡ notes
 nothing notes all is = ap (noted notes) is ∙ noted_nothing notes
 
 module _ (notes : Notes) (here : Scope) (function : ℕ) (items : List Stmt) (i : ℕ) where

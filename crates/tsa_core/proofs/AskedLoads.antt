@@ -3,6 +3,7 @@ use Rattle.std.proofs.Common.{◌≡◌, ◌∙◌, arith, Bool, true, false, no
 use Rattle.std.proofs.lemmas.List.Elements.{Contains-append_left, Contains-append_right, Contains-append_cases}
 use Rattle.std.specs.List.{Contains}
 use Rattle.tsa_base.specs.declared.token.Span.{Span}
+use Rattle.tsa_base.proofs.Truths.{never, or_right}
 use Rattle.tsa_tree.specs.declared.expr.BinaryOp.{BinaryOp}
 use Rattle.tsa_tree.specs.declared.expr.BinaryOp.TheVariants as op
 use Rattle.tsa_tree.specs.declared.expr.UnaryOp.TheVariants as prefix
@@ -18,7 +19,7 @@ use Rattle.tsa_tree.specs.types.Operands.{integer_kind, pointer_kind, unsigned_k
 use Rattle.tsa_tree.specs.types.Runnable.{has_call, is_free, is_whole, is_call, is_compared, is_comparison, is_condition}
 use Rattle.tsa_tree.specs.types.Scopes.{Scope, context_of, known_in}
 use Rattle.tsa_core.proofs.CallsHold.{call_called, call_whole}
-use Rattle.tsa_core.proofs.KindTests.{never, both_true, neither, not_false, not_true, one_of, or_left, or_right}
+use Rattle.tsa_core.proofs.KindTests.{both_true, neither, not_false, not_true, one_of, or_left}
 use Rattle.tsa_core.proofs.KindsOfTerms.{of_one, of_two, typed}
 use Rattle.tsa_core.proofs.TypedTerms.{terms_have_types}
 use Rattle.tsa_core.proofs.ValuesServe.{no_call, constant_free}

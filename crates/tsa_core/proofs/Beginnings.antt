@@ -23,7 +23,7 @@ use Rattle.tsa_core.proofs.KnownLocals.{NamesBelow, names_more, one_name}
 use Rattle.tsa_core.proofs.TypedTerms.{some_same}
 
 -- The locals among the names that are known have numbers below one.
-abbrev Below : ℕ → Scope → Type 0
+abbrev pub Below : ℕ → Scope → Type 0
 Below n here = NamesBelow n here.names
 
 name_below : (n : ℕ) (here : Scope) (name : List ℕ) (e : Entry) → IsBelow n e.meaning → Below n here → Below n (with_name name e here)
@@ -58,10 +58,10 @@ module _ (n : ℕ) where
   known_below here head with_body None h = name_below n here head.name.text (function_entry here head (length here.functions)) tt h
   known_below here head with_body (Some e) h = again_below here head with_body e.meaning h
 
-  head_below : (here : Scope) (head : Head) (with_body : Bool) → Below n here → Below n (behind_head here head with_body)
+  pub head_below : (here : Scope) (head : Head) (with_body : Bool) → Below n here → Below n (behind_head here head with_body)
   head_below here head with_body h = known_below here head with_body (found here.names head.name.text) h
 
-  item_below : (here : Scope) (item : UnitItem) → Below n here → Below n (behind_item here item)
+  pub item_below : (here : Scope) (item : UnitItem) → Below n here → Below n (behind_item here item)
   item_below here (structure_item tag alias attrs members span) h =
       named_below n (with_struct (members_behind here [] members) here) alias (a_type_name (single (type.Structure (length here.structs)) false)) tt h
   item_below here (alias_item name ctype span) h = name_below n here name.text (a_type_name (thing_type here ctype)) tt h
@@ -72,7 +72,7 @@ module _ (n : ℕ) where
   item_below here (body_item head body close) h = head_below here head true h
 
 -- the parameters are the first locals
-params_below : (end : ℕ) (here : Scope) (n : ℕ) (params : List Parameter) → n + length params ≤ end → Below end here → Below end (inside_params here n params)
+pub params_below : (end : ℕ) (here : Scope) (n : ℕ) (params : List Parameter) → n + length params ≤ end → Below end here → Below end (inside_params here n params)
 unfolding inside_params
 params_below end here n [] le h = h
 params_below end here n (p ∷ rest) le h =

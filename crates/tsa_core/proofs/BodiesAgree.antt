@@ -6,6 +6,7 @@ use Rattle.std.proofs.lemmas.Map.Entries.{All-lookup}
 use Rattle.std.proofs.lemmas.Slice.Eq.{bytes_eq-Decides}
 use Rattle.std.specs.Str.{bytes_eq}
 use Rattle.tsa_base.specs.declared.token.Span.{Span}
+use Rattle.tsa_base.proofs.Truths.{never}
 use Rattle.tsa_tree.specs.declarations.Syntax.{DeclaredType, EnumConstant, Parameter, Head}
 use Rattle.tsa_tree.specs.statements.Syntax.{Statements}
 use Rattle.tsa_tree.specs.declared.kind.Declaring.{Declaring}
@@ -39,14 +40,14 @@ use Rattle.tsa_core.specs.KindLaws.{BodiesAgree, param_kinds}
 use Rattle.tsa_core.specs.Programs.{Declared, unless_known, first_head, declared_by, declared_functions, Bodied, bodied_by, bodied_function}
 use Rattle.tsa_core.specs.Programs as program
 use Rattle.tsa_core.proofs.BodyScopes.{SameTypes, body_types, head_types, with_param_types, through, kind_kept, resolve_kept}
-use Rattle.tsa_core.proofs.KindTests.{never, both_true, neither, not_false}
+use Rattle.tsa_core.proofs.KindTests.{both_true, neither, not_false}
 use Rattle.tsa_core.proofs.NoFailure.{none_of_both, none_of_first}
 use Rattle.tsa_core.proofs.SignaturesFit.{result_kind, own_params, HasResult, HasItsResult, Agree, entry_signed, own_signed, item_agree}
 use Rattle.tsa_core.proofs.TypedTerms.{some_same}
 use Rattle.tsa_core.proofs.UnitScopes.{or_other, found_append, declared_told}
 
 -- What a name means behind an item is what it meant before.
-abbrev KeepsNames : Scope → Scope → Type 0
+abbrev pub KeepsNames : Scope → Scope → Type 0
 KeepsNames here there = (name : List ℕ) (e : Entry) → found here.names name ≡ Some e → found there.names name ≡ Some e
 
 kept_name : (here : Scope) (name : List ℕ) (e : Entry) → KeepsNames here (with_name name e here)
@@ -89,14 +90,14 @@ kept_item here (function_item head) other x is = kept_known here head false (fou
 kept_item here (body_item head body close) other x is = kept_known here head true (found here.names head.name.text) other x is
 
 -- A name that means the function of a number.
-abbrev Means : Scope → List ℕ → ℕ → Type 0
+abbrev pub Means : Scope → List ℕ → ℕ → Type 0
 Means here name n = (e : Entry) × ((found here.names name ≡ Some e) × (e.meaning ≡ meant.Function n))
 
 means_kept : (here there : Scope) (name : List ℕ) (n : ℕ) → KeepsNames here there → Means here name n → Means there name n
 means_kept here there name n kept h = (h.0, (kept name h.0 h.1.0, h.1.1))
 
 -- each function that is declared is known by its name
-abbrev AreMeant : List Declared → Scope → Type 0
+abbrev pub AreMeant : List Declared → Scope → Type 0
 AreMeant ds here = (n : ℕ) (d : Declared) → slice_get ds n ≡ Some d → Means here d.head.name.text n
 
 count : (ds : List Declared) (here : Scope) → Agree ds here → length here.functions ≡ length ds

@@ -46,7 +46,7 @@ pub record SameTypes (s t : Scope) : Type 0 where
 same_types : (s : Scope) → SameTypes s s
 same_types s = record { tags = refl; aliases = λ span name. refl }
 
-other_way : (s t : Scope) → SameTypes s t → SameTypes t s
+pub other_way : (s t : Scope) → SameTypes s t → SameTypes t s
 other_way s t h = record { tags = sym h.tags; aliases = λ span name. sym (h.aliases span name) }
 
 pub through : (s t u : Scope) → SameTypes s t → SameTypes t u → SameTypes s u

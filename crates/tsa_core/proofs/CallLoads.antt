@@ -2,6 +2,7 @@
 use Rattle.std.proofs.Common.{◌≡◌, ◌∙◌, nat_eq, true, false, not, ◌&&◌, ◌||◌, List, [], ◌∷◌, ◌++◌, length, Option, Some, None, is_some, refl, sym, ap, subst}
 use Rattle.std.specs.List.{flat_map}
 use Rattle.tsa_base.specs.declared.token.Span.{Span}
+use Rattle.tsa_base.proofs.Truths.{never}
 use Rattle.tsa_tree.specs.declared.expr.BinaryOp.{BinaryOp}
 use Rattle.tsa_tree.specs.declared.expr.BinaryOp.TheVariants as op
 use Rattle.tsa_tree.specs.declared.expr.UnaryOp.TheVariants as prefix
@@ -15,7 +16,7 @@ use Rattle.tsa_tree.specs.types.Runnable.{has_call, have_call, is_free, is_whole
 use Rattle.tsa_tree.specs.types.Scopes.{Scope, context_of}
 use Rattle.tsa_lead.specs.Lookups.{params_in}
 use Rattle.tsa_core.proofs.CallsHold.{none_is_more, more_is_none, one_less, call_called, call_whole}
-use Rattle.tsa_core.proofs.KindTests.{never, both_true, neither, not_false, not_true, one_of}
+use Rattle.tsa_core.proofs.KindTests.{both_true, neither, not_false, not_true, one_of}
 use Rattle.tsa_core.proofs.KindsOfTerms.{of_one, of_two}
 use Rattle.tsa_core.proofs.LoadsOfTerms.{AnswersLoad, free_loads, value_in, goes_in, both_in}
 use Rattle.tsa_core.proofs.ValuesServe.{no_call, constant_free}

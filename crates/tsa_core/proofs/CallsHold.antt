@@ -1,6 +1,7 @@
 -- The arguments of a point's call serve its parameters, and what the call gives is what the point's terms use.
 use Rattle.std.proofs.Common.{◌≡◌, ◌∙◌, ℕ, suc, arith, nat_eq, Bool, true, false, not, ◌&&◌, ◌||◌, List, [], ◌∷◌, length, map, Option, Some, None, is_some, option_map, refl, sym, ap, ap₂, subst, eqb-true, eq-eqb}
 use Rattle.tsa_base.specs.declared.token.Span.{Span}
+use Rattle.tsa_base.proofs.Truths.{never}
 use Rattle.tsa_tree.specs.declared.expr.BinaryOp.{BinaryOp}
 use Rattle.tsa_tree.specs.declared.expr.BinaryOp.TheVariants as op
 use Rattle.tsa_tree.specs.declared.expr.UnaryOp.TheVariants as prefix
@@ -23,7 +24,7 @@ use Rattle.tsa_lead.specs.Calls.{Layout}
 use Rattle.tsa_core.specs.Kinds.{Setting, Belongs, GivesAnswer, GiveAnswer}
 use Rattle.tsa_core.specs.Meanings.{Call, meaning, as_kind, arguments, call_of, or_call, call_in}
 use Rattle.tsa_core.specs.PointKinds.{Signatures, Serves, ArgsServe, CallHolds, answer_of, at_point}
-use Rattle.tsa_core.proofs.KindTests.{never, both_true, neither, not_false, not_true, one_of}
+use Rattle.tsa_core.proofs.KindTests.{both_true, neither, not_false, not_true, one_of}
 use Rattle.tsa_core.proofs.KindsOfTerms.{holds, of_one, of_two}
 use Rattle.tsa_core.proofs.TypedTerms.{some_same, terms_have_types}
 use Rattle.tsa_core.proofs.ValuesServe.{goes_served, small_scalar, free_gives, no_call, constant_free}

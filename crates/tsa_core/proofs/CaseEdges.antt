@@ -22,12 +22,12 @@ use Rattle.tsa_tree.specs.types.Targets.{declared_in}
 use Rattle.tsa_core.proofs.CaseLists.{Every}
 use Rattle.tsa_core.proofs.Counts.{count_if, count_do, count_for, count_more}
 use Rattle.tsa_core.proofs.Followed.{Between, between_both, differ, test_follows, for_follows, step_follows, switch_follows}
-use Rattle.tsa_core.proofs.KindTests.{never}
 use Rattle.tsa_core.proofs.NoFailure.{none_of_both, none_of_first}
 use Rattle.tsa_core.proofs.SwitchCases.{choices, AllApart, switch_apart}
 use Rattle.tsa_core.specs.CaseLaws.{is_same_choice, ChoicesDiffer, CasesStandApart, AllStandApart}
 use Rattle.tsa_core.specs.Control.{Outcome, Next, Yes, No, Rest, Chosen, Edge, edge, count, count_all, first, first_all, test_at, step_at, inner_at, again_at, Cases, cases, Targets, in_loop, in_switch, label_at, test_edges, tested_edges, for_edges, step_edges, case_edges, has_default, rest_edges, switch_edges, edges, edges_all}
 use Rattle.tsa_core.specs.Laws.{is_chosen}
+use Rattle.tsa_base.proofs.Truths.{never}
 
 -- integers that differ
 same_ints : (z w : ℤ) → (int_le z w && int_le w z) ≡ true → z ≡ w

@@ -7,9 +7,10 @@ use Rattle.tsa_tree.specs.expressions.Syntax.{Expression}
 use Rattle.tsa_tree.specs.types.Arithmetic.{unsigned_of}
 use Rattle.tsa_tree.specs.types.Statements.{is_elsewhere}
 use Rattle.tsa_tree.specs.types.Targets.{Cases, case_at, or_case, with_case, with_value}
-use Rattle.tsa_core.proofs.KindTests.{never, neither, not_false}
+use Rattle.tsa_core.proofs.KindTests.{neither, not_false}
 use Rattle.tsa_core.proofs.TypedTerms.{some_same}
 use Rattle.tsa_core.specs.CaseLaws.{Case, Differ}
+use Rattle.tsa_base.proofs.Truths.{never}
 
 -- each of some things has a property
 abbrev pub Every : {A : Type 0} → (A → Type 0) → List A → Type 0

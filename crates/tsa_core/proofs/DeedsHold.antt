@@ -1,6 +1,7 @@
 -- What a typed deed does at a point has the kinds that are wanted there.
 use Rattle.std.proofs.Common.{◌≡◌, ◌∙◌, ℕ, true, false, not, ◌&&◌, ◌||◌, Option, Some, None, is_some, is_none, refl, sym, ap, subst}
 use Rattle.tsa_base.specs.declared.token.Span.{Span}
+use Rattle.tsa_base.proofs.Truths.{never}
 use Rattle.tsa_tree.specs.declarations.Syntax.{Declaration, Initialiser, value, list}
 use Rattle.tsa_tree.specs.declarations.Sound.{SoundLocal, SoundLocalInit}
 use Rattle.tsa_tree.specs.declared.expr.BinaryOp.{BinaryOp}
@@ -34,7 +35,7 @@ use Rattle.tsa_core.specs.PointKinds.{Signatures, Serves, ActionHolds, CallHolds
 use Rattle.tsa_core.proofs.DeedsTold.{left_holds, init_told, set_told}
 use Rattle.tsa_core.proofs.CallsHold.{CallsFit, call_called, Holding, whole_holding, whole_gives, condition_good}
 use Rattle.tsa_core.proofs.LaidScopes.{is_written_kind}
-use Rattle.tsa_core.proofs.KindTests.{never, both_true, neither, not_true, or_left, integer_is, scalar_is, not_false}
+use Rattle.tsa_core.proofs.KindTests.{both_true, neither, not_true, or_left, integer_is, scalar_is, not_false}
 use Rattle.tsa_core.proofs.KindsOfOperators.{Holds, value_loaded, integer_loaded}
 use Rattle.tsa_core.proofs.KindsOfTerms.{holds, typed}
 use Rattle.tsa_core.proofs.NoFailure.{keeps_typed}

@@ -1,6 +1,7 @@
 -- What typing says of left sides, of locals that begin, and of assignments.
 use Rattle.std.proofs.Common.{◌≡◌, ◌∙◌, ℕ, List, Bool, true, false, ◌&&◌, ◌∷◌, ◌++◌, Option, Some, None, refl, sym, ap, subst}
 use Rattle.tsa_base.specs.declared.token.Span.{Span}
+use Rattle.tsa_base.proofs.Truths.{never}
 use Rattle.tsa_tree.specs.declarations.Syntax.{Declaration}
 use Rattle.tsa_tree.specs.declared.expr.BinaryOp.{BinaryOp}
 use Rattle.tsa_tree.specs.declared.kind.ExpressionType.{ExpressionType}
@@ -24,7 +25,7 @@ use Rattle.tsa_tree.specs.types.Locals.{has_type, init_breaks, names_in, local_p
 use Rattle.tsa_tree.specs.types.Premises.{premise, first}
 use Rattle.tsa_tree.specs.types.Scopes.{Scope, context_of, known_in, is_taken}
 use Rattle.tsa_core.specs.Meanings.{of_name, of_call, meaning}
-use Rattle.tsa_core.proofs.KindTests.{never, both_true, not_true}
+use Rattle.tsa_core.proofs.KindTests.{both_true, not_true}
 use Rattle.tsa_core.proofs.KindsOfTerms.{typed}
 use Rattle.tsa_core.proofs.NoFailure.{none_of_both, none_of_first, keeps_typed}
 use Rattle.tsa_core.proofs.SetsHold.{passes_typed, is_left, left_name, left_member, value_binary, written_is}

@@ -14,6 +14,7 @@ use Rattle.tsa_tree.specs.types.Targets.{declared_in}
 use Rattle.tsa_core.specs.Control.{Outcome, Next, Yes, No, Rest, Edge, edge, count, count_all, first, first_all, test_at, step_at, inner_at, again_at, Cases, cases, Targets, in_loop, in_switch, label_at, test_edges, tested_edges, for_edges, step_edges, case_edge, case_edges, has_default, rest_edges, switch_edges, edges, edges_all, body_targets, leaves_by, same_outcome, next_point}
 use Rattle.tsa_core.specs.Laws.{is_choice, EdgesAreFollowed}
 use Rattle.tsa_core.proofs.Counts.{count_if, count_do, count_for, count_more}
+use Rattle.tsa_base.proofs.Numbers.{itself}
 
 -- edges from points with numbers from one on and below another
 abbrev pub Between : ℕ → ℕ → Edge → Type 0
@@ -31,9 +32,6 @@ nothing low high = (All-nil (Between low high), All-nil (IsFollowed []))
 
 pub differ : (a b : ℕ) → (a ≡ b → ⊥) → nat_eq a b ≡ false
 differ a b other = grind (arith, nat_tests)
-
-itself : (n : ℕ) → nat_eq n n ≡ true
-itself n = grind (arith, nat_tests)
 
 -- edges that all leave other points give no next one
 abbrev Elsewhere : ℕ → List Edge → Type 0

@@ -1,6 +1,5 @@
 -- Every point goes on for each outcome that it may have, but for the values that a switch doesn't name.
-use Rattle.std.proofs.Common.{◌≡◌, ◌∙◌, ℕ, zero, suc, ◌+◌, arith, Bool, true, false, ◌||◌, nat_eq, List, [], ◌∷◌, ◌++◌, find, length, slice_get, Option, Some, None, option_map, is_some, if◌then◌else◌, refl, ap, subst}
-use Rattle.std.proofs.lemmas.Bool.Decides.{nat_tests}
+use Rattle.std.proofs.Common.{◌≡◌, ◌∙◌, ℕ, zero, suc, ◌+◌, arith, Bool, true, false, ◌||◌, List, [], ◌∷◌, ◌++◌, find, length, slice_get, Option, Some, None, option_map, is_some, if◌then◌else◌, refl, ap, subst}
 use Rattle.std.proofs.lemmas.List.Folds.{list_any-append}
 use Rattle.std.specs.List.{list_any}
 use Rattle.tsa_tree.specs.declared.number.Number.{Number}
@@ -17,6 +16,7 @@ use Rattle.tsa_core.specs.Laws.{is_told, test_value, goes, is_next, is_chosen, P
 use Rattle.tsa_core.proofs.EdgeOutcomes.{init_count, step_count}
 use Rattle.tsa_core.proofs.TextPoints.{known_count}
 use Rattle.tsa_core.proofs.TypedTerms.{some_same}
+use Rattle.tsa_base.proofs.Numbers.{itself}
 
 -- the point of a number goes on by some edges
 abbrev pub Goes : List Edge → ℕ → Known → Type 0
@@ -52,9 +52,6 @@ right es fs (k ∷ ks) at h = ((λ o may other. any_right (leaves_by at o) es fs
 together : (es : List Edge) (ks js : List Known) (at n : ℕ) → n ≡ at + length ks → GoOn es ks at → GoOn es js n → GoOn es (ks ++ js) at
 together es [] js at n same h g = let same' : n ≡ at = omega (arith, same) in subst (λ m. GoOn es js m) same' g
 together es (k ∷ ks) js at n same h g = (h.0, together es ks js (suc at) n (omega (arith, same)) h.1 g)
-
-itself : (n : ℕ) → nat_eq n n ≡ true
-itself n = grind (arith, nat_tests)
 
 -- the first edge leads on, or one behind it
 leads_first : (p : Edge → Bool) (e : Edge) (es : List Edge) → p e ≡ true → list_any p (e ∷ es) ≡ true

@@ -7,10 +7,7 @@ use Rattle.tsa_tree.specs.types.Operands.{integer_kind, pointer_kind, unsigned_k
 use Rattle.tsa_tree.specs.types.Runnable.{is_scalar_kind}
 use Rattle.tsa_core.specs.Kinds.{scalar_kind, if_so, is_value_kind}
 use Rattle.tsa_core.specs.Meanings.{is_structure}
-
--- Truth of joined tests.
-pub never : {A : Type 0} → true ≡ false → A
-never e = absurd cc
+use Rattle.tsa_base.proofs.Truths.{never, or_right}
 
 pub both_true : (a b : Bool) → (a && b) ≡ true → (a ≡ true) × (b ≡ true)
 both_true true true e = (refl, refl)
@@ -37,10 +34,6 @@ one_of false b e f g = g e
 pub or_left : (a b : Bool) → a ≡ true → (a || b) ≡ true
 or_left true b e = refl
 or_left false b e = never (sym e)
-
-pub or_right : (a b : Bool) → b ≡ true → (a || b) ≡ true
-or_right true b e = refl
-or_right false b e = e
 
 pub and_true : (a b : Bool) → a ≡ true → b ≡ true → (a && b) ≡ true
 and_true true b e f = f

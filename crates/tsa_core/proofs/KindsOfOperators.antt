@@ -16,7 +16,8 @@ use Rattle.tsa_core.specs.Kinds.{Setting, scalar_kind, cell_kind, target_thing, 
 use Rattle.tsa_core.specs.Meanings.{is_place, is_structure, is_cell, loaded, null_pointer, beside, prefix_term, operands}
 use Rattle.tsa_core.specs.Terms.{Term, target, load, address, prefixed, joined, Sense}
 use Rattle.tsa_core.proofs.TypedTerms.{some_same}
-use Rattle.tsa_core.proofs.KindTests.{never, both_true, neither, not_false, not_true, one_of, or_left, or_right, and_true, single_length, pointer_plain, integer_plain, scalar_plain, unsigned_integer, common_integer, scalar_small, so, integer_is, pointer_is, scalar_is}
+use Rattle.tsa_core.proofs.KindTests.{both_true, neither, not_false, not_true, one_of, or_left, and_true, single_length, pointer_plain, integer_plain, scalar_plain, unsigned_integer, common_integer, scalar_small, so, integer_is, pointer_is, scalar_is}
+use Rattle.tsa_base.proofs.Truths.{never, or_right}
 
 module _ (k : Setting) where
   -- what is kept of a term and a type

@@ -25,9 +25,10 @@ use Rattle.tsa_core.proofs.MappedLists.{map_at}
 use Rattle.tsa_core.specs.Kinds.{Setting, struct_in, within, member_thing, by_index, place_type, is_value_kind, AgreesBy, Agrees, Belongs, GivesAnswer, GiveAnswer, TermsHaveTheirKinds}
 use Rattle.tsa_core.specs.Meanings.{is_place, loaded, of_number, name_term, of_name, of_call, null_pointer, base_of, to_member, of_field, meaning}
 use Rattle.tsa_core.specs.Terms.{Term, constant, global, member, element, target, Sense}
-use Rattle.tsa_core.proofs.KindTests.{never, both_true, neither, not_false, not_true, no_length, single_length, integer_is}
+use Rattle.tsa_core.proofs.KindTests.{both_true, neither, not_false, not_true, no_length, single_length, integer_is}
 use Rattle.tsa_core.proofs.KindsOfOperators.{Holds, a_value, a_place, integer_loaded, object_is, array_not_small, struct_told, target_told, followed_place, struct_place, prefix_holds, operands_hold}
 use Rattle.tsa_core.proofs.TypedTerms.{some_same, terms_have_types, member_numbered}
+use Rattle.tsa_base.proofs.Truths.{never}
 
 -- What has a type has parts with types, and breaks no rule.
 pub of_one : (f : ExpressionType → ExpressionType) (b : Bool) (o : Option ExpressionType) (t : ExpressionType) → unless b (option_map f o) ≡ Some t

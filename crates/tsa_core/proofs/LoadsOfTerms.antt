@@ -17,7 +17,7 @@ use Rattle.tsa_tree.specs.types.Operands.{integer_kind, pointer_kind, unsigned_k
 use Rattle.tsa_tree.specs.types.Runnable.{has_call}
 use Rattle.tsa_tree.specs.types.Scopes.{Scope, context_of, known_in}
 use Rattle.tsa_lead.specs.Lookups.{members_at, numbered}
-use Rattle.tsa_core.proofs.KindTests.{never, neither, not_false, not_true}
+use Rattle.tsa_core.proofs.KindTests.{neither, not_false, not_true}
 use Rattle.tsa_core.proofs.KindsOfTerms.{of_one, of_two, of_owner, typed}
 use Rattle.tsa_core.proofs.MappedLists.{map_append}
 use Rattle.tsa_core.proofs.TypedTerms.{terms_have_types, member_numbered}
@@ -26,6 +26,7 @@ use Rattle.tsa_core.specs.Cells.{inner_cells, argument_cells, cells_read}
 use Rattle.tsa_core.specs.Loads.{loads_with, places, LoadsAreCells, ConversionsKeepLoads}
 use Rattle.tsa_core.specs.Meanings.{is_loaded, is_int, loaded, null_pointer, name_term, of_name, of_call, of_field, to_member, beside, operands, as_kind, meaning}
 use Rattle.tsa_core.specs.Terms.{Term, load, converted, Sense}
+use Rattle.tsa_base.proofs.Truths.{never}
 
 -- what an answer stands for: the loads of the arguments of each call
 abbrev pub AnswersLoad : Scope → List Term → Expression → Type 0

@@ -14,7 +14,7 @@ use Rattle.tsa_core.specs.Bodies.{Known, knows, known_init, known_step, known, k
 use Rattle.tsa_core.specs.Laws.{IsNumbered, AreNumbered, LocalsAreListed}
 
 -- how many locals some points declare
-abbrev declared_at : List Known → ℕ
+abbrev pub declared_at : List Known → ℕ
 declared_at ks = length (kinds_declared ks)
 
 both : (ks js : List Known) → declared_at (ks ++ js) ≡ declared_at ks + declared_at js
@@ -94,7 +94,7 @@ unless_locals : (here : Scope) (d : Declaration) (taken : Bool) → (further 1 (
 unless_locals here d true = refl
 unless_locals here d false = refl
 
-behind_locals : (here : Scope) (s : Statement) → (behind here s).locals ≡ here.locals + declared_in s
+pub behind_locals : (here : Scope) (s : Statement) → (behind here s).locals ≡ here.locals + declared_in s
 unfolding behind declared_in
 behind_locals here (local d) = unless_locals here d (is_taken d.name.text here)
 behind_locals here (block items span) = refl
@@ -114,7 +114,7 @@ behind_locals here (continue span) = refl
 behind_locals here (goto name span) = refl
 behind_locals here (return e span) = refl
 
-init_locals : (here : Scope) (init : ForInit) → (behind_init here init).locals ≡ here.locals + declared_by_init init
+pub init_locals : (here : Scope) (init : ForInit) → (behind_init here init).locals ≡ here.locals + declared_by_init init
 init_locals here no_init = omega arith
 init_locals here (simple_init s) = omega arith
 init_locals here (local_init d) = unless_locals here d (is_taken d.name.text here)

@@ -1,6 +1,7 @@
 -- Where no premise fails, each holds, and an expression has a type.
 use Rattle.std.proofs.Common.{◌≡◌, ◌∙◌, ℕ, Bool, true, false, ◌&&◌, ◌||◌, not, List, [], ◌∷◌, ◌++◌, Option, Some, None, is_some, is_none, option_map, option_and_then, refl, sym, ap, ap₂}
 use Rattle.tsa_base.specs.declared.token.Span.{Span}
+use Rattle.tsa_base.proofs.Truths.{never}
 use Rattle.tsa_tree.specs.declared.kind.ExpressionType.{ExpressionType}
 use Rattle.tsa_tree.specs.declared.meaning.Entry.{Entry}
 use Rattle.tsa_tree.specs.declared.premise.Failure.{Failure}
@@ -18,7 +19,7 @@ use Rattle.tsa_tree.specs.types.Premises.{Premise, premise, or_else, failure_of,
 use Rattle.tsa_tree.specs.declared.kind.Kind.TheVariants as type
 use Rattle.tsa_tree.specs.types.Types.{value}
 use Rattle.tsa_tree.proofs.types.NodeLists.{first-append}
-use Rattle.tsa_core.proofs.KindTests.{never, not_false}
+use Rattle.tsa_core.proofs.KindTests.{not_false}
 
 neither_fails : (a b : Option Failure) → or_else a b ≡ None → (a ≡ None) × (b ≡ None)
 neither_fails (Some f) b h = absurd cc

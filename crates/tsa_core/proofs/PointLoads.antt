@@ -23,7 +23,7 @@ use Rattle.tsa_tree.specs.types.Simple.{assignment_breaks, is_void}
 use Rattle.tsa_core.proofs.CallLoads.{Answers, whole_answers, condition_answers}
 use Rattle.tsa_core.proofs.DeedsHold.{Facts}
 use Rattle.tsa_core.proofs.DeedsTold.{left_holds, init_told, set_told}
-use Rattle.tsa_core.proofs.KindTests.{never, both_true, neither, not_true, one_of, and_true, integer_plain, integer_is}
+use Rattle.tsa_core.proofs.KindTests.{both_true, neither, not_true, one_of, and_true, integer_plain, integer_is}
 use Rattle.tsa_core.proofs.KindsOfTerms.{typed}
 use Rattle.tsa_core.proofs.LoadsOfTerms.{free_loads, in_place, value_in, goes_in}
 use Rattle.tsa_core.proofs.NoFailure.{keeps_typed}
@@ -34,6 +34,7 @@ use Rattle.tsa_core.specs.Loads.{loads, loads_with, places}
 use Rattle.tsa_core.specs.Meanings.{is_place, is_cell, is_structure, loaded, as_kind, meaning, call_in}
 use Rattle.tsa_core.specs.PointLoads.{init_cells, call_loads, loads_right, cell_set, loads_inside, old_value, LoadsAgree}
 use Rattle.tsa_core.specs.Terms.{Term, constant, variable, answer, global, member, element, target, load, address, converted, prefixed, joined}
+use Rattle.tsa_base.proofs.Truths.{never}
 
 -- An assignment goes to a local, or to a cell.
 abbrev SetsOne : Term → Option BinaryOp → Kind → Term → Type 0

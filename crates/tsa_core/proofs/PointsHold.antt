@@ -33,7 +33,7 @@ use Rattle.tsa_core.proofs.SignaturesFit.{AreOf, CallBy, NamesCall, SoundBody, u
 use Rattle.tsa_core.proofs.TypedTerms.{some_same}
 
 -- the signatures of a program are those of the functions that its unit declares
-program_signatures : (items : List UnitItem) → AreOf (signatures (program_of items)) (declared_functions (outset items) items)
+pub program_signatures : (items : List UnitItem) → AreOf (signatures (program_of items)) (declared_functions (outset items) items)
 unfolding program_of
 program_signatures items n d is =
     let make = function_in (layout_or_none (placed_in items)) items in

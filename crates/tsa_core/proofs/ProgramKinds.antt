@@ -38,7 +38,7 @@ module _ (sig : Signatures) (l : Layout) where
       (subst (λ ks. All (PointHolds sig l (slice_get (ks ++ (body_in b).locals)) (thing_type b.here b.head.result).kind) (body_in b).points) same h)
 
 -- the layout of a program is that of its unit
-program_layout : (items : List UnitItem) (l : Layout) → HasPlaces items l → (program_of items).layout ≡ l
+pub program_layout : (items : List UnitItem) (l : Layout) → HasPlaces items l → (program_of items).layout ≡ l
 unfolding program_of
 program_layout items l placed = ap layout_or_none placed
 

@@ -9,7 +9,8 @@ use Rattle.tsa_tree.specs.types.DeclaredTypes.{typed_value, value_in}
 use Rattle.tsa_tree.specs.types.Expressions.{type_of, types_of, unless, both, entry_type}
 use Rattle.tsa_tree.specs.types.Known.{Context}
 use Rattle.tsa_tree.specs.types.Operands.{breaks_prefix, breaks_binary, prefix_type, binary_type}
-use Rattle.tsa_core.proofs.KindTests.{never, both_true}
+use Rattle.tsa_core.proofs.KindTests.{both_true}
+use Rattle.tsa_base.proofs.Truths.{never}
 
 -- enumerators are known alike
 pub record SameConstants (c d : Context) : Type 0 where

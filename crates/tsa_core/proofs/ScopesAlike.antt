@@ -1,6 +1,7 @@
 -- What is known of a unit without its functions: constants, and so types, are the same as with them.
 use Rattle.std.proofs.Common.{◌≡◌, ◌∙◌, ℕ, Bool, true, false, List, [], Option, Some, None, refl, sym, ap, ap₂}
 use Rattle.tsa_base.specs.declared.token.Span.{Span}
+use Rattle.tsa_base.proofs.Truths.{never}
 use Rattle.tsa_tree.specs.declarations.Syntax as declared
 use Rattle.tsa_tree.specs.declarations.Syntax.{Base, DeclaredType}
 use Rattle.tsa_tree.specs.declared.kind.ThingType.{ThingType}
@@ -12,7 +13,6 @@ use Rattle.tsa_tree.specs.types.Constants.{enumerator, is_known_enumerator, cons
 use Rattle.tsa_tree.specs.types.DeclaredTypes.{of_struct, of_enum, of_alias, base_of, qualified, declared_as, resolve, value_in, length_of, with_length, thing_type}
 use Rattle.tsa_tree.specs.types.Expressions.{is_function}
 use Rattle.tsa_tree.specs.types.Scopes.{Scope, found, context_of, known_in}
-use Rattle.tsa_core.proofs.KindTests.{never}
 use Rattle.tsa_core.proofs.SameConstants.{SameConstants, same_constant, same_value}
 
 abbrev pub unless_so : Bool → Entry → Option Entry
@@ -36,7 +36,7 @@ pub record Alike (here there : Scope) : Type 0 where
 pub known_found : (here : Scope) (name : List ℕ) → here.owned ≡ [] → known_in here name ≡ found here.names name
 known_found here name e = rw e refl
 
-enumerator_kept : (o : Option Entry) → enumerator (no_function o) ≡ enumerator o
+pub enumerator_kept : (o : Option Entry) → enumerator (no_function o) ≡ enumerator o
 enumerator_kept None = refl
 enumerator_kept (Some e) = by e.meaning e.thing
   where

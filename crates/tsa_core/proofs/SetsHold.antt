@@ -16,8 +16,9 @@ use Rattle.tsa_core.specs.Kinds.{Setting, scalar_kind, if_so, both_integers, bin
 use Rattle.tsa_core.specs.Meanings.{is_place, is_cell, is_structure, loaded, name_term, of_name, to_member}
 use Rattle.tsa_core.specs.PointKinds.{ServesScalar, is_number, Joins, Sets, IsCellOf, ActionHolds}
 use Rattle.tsa_core.specs.Terms.{Term, constant, variable, answer, global, member, element, target, load, address, converted, prefixed, joined, Sense}
-use Rattle.tsa_core.proofs.KindTests.{never, both_true, neither, not_false, not_true, one_of, or_left, or_right, and_true, single_length, common_integer, scalar_plain, so, integer_is}
+use Rattle.tsa_core.proofs.KindTests.{both_true, neither, not_false, not_true, one_of, or_left, and_true, single_length, common_integer, scalar_plain, so, integer_is}
 use Rattle.tsa_core.proofs.KindsOfOperators.{Holds, integer_loaded}
+use Rattle.tsa_base.proofs.Truths.{never, or_right}
 
 pub passes_typed : (test : ExpressionType → Bool) (o : Option ExpressionType) (t : ExpressionType) → o ≡ Some t → lacks test o ≡ false → test t ≡ true
 passes_typed test o t is h = not_false (test t) (subst (λ p. lacks test p ≡ false) is h)

@@ -2,6 +2,7 @@
 use Rattle.std.proofs.Common.{◌≡◌, ◌∙◌, ℕ, ℤ, suc, ◌+◌, Bool, true, false, not, ◌&&◌, List, [], ◌∷◌, ◌++◌, map, Option, Some, None, is_some, if◌then◌else◌, refl, sym, ap, ap₂, subst, eq-eqb, append_assoc}
 use Rattle.std.specs.Str.{bytes_eq}
 use Rattle.tsa_base.specs.declared.token.Span.{Span}
+use Rattle.tsa_base.proofs.Truths.{never}
 use Rattle.tsa_tree.specs.declarations.Syntax.{Declaration}
 use Rattle.tsa_tree.specs.declared.kind.ExpressionType.{ExpressionType}
 use Rattle.tsa_tree.specs.declared.kind.ThingType.{ThingType}
@@ -29,7 +30,6 @@ use Rattle.tsa_tree.specs.types.Targets.{Cases, case_at, cases_behind, cases_beh
 use Rattle.tsa_core.proofs.CaseLists.{Every, every_both, InRange, with_cases, with_append, IsFirst, IsOther, Apart, all_apart}
 use Rattle.tsa_core.proofs.CaseNumbers.{value_fits, same_int}
 use Rattle.tsa_core.proofs.EachScope.{statement_past, init_past}
-use Rattle.tsa_core.proofs.KindTests.{never}
 use Rattle.tsa_core.proofs.NoFailure.{none_of_both, none_of_first, keeps_typed}
 use Rattle.tsa_core.proofs.SameConstants.{SameConstants, same_value}
 use Rattle.tsa_core.proofs.UnitScopes.{or_other, found_append}
@@ -171,7 +171,7 @@ last_local None true e plain = (plain, λ made. never (sym made))
 last_local None false e plain = (refl, λ made. never (sym made))
 
 module _ (s : Scope) (name : List ℕ) (e : Entry) (plain : enumerator (Some e) ≡ None) where
-  abbrev there : Scope
+  abbrev pub there : Scope
   there = with_name name e s
 
   abbrev SameAt : List ℕ → Type 0
@@ -187,10 +187,10 @@ module _ (s : Scope) (name : List ℕ) (e : Entry) (plain : enumerator (Some e) 
       by None is = rw is named
       by (Some t) is = rw is (refl, λ made. refl)
 
-  same_with : SameConstants (context_of s) (context_of there)
+  pub same_with : SameConstants (context_of s) (context_of there)
   same_with = record { values = λ text. (same_at text).0; entries = λ text. (same_at text).1 }
 
-same_through : (b c d : Context) → SameConstants b c → SameConstants c d → SameConstants b d
+pub same_through : (b c d : Context) → SameConstants b c → SameConstants c d → SameConstants b d
 same_through b c d h g = record {
   values = λ name. g.values name ∙ h.values name;
   entries = λ name made. g.entries name (ap is_known_enumerator (h.values name) ∙ made) ∙ h.entries name made;

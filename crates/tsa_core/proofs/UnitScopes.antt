@@ -4,6 +4,7 @@ use Rattle.std.proofs.lemmas.List.{append-nil}
 use Rattle.std.proofs.lemmas.Slice.Eq.{bytes_eq-Decides}
 use Rattle.std.specs.Str.{bytes_eq}
 use Rattle.tsa_base.specs.declared.token.Span.{Span}
+use Rattle.tsa_base.proofs.Truths.{never}
 use Rattle.tsa_tree.specs.attributes.Syntax.{Attribute}
 use Rattle.tsa_tree.specs.declarations.Syntax.{Declaration, DeclaredType, EnumConstant, Head}
 use Rattle.tsa_tree.specs.declared.kind.Declaring.{Declaring}
@@ -37,7 +38,7 @@ use Rattle.tsa_tree.specs.units.Syntax.{UnitItem, structure_item, alias_item, en
 use Rattle.tsa_lead.specs.Parts.{whole, parts_behind, part_in, member_behind, members_after, structure_in, unless, unless_taken, unless_named, behind_structure}
 use Rattle.tsa_lead.specs.Parts as laid
 use Rattle.tsa_lead.specs.Items.{worth_written, worth, enumerators_behind, known_global, behind_data}
-use Rattle.tsa_core.proofs.KindTests.{never, both_true, not_false, neither}
+use Rattle.tsa_core.proofs.KindTests.{both_true, not_false, neither}
 use Rattle.tsa_core.proofs.NoFailure.{none_of_both, none_of_first, constant_told, keeps_typed, HasType}
 use Rattle.tsa_core.proofs.ScopesAlike.{Alike, no_function, unless_so, value_same, thing_same}
 
@@ -54,7 +55,7 @@ pub found_append : {A : Type 0} (xs ys : List (List ℕ × A)) (name : List ℕ)
 found_append [] ys name = refl
 found_append (x ∷ xs) ys name = or_step (bytes_eq name x.0) x.1 (found xs name) (found (xs ++ ys) name) (found ys name) (found_append xs ys name)
 
-or_none : {A : Type 0} (o : Option A) → or_other o None ≡ o
+pub or_none : {A : Type 0} (o : Option A) → or_other o None ≡ o
 or_none None = refl
 or_none (Some x) = refl
 
@@ -272,7 +273,7 @@ global_told here d h =
     (none_of_both (typed_premises here declaring.Thing (is_taken d.name.text here) d.span d.ctype) (inside_global (with_global here d) here.globals (thing_type here d.ctype) d) h).0
 
 -- a struct takes no name
-named_struct : (alias : Option Identifier) (ms : Members) (here : Scope) → is_named_taken alias here ≡ false → is_named_taken alias (with_struct ms here) ≡ false
+pub named_struct : (alias : Option Identifier) (ms : Members) (here : Scope) → is_named_taken alias here ≡ false → is_named_taken alias (with_struct ms here) ≡ false
 named_struct None ms here e = refl
 named_struct (Some name) ms here e = e
 

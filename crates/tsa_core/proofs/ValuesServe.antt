@@ -16,8 +16,9 @@ use Rattle.tsa_core.specs.Kinds.{Setting, scalar_kind, conversion_kind, value_ki
 use Rattle.tsa_core.specs.Meanings.{is_structure, loaded, is_int, as_kind, null_pointer, or_call, call_in}
 use Rattle.tsa_core.specs.PointKinds.{serves, Serves}
 use Rattle.tsa_core.specs.Terms.{Term, converted, Sense}
-use Rattle.tsa_core.proofs.KindTests.{never, both_true, neither, one_of, and_true, pointer_plain, integer_plain, scalar_plain, scalar_small, integer_is, scalar_is}
+use Rattle.tsa_core.proofs.KindTests.{both_true, neither, one_of, and_true, pointer_plain, integer_plain, scalar_plain, scalar_small, integer_is, scalar_is}
 use Rattle.tsa_core.proofs.KindsOfOperators.{Holds, integer_loaded, pointer_loaded}
+use Rattle.tsa_base.proofs.Truths.{never}
 
 -- A value where one of a kind is wanted.
 pub no_pointer : {A : Type 0} (i z s : Bool) → ((i && false) || ((z && false) || (s && false))) ≡ true → A

@@ -15,10 +15,11 @@ use Rattle.tsa_tree.specs.expressions.Syntax.{Expression, number, null, named, c
 use Rattle.tsa_tree.specs.types.Expressions.{entry_type}
 use Rattle.tsa_tree.specs.types.Operands.{integer_kind, pointer_kind, is_single, is_integer, is_pointer, target_of, same_target, keeps_const, null_beside, comparable, goes_to, prefix_type, binary_type}
 use Rattle.tsa_tree.specs.types.Scopes.{Scope, known_in}
-use Rattle.tsa_core.proofs.KindTests.{never, both_true, one_of, pointer_plain, integer_plain, integer_is, pointer_is}
+use Rattle.tsa_core.proofs.KindTests.{both_true, one_of, pointer_plain, integer_plain, integer_is, pointer_is}
 use Rattle.tsa_core.specs.Cells.{inner_cells, argument_cells, cells_read}
 use Rattle.tsa_core.specs.Meanings.{of_name, of_call, to_member, meaning}
 use Rattle.tsa_core.specs.Terms.{Sense}
+use Rattle.tsa_base.proofs.Truths.{never}
 
 -- Only a number is a constant 0, and it is read from no cell.
 named_nonzero : (m : Meaning) (t : ThingType) → (entry_type (record { meaning = m; thing = t })).is_zero ≡ false

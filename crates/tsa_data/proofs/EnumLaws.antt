@@ -18,8 +18,8 @@ use Rattle.tsa_resolve.specs.Found.{number_in, with_constant, constant_in, found
 use Rattle.tsa_resolve.specs.Verdicts.{at, verdict_of}
 use Rattle.tsa_resolve.proofs.ConstantLaws.{constant_is}
 use Rattle.tsa_resolve.proofs.LengthLaws.{constant_fails, constant_passes, constant_misses, shape_span}
+use Rattle.tsa_resolve.proofs.Sequences.{one_fails, one_holds}
 use Rattle.tsa_data.specs.Enumerators.{worth_by, own_premises}
-use Rattle.tsa_data.proofs.Judging.{one_fails, one_holds}
 
 -- an enumerator without a value, and one with a value
 abbrev plain : Identifier → EnumConstant

@@ -19,8 +19,8 @@ use Rattle.tsa_resolve.specs.declared.refusal.TypeRefusal.{TypeRefusal}
 use Rattle.tsa_resolve.specs.Judged.{Judges}
 use Rattle.tsa_resolve.proofs.Steps.{first_append}
 use Rattle.tsa_resolve.proofs.SymbolLaws.{Notes, noted, noted_append}
+use Rattle.tsa_resolve.proofs.Sequences.{judged_some}
 use Rattle.tsa_data.proofs.DeclaredLaws.{typed_untaken, is_fresh}
-use Rattle.tsa_data.proofs.Judging.{judged_some}
 
 -- its length, its attributes and its initialiser, by what fails first in each
 pub inside_is : (here : Scope) (own : ℕ) (t : ThingType) (d : Declaration) (bearer : Bearer) (length guards init : Option Failure)

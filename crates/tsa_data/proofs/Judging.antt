@@ -1,14 +1,11 @@
 -- The first premise that fails among some behind others, and what an answer says of it.
-use Rattle.std.proofs.Common.{◌≡◌, ◌∙◌, Bool, true, false, List, [], ◌∷◌, ◌++◌, Option, Some, None, Result, Ok, Err, refl, sym, ap, subst}
+use Rattle.std.proofs.Common.{◌≡◌, ◌∙◌, List, ◌++◌, Option, Some, None, Result, Ok, Err, refl, sym, ap, subst}
 use Rattle.std.specs.Prelude.{⊤, OnOk}
-use Rattle.tsa_base.specs.declared.token.Span.{Span}
 use Rattle.tsa_tree.specs.declared.premise.Failure.{Failure}
-use Rattle.tsa_tree.specs.declared.premise.TypeCode.{TypeCode}
-use Rattle.tsa_tree.specs.types.Premises.{Premise, premise, or_else, first}
+use Rattle.tsa_tree.specs.types.Premises.{Premise, or_else, first}
 use Rattle.tsa_resolve.specs.declared.refusal.TypeRefusal.{TypeRefusal}
-use Rattle.tsa_resolve.specs.declared.refusal.TypeRefusal.TheVariants.{At, NoMemory}
+use Rattle.tsa_resolve.specs.declared.refusal.TypeRefusal.TheVariants.{At}
 use Rattle.tsa_resolve.specs.Judged.{Judges, judgement}
-use Rattle.tsa_resolve.specs.Verdicts.{at}
 use Rattle.tsa_resolve.proofs.Steps.{first_append}
 
 -- a refusal by the first premise that fails
@@ -46,30 +43,8 @@ module _ (x f : Option Failure) (r : Result ⊤ TypeRefusal) (found : f ≡ x) (
       by (Ok u) h = p (judged_holds u h)
       by (Err e) h = tt
 
--- an answer of some, and of those behind them
-judges_some : (x y : Option Failure) (e : TypeRefusal) → Judges x (Err e) → Judges (or_else x y) (Err e)
-judges_some x y (At code span) h = ap (λ o. or_else o y) h
-judges_some x y NoMemory h = h
-
-pub judged_some : (xs ys : List Premise) (e : TypeRefusal) → Judges (first xs) (Err e) → Judges (first (xs ++ ys)) (Err e)
-judged_some xs ys e h = subst (λ o. Judges o (Err e)) (sym (first_append xs ys)) (judges_some (first xs) (first ys) e h)
-
 pub judged_rest : (xs ys : List Premise) (r : Result ⊤ TypeRefusal) → first xs ≡ None → Judges (first ys) r → Judges (first (xs ++ ys)) r
 judged_rest xs ys r none h = subst (λ o. Judges o r) (sym (first_append xs ys ∙ ap (λ x. or_else x (first ys)) none)) h
-
--- a premise before others
-pub one_fails : (code : TypeCode) (span : Span) (b : Bool) (rest : List Premise) → b ≡ true → first (premise code span b ∷ rest) ≡ Some (at code span)
-unfolding first
-one_fails code span b rest h = rw h refl
-
-pub one_holds : (code : TypeCode) (span : Span) (b : Bool) (rest : List Premise) → b ≡ false → first (premise code span b ∷ rest) ≡ first rest
-unfolding first
-one_holds code span b rest h = rw h refl
-
--- of no premises none fails
-pub nothing_fails : first [] ≡ None
-unfolding first
-nothing_fails = refl
 
 -- where neither of two fails, the first doesn't
 pub first_holds : (x y : Option Failure) → or_else x y ≡ None → x ≡ None

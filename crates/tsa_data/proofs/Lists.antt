@@ -1,5 +1,5 @@
 -- What is told of a list element by element: the first premise that fails, what is known after it, and its names.
-use Rattle.std.proofs.Common.{◌≡◌, ◌∙◌, ℕ, ◌+◌, suc, arith, List, [], ◌∷◌, ◌++◌, drop, Option, None, Err, sym, ap}
+use Rattle.std.proofs.Common.{◌≡◌, ◌∙◌, ℕ, ◌+◌, suc, List, [], ◌∷◌, ◌++◌, drop, Option, None, Err, sym, ap}
 use Rattle.tsa_tree.specs.declared.premise.Failure.{Failure}
 use Rattle.tsa_tree.specs.types.Premises.{Premise, or_else, first}
 use Rattle.tsa_tree.specs.types.Symbols.{Names}
@@ -7,11 +7,9 @@ use Rattle.tsa_resolve.specs.declared.refusal.TypeRefusal.{TypeRefusal}
 use Rattle.tsa_resolve.specs.Judged.{Judges}
 use Rattle.tsa_resolve.proofs.Steps.{first_append}
 use Rattle.tsa_resolve.proofs.SymbolLaws.{Notes, noted, noted_append, noted_nothing}
-use Rattle.tsa_data.proofs.Judging.{nothing_fails, judged_some, judges_err, or_nothing, or_else_same}
-
--- a place after one
-plus_one : (n : ℕ) → suc n ≡ n + 1
-plus_one n = omega arith
+use Rattle.tsa_resolve.proofs.Sequences.{judged_some, nothing_fails}
+use Rattle.tsa_data.proofs.Judging.{judges_err, or_nothing, or_else_same}
+use Rattle.tsa_base.proofs.Numbers.{plus_one}
 
 -- a state goes on from element to element, and what is left of the list is told from the state before it
 module _ {S A : Type 0} (next : S → A → S) (xs : List A) (i : ℕ) (s : S) where

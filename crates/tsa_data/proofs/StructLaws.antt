@@ -23,9 +23,10 @@ use Rattle.tsa_resolve.specs.declared.refusal.TypeRefusal.{TypeRefusal}
 use Rattle.tsa_resolve.specs.Judged.{Judges}
 use Rattle.tsa_resolve.specs.Verdicts.{at}
 use Rattle.tsa_resolve.proofs.Steps.{first_append}
+use Rattle.tsa_resolve.proofs.Sequences.{judged_some, nothing_fails, one_fails, one_holds}
 use Rattle.tsa_data.proofs.DeclaredLaws.{declared_untaken, is_fresh, named_known}
 use Rattle.tsa_data.proofs.Lists.{failure_end, failure_next}
-use Rattle.tsa_data.proofs.Judging.{or_nothing, first_holds, one_fails, one_holds, nothing_fails, judges_err, judged_some, judged_rest}
+use Rattle.tsa_data.proofs.Judging.{or_nothing, first_holds, judges_err, judged_rest}
 
 -- a member, by what was found of its name with its type, and of its guards
 module _ (here : Scope) (before : Members) (d : Declaration) (taken : Bool) (is : taken ≡ is_some (found before d.name.text)) (told guards : Option Failure)

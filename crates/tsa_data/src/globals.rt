@@ -42,7 +42,7 @@ fn judge_outside(scope: &Scope<'_>, decl: &Decl<'_>) -> Result<Typing, NoMemory>
 }
 
 /// The initialiser of a global of a type, where there is one: what is wrong with it. Its names are noted.
-#[tactic(auto, using(crate::proofs::Judging::nothing_fails, tsa_resolve::proofs::SymbolLaws::notes))]
+#[tactic(auto, using(tsa_resolve::proofs::Sequences::nothing_fails, tsa_resolve::proofs::SymbolLaws::notes))]
 fn given_initialiser(
     view: View<'_, '_>,
     symbols: &mut Symbols,

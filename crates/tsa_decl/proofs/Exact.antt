@@ -1,7 +1,6 @@
 -- What was read by the rows is what the grammar asks for.
 use Rattle.std.proofs.Common.{ℕ, ◌≡◌, sym, subst, List, [], Ok, Err, Result, IfOk, ◌∙◌, false}
 use Rattle.tsa_base.specs.Tokens.{Lexeme}
-use Rattle.tsa_forms.specs.Reading.{Outcome}
 use Rattle.tsa_tree.proofs.declarations.Laws.{an_answer}
 use Rattle.tsa_tree.specs.attributes.Refusals.{left_out, lacking}
 use Rattle.tsa_tree.specs.declarations.Answers.{Part, sort_of, call_of, IsLongest, IsBroken, IsRefused, IsTooDeep, IsAnswer}
@@ -10,23 +9,14 @@ use Rattle.tsa_tree.specs.Reads.{read}
 use Rattle.tsa_tree.specs.Rows.{some_items, item, Node}
 use Rattle.tsa_tree.specs.tokens.Signs.{Aliases}
 use Rattle.tsa_expr.specs.declared.refusal.SyntaxRefusal.{SyntaxRefusal}
-use Rattle.tsa_expr.specs.declared.refusal.SyntaxRefusal.TheVariants.{At, Function, NoMemory}
-use Rattle.tsa_expr.specs.declared.refusal.SyntaxCode.TheVariants.{SY1, AT1, AT2, LM2, LM3, LM5}
+use Rattle.tsa_expr.specs.declared.refusal.SyntaxRefusal.TheVariants.{At}
+use Rattle.tsa_expr.specs.declared.refusal.SyntaxCode.TheVariants.{SY1, AT1, AT2, LM2}
 use Rattle.tsa_expr.specs.Gives.{Fails, Gives}
 use Rattle.tsa_expr.proofs.Answering.{fails_same}
 use Rattle.tsa_attr.specs.Outcomes.{IsOfAttributes}
+use Rattle.tsa_attr.proofs.Exact.{given_by}
 use Rattle.tsa_local.specs.Outcomes.{after}
 use Rattle.tsa_local.proofs.ListLaws.{after-nothing}
-
-given_by : {Y : Type 0} (e : SyntaxRefusal) (r : Outcome Y) → Fails e r → IsOfAttributes e
-given_by (At SY1 token) r h = tt
-given_by (At AT1 token) r h = tt
-given_by (At AT2 token) r h = tt
-given_by (At LM2 token) r h = tt
-given_by (At LM3 token) r h = h
-given_by (At LM5 token) r h = h
-given_by (Function code span) r h = h
-given_by NoMemory r h = tt
 
 module _ {X : Type 0} (p : Part) (view : X → Node (sort_of p) × ℕ) (tokens : List Lexeme) (aliases : Aliases) (at : ℕ) where
   abbrev Given : Result X SyntaxRefusal → Type 0

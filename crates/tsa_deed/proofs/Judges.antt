@@ -1,5 +1,5 @@
 -- What is found of some points and then of others is what is found of all.
-use Rattle.std.proofs.Common.{◌≡◌, ◌∙◌, ℕ, ◌+◌, suc, arith, cond, Bool, true, false, List, [], ◌∷◌, ◌++◌, drop, length, filter, map, Option, Some, None, refl, sym, ap, if◌then◌else◌}
+use Rattle.std.proofs.Common.{◌≡◌, ◌∙◌, ℕ, ◌+◌, suc, arith, cond, Bool, true, false, List, [], ◌∷◌, ◌++◌, drop, length, filter, map, Option, refl, sym, ap, if◌then◌else◌}
 use Rattle.std.proofs.lemmas.List.{append_assoc, length-append}
 use Rattle.std.proofs.lemmas.List.Elements.{filter-append}
 use Rattle.tsa_way.specs.Ways.{Way}
@@ -17,14 +17,7 @@ use Rattle.tsa_deed.specs.Gathering.{with_ways}
 use Rattle.tsa_deed.specs.Judging.{behind_points}
 use Rattle.tsa_deed.specs.Ways.{points_ways, ways_at}
 use Rattle.tsa_deed.proofs.Gathers.{ways_append}
-
-or_else_or_else : (a b c : Option Failure) → or_else (or_else a b) c ≡ or_else a (or_else b c)
-or_else_or_else None b c = refl
-or_else_or_else (Some f) b c = refl
-
-or_else_none : (a : Option Failure) → or_else a None ≡ a
-or_else_none None = refl
-or_else_none (Some f) = refl
+use Rattle.tsa_use.proofs.Failures.{or_else_none, or_else_or_else}
 
 module _ (a : Around) where
   premises_append : (xs ys : List PlacedPoint) → points_premises a (xs ++ ys) ≡ points_premises a xs ++ points_premises a ys

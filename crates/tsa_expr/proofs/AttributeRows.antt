@@ -4,7 +4,8 @@ use Rattle.std.specs.Prelude.{codes}
 use Rattle.tsa_tree.specs.declared.attr.AttrKind.TheVariants as attr
 use Rattle.tsa_tree.specs.declared.sign.Meaning.TheVariants as mean
 use Rattle.tsa_tree.specs.tokens.Signs.{listed, attribute_names}
-use Rattle.tsa_expr.proofs.ListedRows.{of_length, differ}
+use Rattle.tsa_expr.proofs.ListedRows.{of_length}
+use Rattle.tsa_lex.proofs.Words.{differ}
 
 pub of_eight : (text : List ℕ) → length text ≡ 8 → listed ((codes "lockable", mean.LeftOut) ∷ []) text ≡ listed attribute_names text
 unfolding attribute_names

@@ -1,5 +1,5 @@
 -- What is listed beside a text: it is that of the first row with the text, and rows of other lengths say nothing.
-use Rattle.std.proofs.Common.{◌≡◌, ◌≢◌, ℕ, Bool, true, false, List, [], ◌∷◌, Some, None, length, refl, sym, ◌∙◌, ap, arith}
+use Rattle.std.proofs.Common.{◌≡◌, ℕ, Bool, true, false, List, [], ◌∷◌, Some, None, length, refl, sym, ◌∙◌, ap, arith}
 use Rattle.std.proofs.lemmas.Bool.Decides.{nat_tests}
 use Rattle.std.proofs.lemmas.Slice.Eq.{bytes_eq-Decides}
 use Rattle.std.specs.declared.option.Option.{Option}
@@ -49,6 +49,3 @@ of_length rows text n long = rw (← long) (by_length text rows)
 
 pub found : {A : Type 0} (rows : List (List ℕ × A)) (text : List ℕ) (row : Option (List ℕ × A)) → row ≡ find (λ row. bytes_eq text row.0) rows → behind row ≡ listed rows text
 found rows text row e = ap behind e ∙ by_find text rows
-
-pub differ : (k m : ℕ) → m ≢ k → (k == m) ≡ false
-differ k m other = grind (arith, nat_tests)

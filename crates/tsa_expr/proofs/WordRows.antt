@@ -5,7 +5,8 @@ use Rattle.tsa_tree.specs.declared.attr.AttrKind.TheVariants as attr
 use Rattle.tsa_tree.specs.declared.sign.Keyword.TheVariants as key
 use Rattle.tsa_tree.specs.declared.sign.Sign.TheVariants as sign
 use Rattle.tsa_tree.specs.tokens.Signs.{listed, word_signs}
-use Rattle.tsa_expr.proofs.ListedRows.{of_length, differ}
+use Rattle.tsa_expr.proofs.ListedRows.{of_length}
+use Rattle.tsa_lex.proofs.Words.{differ}
 
 pub of_two : (text : List ℕ) → length text ≡ 2 → listed ((codes "if", sign.Keyword key.If) ∷ (codes "do", sign.Keyword key.Do) ∷ []) text ≡ listed word_signs text
 unfolding word_signs

@@ -1,11 +1,10 @@
 -- The rules that are asked of marks.
 use Rattle.std.proofs.Common.{◌≡◌, ℕ, zero, suc, ◌<◌, ◌⊎◌, inl, inr, nat_eq, nat_lt, Bool, true, false, ◌&&◌, List, [], ◌∷◌, length, get_or, Contains, refl, ap, arith, true≢false}
-use Rattle.std.proofs.lemmas.Bool.Decides.{nat_tests}
 use Rattle.std.proofs.lemmas.List.Elements.{All-contains}
 use Rattle.tsa_rules.specs.declared.rule.Rule.{Rule}
 use Rattle.tsa_rules.specs.declared.rule.Rule.TheVariants.{TS01, TS02, TS03, TS04, TS05, TS06, TS07, TS08, TS09, TS10, TS11, TS12}
 use Rattle.tsa_rules.specs.Fails.{rule_number}
-use Rattle.tsa_rules.proofs.Tests.{left_part, none_passes, right_part}
+use Rattle.tsa_rules.proofs.Tests.{left_part, none_passes, right_part, below}
 use Rattle.tsa_failures.specs.declared.spot.TheConstants.{MARK_RULES}
 use Rattle.tsa_failures.specs.Adding.{EachOnce}
 
@@ -13,9 +12,6 @@ use Rattle.tsa_failures.specs.Adding.{EachOnce}
 rises : ℕ → List Rule → Bool
 rises n [] = true
 rises n (r ∷ rules) = nat_lt n (rule_number r) && rises (rule_number r) rules
-
-below : (m n : ℕ) → nat_lt m n ≡ true → m < n
-below m n e = grind (arith, nat_tests)
 
 above : (n : ℕ) (rules : List Rule) → rises n rules ≡ true → (k : ℕ) (d : Rule) → k < length rules → n < rule_number (get_or rules k d)
 unfolding rises

@@ -16,15 +16,11 @@ use Rattle.tsa_failures.specs.Adding.{Adds, EachOnce}
 use Rattle.tsa_failures.specs.Passes.{IsOfMarks}
 use Rattle.tsa_failures.specs.Spots.{FailsOnWalks, IsNoted, IsNotedBy, IsSpotOf}
 use Rattle.tsa_failures.proofs.Added.{and_then, as_others, none_more}
-
-pub same_some : {A : Type 0} {x y : A} → Some x ≡ Some y → x ≡ y
-same_some e = cc
+use Rattle.tsa_base.proofs.Options.{some_same as same_some}
+use Rattle.tsa_reach.proofs.Slots.{one_there}
 
 pub none_there : {A : Type 0} (x : A) → None ≡ Some x → ⊥
 none_there x e = cc
-
-pub one_there : {A : Type 0} (xs : List A) (i : ℕ) (x y : A) → slice_get xs i ≡ Some x → slice_get xs i ≡ Some y → x ≡ y
-one_there xs i x y e f = same_some (sym e ∙ f)
 
 pub some_there : {A : Type 0} (xs : List A) (i : ℕ) → i < length xs → (x : A) × (slice_get xs i ≡ Some x)
 some_there [] i within = absurd (omega (arith, within))

@@ -22,6 +22,7 @@ use Rattle.tsa_rules.specs.Fails.{fails}
 use Rattle.tsa_rules.specs.Points.{edges_of, points_of}
 use Rattle.tsa_rules.specs.Walks.{course_of, Edge, edge_from, entry_edge, Fails, LeadsTo, on_a_walk, Reach, where_edges_meet}
 use Rattle.tsa_failures.specs.Laws.{RulesFailAtPointsOfBodies}
+use Rattle.tsa_base.proofs.Options.{some_same}
 
 module _ (u : Program) (f : Function) (some : 0 < length (points_of f)) (inside : All (λ e. e.to < length (points_of f)) (edges_of f)) (p : ℕ) (c : Way) where
   -- edges lead to points of the body, and so does the entry, where there are some
@@ -80,9 +81,6 @@ module _ (u : Program) (items : List UnitItem) (d : Declared) (p : ℕ) (c : Way
       inside : All (λ e. e.to < length (points_of f)) (edges_of f)
       inside = All-weaker (IsInside (control.count_all b.body)) (λ e. e.to < length (points_of f)) (λ e x. omega (arith, x.1, counted)) (edges_of f)
           (edges_stay_inside b.here (thing_type b.here b.head.result).kind b.body)
-
-some_same : {A : Type 0} {x y : A} → Some x ≡ Some y → x ≡ y
-some_same e = cc
 
 -- each function of a program is by its declaration, and by its body where it has one
 function_by : (u : Program) (items : List UnitItem) (f : Function) (p : ℕ) (c : Way) (rule : Rule) (o : Option Declared) → option_map (function_in (layout_or_none (placed_in items)) items) o ≡ Some f → Fails u f p c rule

@@ -14,7 +14,8 @@ use Rattle.tsa_failures.specs.Adding.{Adds}
 use Rattle.tsa_failures.specs.Passes.{IsOfEdges, IsOfPoint, IsOfPoints, IsOfReturns}
 use Rattle.tsa_failures.specs.Spots.{FailsOnWalks, IsNoted}
 use Rattle.tsa_failures.proofs.Added.{and_then, as_others, none_more, one_more}
-use Rattle.tsa_failures.proofs.Noted.{one_there, same_failure}
+use Rattle.tsa_failures.proofs.Noted.{same_failure}
+use Rattle.tsa_reach.proofs.Slots.{one_there}
 
 -- What is of the first paths, of one path, and of all.
 abbrev pub UpTo : (RuleFailure → Type 0) → (number : ℕ) → RuleFailure → Type 0

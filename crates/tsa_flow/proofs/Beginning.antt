@@ -15,9 +15,7 @@ use Rattle.tsa_flow.specs.declared.function.FunctionFlow.{FunctionFlow}
 use Rattle.tsa_flow.specs.Flows.{IsFlowOf}
 use Rattle.tsa_flow.proofs.AlikeCourses.{same_agreement}
 use Rattle.tsa_flow.proofs.Flowing.{alike_there}
-
-same_some : {A : Type 0} {x y : A} → Some x ≡ Some y → x ≡ y
-same_some e = cc
+use Rattle.tsa_base.proofs.Options.{some_same as same_some}
 
 none_some : {A : Type 0} (x : A) → None ≡ Some x → ⊥
 none_some x e = cc

@@ -14,6 +14,7 @@ use Rattle.tsa_view.specs.Views.{IsViewBy, IsViewIn, IsViewOf}
 use Rattle.tsa_flow.specs.declared.function.FunctionFlow.{FunctionFlow}
 use Rattle.tsa_flow.specs.Flows.{IsFlowOf}
 use Rattle.tsa_flow.specs.Numbers.{IsFlowBy, IsFlowIn}
+use Rattle.tsa_base.proofs.Options.{none_some, some_none, some_same as same}
 
 pub record Found (u : Program) (o : Option Function) (view : RuleView) (graph : Graph) : Type 0 where
   pub function : Function
@@ -22,15 +23,6 @@ pub record Found (u : Program) (o : Option Function) (view : RuleView) (graph : 
   pub has_paths : paths_if u function ≡ Some paths
   pub viewed : IsViewOf u function paths view
   pub control : IsControlOf function graph
-
-same : {A : Type 0} {x y : A} → Some x ≡ Some y → x ≡ y
-same e = cc
-
-none_some : {A B : Type 0} (x : A) → None ≡ Some x → B
-none_some x e = cc
-
-some_none : {A B : Type 0} (x : A) → Some x ≡ None → B
-some_none x e = cc
 
 module _ (u : Program) (view : RuleView) (graph : Graph) where
   found_by : (f : Function) (o : Option (List Way)) → paths_if u f ≡ o → IsViewBy u f o (Some view) → IsControlOf f graph → Found u (Some f) view graph

@@ -31,6 +31,7 @@ use Rattle.tsa_points.proofs.NoFailure.{none_of_both, none_of_first, constant_to
 use Rattle.tsa_points.proofs.UnitScopes.{declared_told, struct_told, global_told}
 use Rattle.tsa_function.specs.Members.{with_members}
 use Rattle.tsa_function.specs.Laws.{MembersComeOneByOne, MembersMakeTheStruct}
+use Rattle.tsa_core.proofs.UnitScopes.{named_struct}
 
 -- NAMES
 
@@ -57,11 +58,6 @@ module _ (here : Scope) where
   members_same before (d ∷ rest) h =
       let both = none_of_both (member_premises here before d) (members_premises here (with_member here before d) rest) h in
       ap (λ ms. members_after here ms rest) (with_same before d (member_told before d both.0)) ∙ members_same (with_member here before d) rest both.1
-
--- a struct takes no name
-named_struct : (alias : Option Identifier) (ms : Members) (here : Scope) → is_named_taken alias here ≡ false → is_named_taken alias (with_struct ms here) ≡ false
-named_struct None ms here e = refl
-named_struct (Some name) ms here e = e
 
 pub struct_same : (here : Scope) (tag alias : Option Identifier) (attrs : List Attribute) (members : List Declaration) (span : Span)
     → first (struct_premises here tag alias attrs members span) ≡ None → with_members here alias (members_after here [] members) ≡ behind_struct here alias members

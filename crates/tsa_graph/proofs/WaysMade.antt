@@ -11,7 +11,7 @@ use Rattle.tsa_graph.specs.Edges.{edges_from, edges_into, IsStep}
 use Rattle.tsa_runs.specs.Runs.{step, AreWays}
 use Rattle.tsa_runs.proofs.Paths.{never, some_same, some_none, not_true}
 
-equal : (p q : ℕ) → p ≡ q → nat_eq p q ≡ true
+pub equal : (p q : ℕ) → p ≡ q → nat_eq p q ≡ true
 equal p q e = grind (arith, nat_tests, e)
 
 same : (p q : ℕ) → nat_eq p q ≡ true → p ≡ q

@@ -1,5 +1,5 @@
 -- Members one by one, each behind those before it.
-use Rattle.std.proofs.Common.{◌≡◌, ◌∙◌, ℕ, ◌+◌, suc, arith, List, [], ◌∷◌, drop, Option, None, Err, sym, ap, subst}
+use Rattle.std.proofs.Common.{◌≡◌, ◌∙◌, ℕ, ◌+◌, suc, List, [], ◌∷◌, drop, Option, None, Err, sym, ap, subst}
 use Rattle.tsa_tree.specs.declarations.Shapes.{decl_shape, decl_shapes}
 use Rattle.tsa_tree.specs.declarations.Syntax.{Declaration}
 use Rattle.tsa_tree.specs.declared.decl.Decl.{Decl}
@@ -14,10 +14,9 @@ use Rattle.tsa_ground.specs.Judged.{Judges}
 use Rattle.tsa_ground.specs.Judging.{Knowledge, with_scope}
 use Rattle.tsa_ground.specs.Units.{Unit, member_premises, view_in}
 use Rattle.tsa_ground.specs.declared.refusal.ProfileRefusal.{ProfileRefusal}
-use Rattle.tsa_ground.proofs.Sequences.{first_append, judges_some}
-
-plus_one : (n : ℕ) → suc n ≡ n + 1
-plus_one n = omega arith
+use Rattle.tsa_ground.proofs.Sequences.{judges_some}
+use Rattle.tsa_base.proofs.Numbers.{plus_one}
+use Rattle.tsa_use.proofs.Failures.{first_append}
 
 -- where no members are looked up first, a member is known behind others as the struct has it
 alone : (here : Scope) → here.owned ≡ [] → with_owned [] here ≡ here

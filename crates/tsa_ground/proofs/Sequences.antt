@@ -4,23 +4,15 @@ use Rattle.std.specs.Prelude.{⊤}
 use Rattle.tsa_base.specs.declared.token.Span.{Span}
 use Rattle.tsa_seen.specs.declared.premise.Failure.{Failure}
 use Rattle.tsa_seen.specs.declared.premise.ProfileCode.{ProfileCode}
-use Rattle.tsa_seen.specs.Premises.{Premise, premise, or_else, failure_of, first}
+use Rattle.tsa_seen.specs.Premises.{Premise, premise, or_else, first}
 use Rattle.tsa_ground.specs.Judged.{Judges, is_limit, judgement}
 use Rattle.tsa_ground.specs.declared.refusal.ProfileRefusal.{ProfileRefusal}
 use Rattle.tsa_ground.specs.declared.refusal.ProfileRefusal.TheVariants.{At, Function, NoMemory}
+use Rattle.tsa_use.proofs.Failures.{first_append}
 
 pub or_else_none : (o : Option Failure) → or_else o None ≡ o
 or_else_none None = refl
 or_else_none (Some f) = refl
-
-pub or_else_or_else : (a b c : Option Failure) → or_else (or_else a b) c ≡ or_else a (or_else b c)
-or_else_or_else None b c = refl
-or_else_or_else (Some f) b c = refl
-
-pub first_append : (xs ys : List Premise) → first (xs ++ ys) ≡ or_else (first xs) (first ys)
-unfolding first
-first_append [] ys = refl
-first_append (x ∷ xs) ys = ap (or_else (failure_of x)) (first_append xs ys) ∙ sym (or_else_or_else (failure_of x) (first xs) (first ys))
 
 -- what fails in front fails in all ..
 pub judges_some : (a b : Option Failure) (e : ProfileRefusal) → Judges a (Err e) → Judges (or_else a b) (Err e)
@@ -69,11 +61,6 @@ module _ (x f : Option Failure) (r : Result ⊤ ProfileRefusal) (found : f ≡ x
 -- a refusal stays right for what is the same
 pub judges_err : (x y : Option Failure) (e : ProfileRefusal) → x ≡ y → Judges x (Err e) → Judges y (Err e)
 judges_err x y e is h = subst (λ o. Judges o (Err e)) is h
-
--- of no premises none fails, and of one alone it does where it fails
-pub nothing_fails : first [] ≡ None
-unfolding first
-nothing_fails = refl
 
 pub alone_fails : (code : ProfileCode) (span : Span) (fails : Bool) → fails ≡ true → Some (record { code = code; span = span }) ≡ first (premise code span fails ∷ [])
 unfolding first

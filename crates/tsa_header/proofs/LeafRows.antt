@@ -12,15 +12,13 @@ use Rattle.tsa_tree.specs.expressions.Syntax.{Identifier}
 use Rattle.tsa_tree.specs.Reads.{read}
 use Rattle.tsa_tree.specs.Rows.{an_expression, a_simple, expression, simple, a_name, a_semicolon, a_colon, sees, mark, simple_statement}
 use Rattle.tsa_tree.specs.tokens.Signs.{Aliases, sign_at, span_over, identifier_at, begins_statement}
-use Rattle.tsa_tree.specs.statements.Syntax.{Statement, empty, break, continue, goto, return, spanning, label}
+use Rattle.tsa_tree.specs.statements.Syntax.{empty, break, continue, goto, return, spanning, label}
 use Rattle.tsa_tree.specs.statements.Syntax as plain
 use Rattle.tsa_attr.proofs.Joining.{then-then, then-same, then-choose, then-ok}
 use Rattle.tsa_local.specs.Outcomes.{one_token, name_at}
 use Rattle.tsa_leaf.specs.Outcomes.{simple_at, simple_statement_at, closed_at, goto_at, return_at, value_or_none_at, body_at}
 use Rattle.tsa_leaf.proofs.RowLaws.{stmt, going, token_at, row_is, word_is, body_is, value_is}
-
-abbrev answered : Statement → ℕ → Outcome Statement
-answered x n = Ok (x, n)
+use Rattle.tsa_leaf.proofs.LeafLaws.{answered}
 
 named : {A : Type 0} (b : Bool) (p : Identifier) (m : ℕ) (x : Identifier → ℕ → Outcome A)
     → choose b (x p (m + 1)) (Err (refuse syntax m)) ≡ then (choose b (Ok (p, m + 1)) (Err (refuse syntax m))) x

@@ -1,7 +1,8 @@
 -- The items of a unit one by one: which functions are told.
-use Rattle.std.proofs.Common.{◌≡◌, ◌∙◌, ℕ, ◌+◌, suc, arith, nat_eq, Bool, true, false, List, [], ◌∷◌, Option, Some, None, option_and_then, slice_get, if◌then◌else◌, refl, sym, ap, ap₂, subst, eq-eqb, eqb-true}
+use Rattle.std.proofs.Common.{◌≡◌, ◌∙◌, ℕ, nat_eq, Bool, true, false, List, [], ◌∷◌, Option, Some, None, option_and_then, slice_get, if◌then◌else◌, refl, sym, ap, ap₂, subst, eq-eqb, eqb-true}
 use Rattle.std.proofs.Math.Decide.{ℕ_discrete}
 use Rattle.tsa_base.specs.declared.token.Span.{Span}
+use Rattle.tsa_base.proofs.Options.{some_none}
 use Rattle.tsa_tree.specs.declarations.Shapes.{head_shape}
 use Rattle.tsa_tree.specs.declarations.Syntax.{Head}
 use Rattle.tsa_tree.specs.statements.Shapes.{stmt_shapes}
@@ -31,9 +32,6 @@ use Rattle.tsa_flow.specs.declared.function.FunctionFlow.{FunctionFlow}
 use Rattle.tsa_flow.specs.Numbers.{IsFlowBy, IsFlowIn}
 use Rattle.tsa_held.specs.Units.{told_at, here, IsAhead, IsBodyOf, IsNext, IsTold, left, told}
 use Rattle.tsa_flow.proofs.Numbered.{Found}
-
-some_none : {A B : Type 0} (x : A) → Some x ≡ None → B
-some_none x e = cc
 
 module _ (items : List UnitItem) (flows : List (Option FunctionFlow)) where
   -- in front of the first item nothing is told
@@ -214,6 +212,3 @@ different items n paths k i is = (has_body (program_of items) is.function paths 
 pub enters_none : (u : Unit) (k there : Knowledge) (item : UnitItem) (o : Option Inside) → ((i : Inside) → o ≡ Some i → ⊥) → Enters u k item there o → Enters u k item there None
 enters_none u k there item None other h = h
 enters_none u k there item (Some i) other h = absurd (other i refl)
-
-pub plus_one : (n : ℕ) → suc n ≡ n + 1
-plus_one n = omega arith

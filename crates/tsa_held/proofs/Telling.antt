@@ -7,12 +7,7 @@ use Rattle.tsa_flow.specs.Views.{IsViewBy, IsViewIn}
 use Rattle.tsa_flow.specs.Flows.{IsFlowOf}
 use Rattle.tsa_flow.specs.Numbers.{IsFlowBy, IsFlowIn}
 use Rattle.tsa_flow.specs.declared.function.FunctionFlow.{FunctionFlow}
-
-same : {A : Type 0} {x y : A} → Some x ≡ Some y → x ≡ y
-same e = cc
-
-none_some : {A B : Type 0} (x : A) → None ≡ Some x → B
-none_some x e = cc
+use Rattle.tsa_base.proofs.Options.{none_some, some_same as same}
 
 module _ (u : Program) where
   view_by : (f : Function) (o : Option (List Way)) (flow : Option FunctionFlow) → IsFlowBy u f o flow → IsViewBy u f o (option_map (λ w. w.view) flow)

@@ -6,7 +6,8 @@ use Rattle.tsa_seen.specs.Premises.{or_else, first}
 use Rattle.tsa_ground.specs.Judging.{Knowledge, behind, behind_all, outset_of}
 use Rattle.tsa_ground.specs.Tables.{tables_of_all}
 use Rattle.tsa_ground.specs.Units.{Unit, attributes_behind, tries_limit, tries_limits, paths_limit, paths_limits}
-use Rattle.tsa_ground.proofs.Sequences.{first_append, or_else_none, or_else_or_else}
+use Rattle.tsa_ground.proofs.Sequences.{or_else_none}
+use Rattle.tsa_use.proofs.Failures.{first_append, or_else_or_else}
 
 module _ (u : Unit) where
   -- the first function that passes a limit

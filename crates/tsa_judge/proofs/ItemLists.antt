@@ -1,5 +1,5 @@
 -- Items one by one.
-use Rattle.std.proofs.Common.{◌≡◌, ◌∙◌, ℕ, ◌+◌, suc, arith, List, [], ◌∷◌, drop, Option, None, Err, sym, ap, subst}
+use Rattle.std.proofs.Common.{◌≡◌, ◌∙◌, ℕ, ◌+◌, suc, List, [], ◌∷◌, drop, Option, None, Err, sym, ap, subst}
 use Rattle.tsa_tree.specs.declared.item.Item.{Item}
 use Rattle.tsa_tree.specs.types.Premises as types
 use Rattle.tsa_tree.specs.types.Scopes.{Scope}
@@ -13,10 +13,9 @@ use Rattle.tsa_ground.specs.Judged.{Judges}
 use Rattle.tsa_ground.specs.Judging.{Knowledge, behind, behind_all}
 use Rattle.tsa_ground.specs.Units.{Unit, attributes_behind, item_premises, items_premises}
 use Rattle.tsa_ground.specs.declared.refusal.ProfileRefusal.{ProfileRefusal}
-use Rattle.tsa_ground.proofs.Sequences.{first_append, judges_some}
-
-plus_one : (n : ℕ) → suc n ≡ n + 1
-plus_one n = omega arith
+use Rattle.tsa_ground.proofs.Sequences.{judges_some}
+use Rattle.tsa_base.proofs.Numbers.{plus_one}
+use Rattle.tsa_use.proofs.Failures.{first_append}
 
 module _ (u : Unit) (items : List Item) (i : ℕ) (k : Knowledge) where
   abbrev wrong_from : Knowledge → ℕ → Option Failure

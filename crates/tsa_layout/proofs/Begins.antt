@@ -143,7 +143,7 @@ past_step : (b : Bool) (x y : Structure) → b ≡ false → y ≡ no_members �
 past_step true x y h e = cc
 past_step false x y h e = e
 
-other : (n m : ℕ) → m < n → nat_eq n m ≡ false
+pub other : (n m : ℕ) → m < n → nat_eq n m ≡ false
 other n m h = by (nat_eq n m) refl
   where
     by : (b : Bool) → nat_eq n m ≡ b → b ≡ false

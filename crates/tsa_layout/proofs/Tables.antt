@@ -2,7 +2,7 @@
 use Rattle.std.proofs.Common.{◌≡◌, ◌∙◌, ℕ, zero, suc, ◌+◌, ◌*◌, ◌<◌, ◌≤◌, arith, min, nat_eq, nat_lt, Bool, true, false, if◌then◌else◌, get_or, List, [], ◌∷◌, ◌++◌, length, Some, slice_get, refl, sym, ap, subst}
 use Rattle.std.proofs.Math.ListN.{get_or-append}
 use Rattle.std.proofs.Math.Seq.{get_or-append_seam}
-use Rattle.std.proofs.lemmas.Bool.{eqb-true, eq-eqb}
+use Rattle.std.proofs.lemmas.Bool.{eq-eqb}
 use Rattle.std.proofs.lemmas.Bool.Decides.{nat_tests}
 use Rattle.std.proofs.lemmas.List.{length-append}
 use Rattle.std.proofs.lemmas.Option.{slice_get_within, slice_get-get_or, get_or_from_slice_get}
@@ -10,20 +10,13 @@ use Rattle.tsa_layout.specs.Layouts.{Structure, Structures, structure_at, no_mem
 use Rattle.tsa_layout.specs.Standing.{AllBelow, IsOrdered}
 use Rattle.tsa_layout.proofs.Standing.{earlier_size, members_below}
 use Rattle.tsa_layout.specs.Tables.{shown, latest, begins_from, IsSized, IsKept}
-use Rattle.tsa_layout.proofs.Begins.{as_many, begins_later, kept_at, none_at}
+use Rattle.tsa_layout.proofs.Begins.{as_many, begins_later, kept_at, none_at, other}
 use Rattle.tsa_layout.specs.declared.structures.Defined.{Defined}
 
 -- a struct that isn't defined takes one place
 past_step : (b : Bool) (x y : ℕ) → b ≡ false → y ≡ 1 → (if b then x else y) ≡ 1
 past_step true x y h e = cc
 past_step false x y h e = e
-
-other : (n m : ℕ) → m < n → nat_eq n m ≡ false
-other n m h = by (nat_eq n m) refl
-  where
-    by : (b : Bool) → nat_eq n m ≡ b → b ≡ false
-    by true e = let same : n ≡ m = eqb-true n m e in absurd (omega (arith, h, same))
-    by false e = refl
 
 pub size_past : (all : Structures) (n : ℕ) → length all ≤ n → size_of all n ≡ 1
 unfolding size_of

@@ -15,7 +15,7 @@ abbrev pub whole_text : Layout → Holder → List ℕ → List ℕ
 whole_text l (Global n) own = own
 whole_text l (Member owner k) own = text_of l owner ++ 46 ∷ own
 
-none_around : (l : Layout) (n : ℕ) → around l n None ≡ []
+pub none_around : (l : Layout) (n : ℕ) → around l n None ≡ []
 unfolding around
 none_around l zero = refl
 none_around l (suc n) = refl

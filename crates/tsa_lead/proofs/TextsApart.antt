@@ -1,11 +1,12 @@
 -- Where a byte that the parts of a text don't have stands, the text tells its parts; so a name and an index are told by their text.
-use Rattle.std.proofs.Common.{◌≡◌, ℕ, ◌^◌, ◌<◌, arith, Bool, true, false, ◌&&◌, List, [], ◌∷◌, ◌++◌, Option, Some, None, refl, sym, ap, subst, append-nil, codes, ◌∙◌}
+use Rattle.std.proofs.Common.{◌≡◌, ℕ, ◌^◌, ◌<◌, arith, true, false, List, [], ◌∷◌, ◌++◌, Option, Some, None, refl, sym, ap, subst, append-nil, codes, ◌∙◌}
 use Rattle.std.specs.Fmt.{decimal}
 use Rattle.std.specs.List.{list_all}
 use Rattle.std.specs.Str.Parse.{AllDigits}
 use Rattle.std.proofs.lemmas.Fmt.{decimal_is_IsNumeral, decimal_injective}
 use Rattle.std.proofs.lemmas.Str.Parse.{digit_from_value}
 use Rattle.tsa_base.specs.Bytes.{is_word_byte}
+use Rattle.tsa_base.proofs.Truths.{both, never_true as never}
 use Rattle.tsa_place.specs.Calls.{index_text}
 
 -- a byte isn't in a text
@@ -53,13 +54,6 @@ with_and_without b u x y h e = not_without b u x (subst (Without b) (sym e) h)
 -- names are of letters, digits and underscores
 abbrev pub IsPlain : List ℕ → Type 0
 IsPlain name = list_all is_word_byte name ≡ true
-
-both : (a b : Bool) → (a && b) ≡ true → (a ≡ true) × (b ≡ true)
-both true b e = (refl, e)
-both false b e = absurd cc
-
-never : {A : Type 0} → false ≡ true → A
-never e = absurd cc
 
 other : (b c : ℕ) → is_word_byte b ≡ false → is_word_byte c ≡ true → c ≡ b → ⊥
 other b c f t e = never (sym f ∙ ap is_word_byte (sym e) ∙ t)

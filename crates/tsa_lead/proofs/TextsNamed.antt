@@ -3,6 +3,7 @@ use Rattle.std.proofs.Common.{◌≡◌, ℕ, zero, suc, arith, pos, negsuc, nat
 use Rattle.std.specs.List.{list_all}
 use Rattle.std.proofs.lemmas.Bool.Decides.{nat_tests}
 use Rattle.tsa_base.specs.Bytes.{is_letter, is_digit, is_word_byte}
+use Rattle.tsa_base.proofs.Options.{some_same as the_same}
 use Rattle.tsa_tree.specs.declarations.Syntax.{Declaration, DeclaredType}
 use Rattle.tsa_tree.specs.declarations.Sound.{SoundMembers}
 use Rattle.tsa_tree.specs.declared.number.Number.{Number}
@@ -18,7 +19,7 @@ use Rattle.tsa_tree.specs.types.Scopes.{Scope, Members, context_of}
 use Rattle.tsa_place.specs.Layouts.{Part}
 use Rattle.tsa_place.specs.Parts.{parts_behind, member_behind}
 use Rattle.tsa_lead.proofs.TextsApart.{IsPlain}
-use Rattle.tsa_lead.proofs.TextsTold.{IsShort, NamesTell, the_same, no_part}
+use Rattle.tsa_lead.proofs.TextsTold.{IsShort, NamesTell, no_part}
 
 -- none of some parts has a name
 abbrev pub NotNamed : List ℕ → List Part → Type 0

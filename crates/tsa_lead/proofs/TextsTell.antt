@@ -1,6 +1,7 @@
 -- The text of a place of a typed unit tells which place it is.
 use Rattle.std.proofs.Common.{◌≡◌, ℕ, zero, suc, ◌<◌, arith, nat_eq, Bool, true, false, if◌then◌else◌, List, [], ◌∷◌, ◌++◌, length, Option, Some, None, slice_get, Result, Ok, refl, sym, subst, ◌∙◌}
 use Rattle.tsa_base.specs.declared.token.Span.{Span}
+use Rattle.tsa_base.proofs.Truths.{never}
 use Rattle.tsa_tree.specs.attributes.Syntax.{Attribute}
 use Rattle.tsa_tree.specs.declarations.Syntax.{Declaration}
 use Rattle.tsa_tree.specs.declared.kind.Kind.{Kind}
@@ -22,7 +23,7 @@ use Rattle.tsa_place.specs.Units.{data_placed, too_many_at, or_behind, placed_be
 use Rattle.tsa_lead.specs.Leading.{PlacesAreLedTo, TextsTell}
 use Rattle.tsa_lead.proofs.TextsTold.{NamesTell, AllNamesTell, texts_told}
 use Rattle.tsa_lead.proofs.TextsNamed.{NotNamed, AreApart, ArePlain, apart_behind, plain_behind, names_tell, plain_name, type_short, plain_members}
-use Rattle.tsa_lead.proofs.TextsTyped.{never, Grows, grows_item, none_of_both, global_free, global_taken, members_hold, members_apart}
+use Rattle.tsa_lead.proofs.TextsTyped.{Grows, grows_item, none_of_both, global_free, global_taken, members_hold, members_apart}
 
 -- the names of globals are taken
 abbrev AreTaken : Scope → List Part → Type 0

@@ -9,6 +9,7 @@ use Rattle.tsa_place.specs.Calls.{Layout, kind_at, members_of, part_of, index_te
 use Rattle.tsa_lead.specs.Leading.{Fits, IsInside, leads_to}
 use Rattle.tsa_lead.proofs.TextsApart.{IsPlain, IsSmall, without_dot, name_and_index, with_and_without, last_tells}
 use Rattle.tsa_lead.proofs.TextsAlong.{AllStand, whole_text, text_is}
+use Rattle.tsa_base.proofs.Options.{some_same as the_same}
 
 -- the length of an array is no long number
 abbrev pub IsShort : Option ℕ → Type 0
@@ -36,10 +37,6 @@ record HasMember (l : Layout) (owner k : ℕ) (part : Part) : Type 0 where
   kind : Kind
   known : kind_at l owner ≡ Some kind
   member : slice_get (members_of l kind) k ≡ Some part
-
--- what two options say that are the same
-pub the_same : {A : Type 0} {x y : A} → Some x ≡ Some y → x ≡ y
-the_same e = cc
 
 pub no_part : {A B : Type 0} {x : A} → None ≡ Some x → B
 no_part e = absurd cc

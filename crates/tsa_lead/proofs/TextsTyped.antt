@@ -3,6 +3,7 @@ use Rattle.std.proofs.Common.{◌≡◌, ℕ, ℤ, pos, ◌+ℤ◌, Bool, true, 
 use Rattle.std.specs.Str.{bytes_eq}
 use Rattle.std.proofs.lemmas.Slice.Eq.{bytes_eq-Decides}
 use Rattle.tsa_base.specs.declared.token.Span.{Span}
+use Rattle.tsa_base.proofs.Truths.{never}
 use Rattle.tsa_tree.specs.attributes.Syntax.{Attribute}
 use Rattle.tsa_tree.specs.declarations.Syntax.{Declaration, DeclaredType, EnumConstant, Head}
 use Rattle.tsa_tree.specs.declared.kind.Declaring.{Declaring}
@@ -30,9 +31,6 @@ use Rattle.tsa_tree.proofs.types.NodeLists.{first-append}
 use Rattle.tsa_place.specs.Layouts.{Part}
 use Rattle.tsa_place.specs.Parts.{parts_behind, member_behind}
 use Rattle.tsa_lead.proofs.TextsNamed.{NotNamed, AreApart}
-
-pub never : {A : Type 0} → true ≡ false → A
-never e = absurd cc
 
 -- what is found among names is found among more, and the last one is found
 found_or : {A : Type 0} (b : Bool) (e : A) (shorter longer : Option A) → (is_some shorter ≡ true → is_some longer ≡ true)

@@ -39,7 +39,7 @@ respanned (Assign l o r) a b = refl
 abbrev IsOf : StmtKind → Span → ℕ → Read → Type 0
 IsOf kind span n s = (s.stmt.kind ≡ kind) × (s.stmt.span ≡ span) × (s.next ≡ n)
 
-abbrev answered : Statement → ℕ → Outcome Statement
+abbrev pub answered : Statement → ℕ → Outcome Statement
 answered x n = Ok (x, n)
 
 seen_of : (kind : StmtKind) (span : Span) (n : ℕ) (s : Read) → IsOf kind span n s

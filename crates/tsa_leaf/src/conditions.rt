@@ -5,7 +5,7 @@ ghost use Rattle.tsa_tree.specs.Rows.{a_close, a_colon, a_keyword, sees};
 ghost use Rattle.tsa_expr.specs.Source.{input, named};
 ghost use Rattle.tsa_expr.specs.Gives.{Gives};
 ghost use Rattle.tsa_local.specs.Outcomes.{one_token};
-ghost use Rattle.tsa_local.specs.Seen.{passed};
+ghost use Rattle.tsa_attr.specs.Seen.{passed};
 ghost use Rattle.tsa_leaf.specs.Outcomes.{test_at, value_or_none_at};
 ghost use Rattle.tsa_leaf.specs.Seen.{seen_tested, seen_value};
 

@@ -9,7 +9,7 @@ ghost use Rattle.tsa_tree.specs.statements.Syntax.{locals_before, none};
 ghost use Rattle.tsa_tree.specs.statements.Shapes.{stmt_shapes};
 ghost use Rattle.tsa_expr.specs.Source.{input, named};
 ghost use Rattle.tsa_expr.specs.Gives.{Gives, Leads};
-ghost use Rattle.tsa_local.specs.Seen.{passed};
+ghost use Rattle.tsa_attr.specs.Seen.{passed};
 ghost use Rattle.tsa_leaf.specs.Outcomes.{joined, simply_at, statements_after, step_at};
 ghost use Rattle.tsa_leaf.specs.Pointed.{ArePointed, IsBegun, IsPointed, IsStepped};
 ghost use Rattle.tsa_leaf.specs.Seen.{seen_body, seen_init, seen_step};

@@ -5,6 +5,7 @@ use Rattle.std.proofs.lemmas.List.Sums.{prefix_len-le-length}
 use Rattle.std.specs.List.{list_all, prefix_len}
 use Rattle.tsa_base.specs.Bytes.{is_letter, is_digit, is_word_byte, is_run_byte, is_text_byte}
 use Rattle.tsa_base.specs.Tokens.{closes, is_token, longest, is_punctuator, punctuators}
+use Rattle.tsa_base.proofs.Numbers.{one_more}
 use Rattle.tsa_lex.proofs.Longest.{longest-none, longest-found}
 
 all_front-step : (p : ℕ → Bool) (c : ℕ) (cs : List ℕ) (n : ℕ) (b : Bool) → p c ≡ b → suc n ≤ prefix_len p (c ∷ cs) → (n ≤ prefix_len p cs → list_all p (take n cs) ≡ true) → list_all p (take (suc n) (c ∷ cs)) ≡ true
@@ -24,9 +25,6 @@ all_beyond : (p : ℕ → Bool) (cs : List ℕ) (n : ℕ) → prefix_len p cs < 
 all_beyond p cs zero over within = absurd (omega arith)
 all_beyond p [] (suc n) over within = absurd (omega arith)
 all_beyond p (c ∷ cs) (suc n) over within = all_beyond-step p c cs n (p c) refl over within (all_beyond p cs n)
-
-one_more : (n : ℕ) → 1 + n ≡ suc n
-one_more n = omega arith
 
 closes_at-step : (p : ℕ → Bool) (closing c : ℕ) (cs : List ℕ) (b : Bool) → p c ≡ b → prefix_len p (c ∷ cs) < length (c ∷ cs) → get_or (c ∷ cs) (prefix_len p (c ∷ cs)) 0 ≡ closing → (prefix_len p cs < length cs → get_or cs (prefix_len p cs) 0 ≡ closing → closes p closing (take (suc (prefix_len p cs)) cs) ≡ true) → closes p closing (take (suc (prefix_len p (c ∷ cs))) (c ∷ cs)) ≡ true
 closes_at-step p closing c cs true e within here rest =

@@ -9,11 +9,7 @@ use Rattle.std.specs.List.{list_all, list_any, prefix_len, suffix_len}
 use Rattle.std.specs.Str.{bytes_eq}
 use Rattle.tsa_base.specs.Bytes.{is_digit, is_word_byte, is_indent, is_line_byte}
 use Rattle.tsa_base.specs.Tokens.{map_length, block_end, last_line, opens_line, front_word, line_word, is_skipped}
-
-one_more : (n : ℕ) → 1 + n ≡ suc n
-one_more n = omega arith
-
--- The end of a comment.
+use Rattle.tsa_base.proofs.Numbers.{one_more}
 
 map_length-none : (f : ℕ → ℕ) (e : Option ℕ) → e ≡ None → map_length f e ≡ None
 map_length-none f None is = refl

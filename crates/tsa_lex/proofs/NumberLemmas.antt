@@ -5,6 +5,7 @@ use Rattle.std.proofs.lemmas.List.{drop_all, drop_more}
 use Rattle.std.specs.Prelude.{nat_lt, if◌then◌else◌}
 use Rattle.std.specs.List.{list_all}
 use Rattle.tsa_base.specs.Numbers.{is_suffix, has_suffix, without_suffix, digit_value, is_digit_in, value_in}
+use Rattle.tsa_base.proofs.Truths.{and_false}
 
 suffix_at : (run : List ℕ) (i : ℕ) → length run ≡ i + 1 → has_suffix run ≡ is_suffix (get_or run i 0)
 suffix_at [] i last = absurd (omega arith)
@@ -56,10 +57,6 @@ after_one base ds (Some v) = written base v ds
 
 written_end : (base v : ℕ) → v < 2 ^ 32 → written base v [] ≡ Some v
 written_end base v small = let e : nat_lt v (2 ^ 32) ≡ true = grind (arith, nat_tests) in rw e refl
-
-and_false : (b : Bool) → (b && false) ≡ false
-and_false true = refl
-and_false false = refl
 
 too_wide : (base v : ℕ) (ds : List ℕ) → 1 ≤ base → nat_lt v (2 ^ 32) ≡ false → written base v ds ≡ None
 too_wide base v ds some wide =

@@ -1,58 +1,21 @@
 -- The control of a statement is the same in each scope that knows the same constants, and for labels that are found alike.
-use Rattle.std.proofs.Common.{◌≡◌, ◌∙◌, ℕ, suc, ◌+◌, Bool, true, false, List, [], ◌∷◌, ◌++◌, length, Option, Some, None, if◌then◌else◌, refl, sym, ap, ap₂}
+use Rattle.std.proofs.Common.{◌≡◌, ◌∙◌, ℕ, suc, ◌+◌, Bool, true, false, List, [], ◌∷◌, ◌++◌, length, Option, Some, None, refl, sym, ap, ap₂}
 use Rattle.std.specs.Map.{lookup}
 use Rattle.std.specs.Str.{bytes_eq}
 use Rattle.tsa_tree.specs.declarations.Syntax.{Declaration}
-use Rattle.tsa_tree.specs.declared.kind.ThingType.{ThingType}
-use Rattle.tsa_tree.specs.declared.meaning.Entry.{Entry}
 use Rattle.tsa_tree.specs.expressions.Syntax.{Expression}
 use Rattle.tsa_tree.specs.points.Syntax.{points_of_init, points_of_step}
 use Rattle.tsa_tree.specs.statements.Syntax.{ForInit, Statement, block, empty, local, simple, if_alone, if_else, while_loop, do_loop, for_loop, switch, case, otherwise, label, break, continue, goto, return, Statements, none, more}
-use Rattle.tsa_tree.specs.types.Constants.{enumerator, is_known_enumerator}
 use Rattle.tsa_tree.specs.types.DeclaredTypes.{value_in}
-use Rattle.tsa_tree.specs.types.Known.{Context}
 use Rattle.tsa_tree.specs.types.Locals.{local_entry, unless_taken, behind_local}
-use Rattle.tsa_tree.specs.types.Scopes.{Scope, found, context_of, known_in, further, is_taken, with_name}
+use Rattle.tsa_tree.specs.types.Scopes.{Scope, context_of, further, is_taken, with_name}
 use Rattle.tsa_tree.specs.types.Statements.{behind, behind_init}
-use Rattle.tsa_tree.specs.types.Targets.{declared_in}
+use Rattle.tsa_tree.specs.types.Targets.{declared_in, Labels}
 use Rattle.tsa_core.proofs.EachScope.{statement_past, init_past}
-use Rattle.tsa_core.proofs.KindTests.{never}
 use Rattle.tsa_core.proofs.SameConstants.{SameConstants, same_value}
-use Rattle.tsa_core.proofs.UnitScopes.{or_other, found_append}
-use Rattle.tsa_core.specs.Control.{edge, Next, count, first, first_all, test_at, step_at, inner_at, again_at, Labels, a_case, cases, cases_all, Targets, or_else, test_edges, tested_edges, for_edges, step_edges, switch_edges, edges, edges_all}
-
--- Where more locals are known, constants are the same.
-last_local : (o : Option Entry) (b : Bool) (e : Entry) → enumerator (Some e) ≡ None
-    → (enumerator (or_other o (if b then Some e else None)) ≡ enumerator o) × (is_known_enumerator (enumerator o) ≡ true → or_other o (if b then Some e else None) ≡ o)
-last_local (Some x) b e plain = (refl, λ made. refl)
-last_local None true e plain = (plain, λ made. never (sym made))
-last_local None false e plain = (refl, λ made. never (sym made))
-
-module _ (s : Scope) (name : List ℕ) (e : Entry) (plain : enumerator (Some e) ≡ None) where
-  abbrev there : Scope
-  there = with_name name e s
-
-  abbrev SameAt : List ℕ → Type 0
-  SameAt text = (enumerator (known_in there text) ≡ enumerator (known_in s text)) × (is_known_enumerator (enumerator (known_in s text)) ≡ true → known_in there text ≡ known_in s text)
-
-  same_at : (text : List ℕ) → SameAt text
-  same_at text = by (found s.owned text) refl
-    where
-      named : (enumerator (found there.names text) ≡ enumerator (found s.names text)) × (is_known_enumerator (enumerator (found s.names text)) ≡ true → found there.names text ≡ found s.names text)
-      named = rw (found_append s.names ((name, e) ∷ []) text) (last_local (found s.names text) (bytes_eq text name) e plain)
-
-      by : (o : Option ThingType) → found s.owned text ≡ o → SameAt text
-      by None is = rw is named
-      by (Some t) is = rw is (refl, λ made. refl)
-
-  same_with : SameConstants (context_of s) (context_of there)
-  same_with = record { values = λ text. (same_at text).0; entries = λ text. (same_at text).1 }
-
-same_through : (b c d : Context) → SameConstants b c → SameConstants c d → SameConstants b d
-same_through b c d h g = record {
-  values = λ name. g.values name ∙ h.values name;
-  entries = λ name made. g.entries name (ap is_known_enumerator (h.values name) ∙ made) ∙ h.entries name made;
-}
+use Rattle.tsa_core.specs.Control.{edge, Next, count, first, first_all, test_at, step_at, inner_at, again_at, a_case, cases, cases_all, Targets, or_else, test_edges, tested_edges, for_edges, step_edges, switch_edges, edges, edges_all}
+use Rattle.tsa_base.proofs.Truths.{never}
+use Rattle.tsa_core.proofs.SwitchCases.{same_through, same_with}
 
 module _ (here : Scope) where
   abbrev pub Kept : Scope → Type 0

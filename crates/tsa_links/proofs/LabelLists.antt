@@ -3,9 +3,9 @@ use Rattle.std.proofs.Common.{◌≡◌, ◌∙◌, ℕ, Bool, true, false, not,
 use Rattle.std.proofs.lemmas.Slice.Eq.{bytes_eq-Decides}
 use Rattle.std.specs.Str.{bytes_eq}
 use Rattle.tsa_tree.specs.types.Scopes.{found}
-use Rattle.tsa_core.proofs.KindTests.{never}
+use Rattle.tsa_tree.specs.types.Targets.{Labels}
 use Rattle.tsa_core.proofs.UnitScopes.{or_other, found_append}
-use Rattle.tsa_core.specs.Control.{Labels}
+use Rattle.tsa_base.proofs.Truths.{never}
 
 -- a further name that wasn't known
 pub fresh_label : (old new rest : Labels) (text : List ℕ) (n : ℕ) → new ≡ old ++ (text, n) ∷ [] → (name : List ℕ) → found (new ++ rest) name ≡ found (old ++ (text, n) ∷ rest) name

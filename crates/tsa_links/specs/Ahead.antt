@@ -2,7 +2,8 @@
 use Rattle.std.specs.Prelude.{ℕ, List, ◌++◌}
 use Rattle.tsa_tree.specs.statements.Syntax.{Statement, Statements}
 use Rattle.tsa_tree.specs.types.Scopes.{Scope}
-use Rattle.tsa_core.specs.Control.{Edge, Labels, labels, labels_all, Cases, cases, cases_all, Targets, edges, edges_all}
+use Rattle.tsa_tree.specs.types.Targets.{Labels}
+use Rattle.tsa_core.specs.Control.{Edge, labels, labels_all, Cases, cases, cases_all, Targets, edges, edges_all}
 
 pub record Ahead : Type 0 where
   pub edges : List Edge

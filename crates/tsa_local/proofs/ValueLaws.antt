@@ -1,21 +1,21 @@
 -- Initialisers, one by one.
 use Rattle.std.proofs.Common.{ℕ, ◌+◌, ◌<◌, ◌≤◌, ◌≡◌, ◌≢◌, ◌∙◌, ap, sym, refl, Bool, true, false, List, [], ◌∷◌, ◌++◌, Ok, Err, nat_eq}
 use Rattle.std.specs.Borrow.{Bor}
-use mathlib.Core.Former.{Count}
 use Rattle.tsa_base.specs.declared.token.Span.{Span}
 use Rattle.tsa_base.specs.Tokens.{Lexeme}
 use Rattle.tsa_forms.proofs.Cases.{chosen, other, goes}
 use Rattle.tsa_forms.specs.Reading.{Outcome, refuse, syntax, deep, then, choose}
 use Rattle.tsa_tree.proofs.RowsRead.{read_steps}
-use Rattle.tsa_tree.specs.declared.decl.Init.{Init, List as init_list, List', Row_of-Init, end_of-Init, more_of-Init, items-the_row-Init, items_hidden-the_row-Init-0}
+use Rattle.tsa_tree.specs.declared.decl.Init.{Init, List as init_list, items_hidden-the_row-Init-0}
 use Rattle.tsa_tree.specs.declared.sign.Sign.{Sign}
 use Rattle.tsa_tree.specs.declared.sign.Sign.TheVariants as sign
 use Rattle.tsa_tree.specs.declarations.Syntax.{Initialiser, value, list, Initialisers, no_more, one_more}
 use Rattle.tsa_tree.specs.expressions.Syntax.{Expression}
-use Rattle.tsa_tree.specs.declarations.Shapes.{init_shape, init_row_shape, init_shapes}
+use Rattle.tsa_tree.specs.declarations.Shapes.{init_shape, init_shapes}
 use Rattle.tsa_tree.specs.Reads.{read}
 use Rattle.tsa_tree.specs.Rows.{an_expression, an_initialiser, some_initialisers, expression, initialiser, initialisers, a_close_brace, sees, mark}
 use Rattle.tsa_tree.specs.tokens.Signs.{Aliases, sign_at, span_over}
+use Rattle.tsa_tree.proofs.declarations.Trees.{row-shapes, row_of}
 use Rattle.tsa_expr.specs.declared.refusal.SyntaxRefusal.{SyntaxRefusal}
 use Rattle.tsa_expr.specs.Gives.{Fails}
 use Rattle.tsa_expr.proofs.Answering.{fails_then, fails_same, gives_same, in_limit, over_limit, not_comma}
@@ -25,15 +25,6 @@ use Rattle.tsa_local.proofs.TokenLaws.{not_open_brace}
 pub not_close_brace : (s : Sign) → s ≢ sign.CloseBrace → nat_eq (mark s) 18 ≡ false
 not_close_brace sign.CloseBrace h = absurd (h refl)
 not_close_brace _ h = refl
-
--- a list in the arena, as it was kept
-row-shapes : (n : _) (row : Row_of-Init n) → init_row_shape row ≡ init_shapes (items-the_row-Init n row)
-row-shapes n end_of-Init = refl
-row-shapes n (more_of-Init first rest) = ap (one_more (init_shape first)) (row-shapes _ rest)
-
-abbrev row_of : Init → (n : Count) × Row_of-Init n
-row_of (List' _ _ row _) = (_, row)
-row_of _ = (_, end_of-Init)
 
 pub shape-list : (items : Bor (List Init)) (span : Span) → init_shape (init_list items span) ≡ list (init_shapes items.now) span
 shape-list items span =

@@ -21,10 +21,6 @@ use Rattle.tsa_local.specs.declared.locals.Local.{Local}
 use Rattle.tsa_local.specs.declared.types.Specified as read_specified
 use Rattle.tsa_local.specs.declared.types.BaseReading.{BaseReading}
 
--- nothing was made up to this place
-abbrev pub passed : ℕ → Unit {0} × ℕ
-passed next = (tt, next)
-
 -- the name that stands at a place
 abbrev pub seen_name : ℕ → Name → Identifier × ℕ
 seen_name at name = (name_shape name, at + 1)

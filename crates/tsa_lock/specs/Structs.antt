@@ -5,7 +5,8 @@ use Rattle.tsa_way.specs.Ways.{Way}
 use Rattle.tsa_way.specs.declared.path.Root.{Root}
 use Rattle.tsa_way.specs.declared.path.Root.TheVariants as root
 use Rattle.tsa_layout.specs.Calls.{Layout}
-use Rattle.tsa_rules.specs.Attributes.{part_struct, struct_in, struct_along}
+use Rattle.tsa_rules.specs.Attributes.{part_struct, struct_along}
+use Rattle.tsa_path.specs.Written.{struct_in}
 
 -- of what it begins at: the object whose member has a guard is of no struct that is known
 abbrev pub root_by : Layout → List Kind → Root → Option ℕ

@@ -1,7 +1,8 @@
 //! To which struct a path leads: along members, elements and pointers, from what its root is (C11 6.5.2, 6.5.3.2).
 ghost use Rattle.std.specs.Prelude.{◌≡◌};
 ghost use Rattle.tsa_lock.specs.Structs.{root_by, struct_by};
-ghost use Rattle.tsa_rules.specs.Attributes.{struct_in as spec_struct_in, member_struct, struct_behind};
+ghost use Rattle.tsa_path.specs.Written.{struct_in as spec_struct_in};
+ghost use Rattle.tsa_rules.specs.Attributes.{member_struct, struct_behind};
 
 use tsa_layout::{Holder, Layout};
 use tsa_tree::kind::Kind;

@@ -4,7 +4,7 @@ use Rattle.std.proofs.Math.Decide.{ℕ_discrete}
 use Rattle.tsa_locks.specs.Laws.{HasOneMore, HoldsChange, IsLock}
 use Rattle.tsa_locks.specs.Locks.{blocked, by_owner, count_of, Exclusive, given, holds, Lock, Mode, one_less, one_more, owned, owned_less, Shared, shared_by, sharer_from, take, taken, unless_shared}
 
-same_taken : {a b : Lock} → taken a ≡ taken b → a ≡ b
+pub same_taken : {a b : Lock} → taken a ≡ taken b → a ≡ b
 same_taken e = cc
 
 same_blocked : {a b : ℕ} → blocked a ≡ blocked b → a ≡ b
@@ -13,7 +13,7 @@ same_blocked e = cc
 never : {a : Lock} {b : ℕ} {A : Type 0} → taken a ≡ blocked b → A
 never e = cc
 
-same_some : {a b : Lock} → Some a ≡ Some b → a ≡ b
+pub same_some : {a b : Lock} → Some a ≡ Some b → a ≡ b
 same_some e = cc
 
 none_some : {a : Lock} {A : Type 0} → None ≡ Some a → A

@@ -9,6 +9,7 @@ use Rattle.std.specs.List.{IsDistinct}
 use Rattle.std.specs.Map.{keys_of}
 use Rattle.tsa_rules.specs.declared.mark.Mark.{Mark}
 use Rattle.tsa_marks.specs.Rows.{place_of}
+use Rattle.tsa_base.proofs.Options.{some_same}
 
 -- numbers of one place are the same
 same_key : (a b : ℕ) → place_of a ≡ place_of b → a ≡ b
@@ -16,9 +17,6 @@ same_key a b e =
     let rows : a / 2 ^ 32 ≡ b / 2 ^ 32 = ap (λ x. x.0) e in
     let numbers : a % 2 ^ 32 ≡ b % 2 ^ 32 = ap (λ x. x.1) e in
     omega (arith, rows, numbers)
-
-some_same : {A : Type 0} {x y : A} → Some x ≡ Some y → x ≡ y
-some_same e = cc
 
 abbrev pub placed : ℕ × Mark → (ℕ × ℕ) × Mark
 placed e = (place_of e.0, e.1)

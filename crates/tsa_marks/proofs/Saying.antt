@@ -12,10 +12,7 @@ use Rattle.tsa_marks.specs.Numbers.{known_number}
 use Rattle.tsa_marks.specs.Rows.{Rows, is_place, last_row, mark_in, KeepsRows}
 use Rattle.tsa_marks.specs.Saying.{noted, with_note, Adds, Says}
 use Rattle.tsa_marks.proofs.Standing.{below_stands, stands_below}
-
--- the place of a number in the last row is that of the path that has the number
-itself : (n : ℕ) → nat_eq n n ≡ true
-itself n = grind (arith, nat_tests)
+use Rattle.tsa_base.proofs.Numbers.{itself}
 
 has_number : (paths : List Way) (w : Way) (k : ℕ) → known_number paths w ≡ Some k → slice_get paths k ≡ Some w
 has_number paths w k e = by (nat_lt (number_of paths w) (length paths)) refl e

@@ -17,6 +17,7 @@ use Rattle.tsa_mean.specs.States.{State, holds_of, lock_at, thread_at}
 use Rattle.tsa_mean.specs.Steps.{is_reentrant_at}
 use Rattle.tsa_mean.proofs.Lists.{set_keeps}
 use Rattle.tsa_mean.proofs.Turns.{turn_changes}
+use Rattle.tsa_mean.proofs.Keeping.{AllLocks}
 
 is_lock : (u : Program) (place : ℕ) (x : Lock) → IsLockAt u place x → IsLock x
 is_lock u place (owned t n) is = is.0
@@ -80,9 +81,6 @@ module _ (old new : State) (t l : ℕ) (x : Lock) (same : new.locks ≡ slice_se
       → holds_of new thread lock mode ≡ holds_of old thread lock mode
   of_another thread stays lock mode = ap (λ locks. holds (slice_index_or locks lock free) thread mode) same
       ∙ set_keeps (λ k y. holds y thread mode ≡ holds (lock_at old k) thread mode) old.locks l x free (λ j. refl) (stays mode) lock
-
-abbrev AllLocks : Program → State → Type 0
-AllLocks u s = (place : ℕ) → IsLockAt u place (lock_at s place)
 
 module _ (u : Program) (t : ℕ) (old new : State) (all : AllLocks u old) where
   takes : (l : ℕ) (m : Mode) (x : Lock) → take (is_reentrant_at u l) m t (lock_at old l) ≡ taken x → HasOneMore (lock_at old l) x t m

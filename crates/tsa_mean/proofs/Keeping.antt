@@ -7,6 +7,7 @@ use Rattle.tsa_tree.specs.declared.kind.Kind.TheVariants as type
 use Rattle.tsa_core.specs.Placed.{Placed}
 use Rattle.tsa_core.specs.Programs.{Program}
 use Rattle.tsa_locks.specs.Locks.{by_owner, Exclusive, free, give, given, holds, Lock, Mode, owned, owned_less, Shared, shared_by, sharer_from, take, taken, blocked, Taking, unless_shared}
+use Rattle.tsa_locks.proofs.Holding.{same_some, same_taken}
 use Rattle.tsa_sched.specs.declared.event.EventKind.{EventKind}
 use Rattle.tsa_sched.specs.declared.event.EventKind.TheVariants as event
 use Rattle.tsa_sched.specs.declared.pick.Pick.{Pick}
@@ -20,13 +21,6 @@ use Rattle.tsa_mean.specs.States.{Frame, State, Thread, running, trapped, ended,
 use Rattle.tsa_mean.specs.Steps.{after_give, after_take, after_try, asking, frame_limit, is_reentrant_at, mode_or_held, perform, thread_below, Turn}
 use Rattle.tsa_mean.proofs.Lists.{set_keeps, set_keeps_some}
 use Rattle.tsa_mean.proofs.Turns.{turn_changes}
-
--- one lock
-same_taken : {a b : Lock} → taken a ≡ taken b → a ≡ b
-same_taken e = cc
-
-same_some : {a b : Lock} → Some a ≡ Some b → a ≡ b
-same_some e = cc
 
 never_blocked : {a : Lock} {b : ℕ} {A : Type 0} → blocked b ≡ taken a → A
 never_blocked e = cc
@@ -72,7 +66,7 @@ module _ (u : Program) (place : ℕ) where
   give_keeps mode t old new is e = give_by mode t old new (nat_eq (holds old t mode) 0) is e
 
 -- all locks, by what the event says of them
-abbrev AllLocks : Program → State → Type 0
+abbrev pub AllLocks : Program → State → Type 0
 AllLocks u s = (place : ℕ) → IsLockAt u place (lock_at s place)
 
 same_locks : (u : Program) (old new : State) → new.locks ≡ old.locks → AllLocks u old → AllLocks u new

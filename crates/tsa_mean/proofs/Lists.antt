@@ -4,6 +4,7 @@ use Rattle.std.proofs.Math.Decide.{ℕ_discrete}
 use Rattle.std.specs.List.{list_all}
 use Rattle.std.specs.Prelude.{All, slice_set, ◌↔◌}
 use Rattle.tsa_mean.specs.Violations.{all_below}
+use Rattle.tsa_base.proofs.Truths.{both}
 
 pub all_none : {A : Type 0} (P : A → Type 0) → All P []
 all_none P k d l = absurd (omega (arith, l))
@@ -17,10 +18,6 @@ all_first P x xs all = all zero x (omega arith)
 
 pub all_rest : {A : Type 0} (P : A → Type 0) (x : A) (xs : List A) → All P (x ∷ xs) → All P xs
 all_rest P x xs all = λ k d l. all (suc k) d (omega (arith, l))
-
-pub both : (a b : Bool) → (a && b) ≡ true → (a ≡ true) × (b ≡ true)
-both true b e = (refl, e)
-both false b e = absurd cc
 
 pub join : (a b : Bool) → a ≡ true → b ≡ true → (a && b) ≡ true
 join true b one other = other

@@ -4,6 +4,7 @@ use Rattle.std.proofs.lemmas.Bool.{ltb-true, lt-ltb}
 use Rattle.std.specs.List.{list_all}
 use Rattle.std.specs.Prelude.{All, IsSome, ◌↔◌}
 use Rattle.tsa_base.specs.declared.value.Value.{Value}
+use Rattle.tsa_base.proofs.Truths.{both}
 use Rattle.tsa_layout.specs.Calls.{guards_of}
 use Rattle.tsa_layout.specs.declared.place.Guard.{Guard}
 use Rattle.tsa_layout.specs.declared.place.Guard.TheVariants.{Lock, Nothing}
@@ -15,7 +16,7 @@ use Rattle.tsa_mean.specs.Returns.{attrs_of, change_in, given_back, lock_of, tak
 use Rattle.tsa_mean.specs.Safe.{CanBeGiven, IsHeld, IsHeldAlone, LeavesAsDeclared}
 use Rattle.tsa_mean.specs.States.{Frame, Holds}
 use Rattle.tsa_mean.specs.Violations.{all_below, can_be_given, is_counted, is_held, is_held_alone, is_held_somehow, leaves_as_declared, names_lock}
-use Rattle.tsa_mean.proofs.Lists.{all_pass, below_pass, both, join, not_false}
+use Rattle.tsa_mean.proofs.Lists.{all_pass, below_pass, join, not_false}
 
 positive : (n : ℕ) → (nat_lt 0 n ≡ true) ↔ (0 < n)
 positive n = (ltb-true 0 n, lt-ltb 0 n)

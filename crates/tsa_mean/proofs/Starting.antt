@@ -3,11 +3,11 @@ use Rattle.std.proofs.Common.{◌≡◌, ◌∙◌, ℕ, zero, suc, Bool, true, 
 use Rattle.std.specs.List.{list_all}
 use Rattle.std.specs.Prelude.{unwrap_or}
 use Rattle.tsa_base.specs.declared.value.Value.TheVariants.{Pointer}
+use Rattle.tsa_base.proofs.Truths.{both}
 use Rattle.tsa_core.specs.Calls.{is_structure, Layout}
 use Rattle.tsa_core.specs.Placed.{Placed}
 use Rattle.tsa_core.specs.Stores.{is_value_of, IsWellTyped, start}
 use Rattle.tsa_mean.specs.Laws.{FirstStatesAreStarts}
-use Rattle.tsa_mean.proofs.Lists.{both}
 
 -- the first store
 stands : (places : List Placed) (place : ℕ) → unwrap_or (option_map (λ p. p.initial) (slice_get places place)) (Pointer None) ≡ slice_index_or (map (λ p. p.initial) places) place (Pointer None)

@@ -20,9 +20,7 @@ use Rattle.tsa_deed.specs.Bodies.{Around}
 use Rattle.tsa_deed.specs.Ways.{called_at, calling, init_value}
 use Rattle.tsa_notes.specs.Marking.{NotesBegun, value_in}
 use Rattle.tsa_notes.specs.Points.{attrs_here, begun_by, called_attributes, uses_here}
-
-some_same : {A : Type 0} {x y : A} → Some x ≡ Some y → x ≡ y
-some_same e = cc
+use Rattle.tsa_base.proofs.Options.{some_same}
 
 module _ (a : Around) (k : Known) where
   -- where the arguments lead of the call of an expression that calls

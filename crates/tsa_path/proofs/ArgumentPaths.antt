@@ -2,6 +2,7 @@
 use Rattle.std.proofs.Common.{◌≡◌, ◌∙◌, ℕ, pos, negsuc, Bool, true, false, ◌&&◌, nat_lt, List, Option, Some, None, is_some, option_map, option_and_then, slice_get, Result, Ok, Err, if◌then◌else◌, refl, sym, ap, subst}
 use Rattle.tsa_base.specs.declared.value.Value.{Value}
 use Rattle.tsa_base.specs.declared.value.Value.TheVariants.{Pointer}
+use Rattle.tsa_base.proofs.Truths.{never}
 use Rattle.tsa_tree.specs.declared.expr.UnaryOp.TheVariants as prefix
 use Rattle.tsa_tree.specs.declared.kind.ExpressionType.{ExpressionType}
 use Rattle.tsa_tree.specs.declared.kind.Kind.TheVariants as type
@@ -28,7 +29,7 @@ use Rattle.tsa_core.specs.Stores.{Store}
 use Rattle.tsa_core.specs.Kinds.{Setting}
 use Rattle.tsa_core.specs.Meanings.{loaded, of_number, of_name, of_prefix, of_field, of_index, meaning}
 use Rattle.tsa_core.specs.Terms.{Term, target, address, Sense}
-use Rattle.tsa_core.proofs.KindTests.{never, both_true, not_false, single_length}
+use Rattle.tsa_core.proofs.KindTests.{both_true, not_false, single_length}
 use Rattle.tsa_core.proofs.KindsOfOperators.{struct_told}
 use Rattle.tsa_core.proofs.KindsOfTerms.{of_one, of_two, of_owner}
 use Rattle.tsa_core.proofs.TypedTerms.{some_same, terms_have_types}

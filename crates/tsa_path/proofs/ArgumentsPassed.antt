@@ -3,6 +3,7 @@ use Rattle.std.proofs.Common.{◌≡◌, ◌∙◌, ℕ, zero, suc, pos, negsuc,
 use Rattle.std.proofs.lemmas.Bool.Decides.{nat_tests}
 use Rattle.tsa_base.specs.declared.value.Value.{Value}
 use Rattle.tsa_base.specs.declared.value.Value.TheVariants.{Pointer}
+use Rattle.tsa_base.proofs.Truths.{never}
 use Rattle.tsa_tree.specs.declared.kind.ExpressionType.{ExpressionType}
 use Rattle.tsa_tree.specs.declared.kind.Kind.{Kind}
 use Rattle.tsa_tree.specs.declared.kind.Kind.TheVariants as type
@@ -30,7 +31,7 @@ use Rattle.tsa_core.specs.Kinds.{Setting}
 use Rattle.tsa_core.specs.Meanings.{is_int, loaded, null_pointer, of_number, of_name, as_kind, meaning, arguments}
 use Rattle.tsa_core.specs.Terms.{Term, converted, Sense}
 use Rattle.tsa_core.specs.Uses.{argument_ways}
-use Rattle.tsa_core.proofs.KindTests.{never, both_true, neither, not_false, integer_is}
+use Rattle.tsa_core.proofs.KindTests.{both_true, neither, not_false, integer_is}
 use Rattle.tsa_core.proofs.ValuesServe.{no_pointer, integer_alone}
 use Rattle.tsa_core.proofs.TypedTerms.{some_same, terms_have_types}
 use Rattle.tsa_path.specs.ArgumentLaws.{ArgumentsHaveTheirPaths}

@@ -1,6 +1,7 @@
 -- The locals of a callee suit the paths that are handed on with a call.
 use Rattle.std.proofs.Common.{◌≡◌, ℕ, Bool, true, false, ◌||◌, not, List, Option, Some, None, is_some, option_map, slice_get, refl, sym, subst}
 use Rattle.tsa_base.specs.declared.value.Value.{Value}
+use Rattle.tsa_base.proofs.Truths.{never}
 use Rattle.tsa_tree.specs.declared.expr.BinaryOp.TheVariants as op
 use Rattle.tsa_tree.specs.declared.expr.UnaryOp.TheVariants as prefix
 use Rattle.tsa_tree.specs.declared.kind.ExpressionType.{ExpressionType}
@@ -19,7 +20,7 @@ use Rattle.tsa_core.specs.Stores.{Store}
 use Rattle.tsa_core.specs.Kinds.{Setting}
 use Rattle.tsa_core.specs.Meanings.{Call, call_of, call_in, or_call}
 use Rattle.tsa_core.specs.Uses.{called_ways, call_ways}
-use Rattle.tsa_core.proofs.KindTests.{never, neither, not_false}
+use Rattle.tsa_core.proofs.KindTests.{neither, not_false}
 use Rattle.tsa_core.proofs.KindsOfTerms.{of_one, of_two}
 use Rattle.tsa_core.proofs.TypedTerms.{some_same}
 use Rattle.tsa_path.specs.ArgumentLaws.{Serves, CallsSuitTheirPaths}

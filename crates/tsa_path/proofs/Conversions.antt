@@ -4,13 +4,14 @@ use Rattle.std.proofs.lemmas.Bool.Decides.{nat_tests}
 use Rattle.std.proofs.Math.Nat.{mod-eq_of_lt}
 use Rattle.tsa_base.specs.declared.value.Value.{Value}
 use Rattle.tsa_base.specs.declared.value.Value.TheVariants.{Int, Unsigned, Pointer}
+use Rattle.tsa_base.proofs.Truths.{never}
 use Rattle.tsa_tree.specs.declared.kind.Kind.{Kind}
 use Rattle.tsa_tree.specs.declared.kind.Kind.TheVariants as type
 use Rattle.tsa_tree.specs.types.Arithmetic.{is_int, modulus}
 use Rattle.tsa_tree.specs.types.Operands.{integer_kind}
 use Rattle.tsa_core.specs.Calls.{Layout}
 use Rattle.tsa_core.specs.Stores.{is_value_of}
-use Rattle.tsa_core.proofs.KindTests.{never, both_true}
+use Rattle.tsa_core.proofs.KindTests.{both_true}
 use Rattle.tsa_core.proofs.TypedTerms.{some_same}
 use Rattle.tsa_path.specs.Laws.{IsValue, IsSameValue, bits}
 use Rattle.tsa_path.specs.Values.{in_kind}

@@ -23,9 +23,10 @@ use Rattle.tsa_core.specs.Calls.{Layout}
 use Rattle.tsa_core.specs.Stores.{Store}
 use Rattle.tsa_core.specs.Meanings.{is_place, is_cell, loaded, null_pointer, of_number, of_name, beside, operands, of_prefix, of_binary, meaning}
 use Rattle.tsa_core.specs.Terms.{load, joined, Sense}
-use Rattle.tsa_core.proofs.KindTests.{never, both_true}
+use Rattle.tsa_core.proofs.KindTests.{both_true}
 use Rattle.tsa_path.specs.Laws.{Locals}
 use Rattle.tsa_path.specs.Values.{number_in, made, of_truth, is_true, truth_in, prefix_value, both, on_values, join, worth}
+use Rattle.tsa_base.proofs.Truths.{never}
 
 number_back : (n : Number) → number_in (of_number n) ≡ Some n
 number_back (numeral.Int z) = refl

@@ -2,6 +2,7 @@
 use Rattle.std.proofs.Common.{◌≡◌, ◌∙◌, ℕ, pos, negsuc, List, [], ◌∷◌, ◌++◌, Option, Some, None, option_map, option_and_then, refl, sym, ap, subst}
 use Rattle.tsa_base.specs.declared.value.Value.{Value}
 use Rattle.tsa_base.specs.declared.value.Value.TheVariants.{Int, Unsigned, Pointer}
+use Rattle.tsa_base.proofs.Options.{some_same as the_same}
 use Rattle.tsa_way.specs.Ways.{Way, from}
 use Rattle.tsa_way.specs.declared.path.Root.{Root}
 use Rattle.tsa_way.specs.declared.path.Root.TheVariants.{Global, Local, Owner}
@@ -13,9 +14,6 @@ use Rattle.tsa_core.specs.Calls.{Layout, element_place, index_in, pointee, place
 use Rattle.tsa_path.specs.Substitution.{given, index_step, as_index, pointed_way, as_pointer, step_in, before, steps_in, further, in_caller}
 use Rattle.tsa_path.specs.Laws.{IsValue, IsSameValue, IsSmall, bits, Locals, IsHeld, IsPassed, Suits, SubstitutionKeepsTheMeaning}
 use Rattle.tsa_path.proofs.Elements.{by_bits, same_elements}
-
-the_same : {A : Type 0} {x y : A} → Some x ≡ Some y → x ≡ y
-the_same e = cc
 
 nothing : {A : Type 0} {x : A} {B : Type 0} → None ≡ Some x → B
 nothing e = cc

@@ -2,6 +2,7 @@
 use Rattle.std.proofs.Common.{◌≡◌, ◌∙◌, ℕ, Bool, true, false, List, Option, Some, None, is_some, option_map, option_and_then, slice_get, refl, sym, ap, subst}
 use Rattle.tsa_base.specs.declared.value.Value.{Value}
 use Rattle.tsa_base.specs.declared.value.Value.TheVariants.{Pointer}
+use Rattle.tsa_base.proofs.Truths.{never}
 use Rattle.tsa_tree.specs.declared.kind.ExpressionType.{ExpressionType}
 use Rattle.tsa_tree.specs.declared.kind.Kind.TheVariants as type
 use Rattle.tsa_tree.specs.declared.kind.ThingType.{ThingType}
@@ -26,7 +27,7 @@ use Rattle.tsa_core.specs.Stores.{Store, is_value_of}
 use Rattle.tsa_core.specs.Kinds.{Setting}
 use Rattle.tsa_core.specs.Meanings.{is_place, is_cell, loaded, base_of, to_member, of_field, of_index}
 use Rattle.tsa_core.specs.Terms.{Term, variable, element, member, target, load, Sense}
-use Rattle.tsa_core.proofs.KindTests.{never, both_true, not_true}
+use Rattle.tsa_core.proofs.KindTests.{both_true, not_true}
 use Rattle.tsa_core.proofs.KindsOfTerms.{part_at}
 use Rattle.tsa_core.proofs.TypedTerms.{some_same}
 use Rattle.tsa_path.proofs.Bearing.{Bears, Meets}

@@ -2,6 +2,7 @@
 use Rattle.std.proofs.Common.{◌≡◌, ℕ, Bool, true, List, [], ◌∷◌, ◌++◌, Option, Some, None, option_map, option_and_then, slice_get, refl, sym, ap, subst, eqb-true}
 use Rattle.tsa_base.specs.declared.value.Value.{Value}
 use Rattle.tsa_base.specs.declared.value.Value.TheVariants.{Int, Unsigned, Pointer}
+use Rattle.tsa_base.proofs.Truths.{never}
 use Rattle.tsa_tree.specs.declared.kind.Kind.{Kind}
 use Rattle.tsa_tree.specs.declared.kind.Kind.TheVariants as type
 use Rattle.tsa_tree.specs.types.Types.{single}
@@ -14,7 +15,7 @@ use Rattle.tsa_core.specs.Spot.{Spot}
 use Rattle.tsa_core.specs.Spot.TheVariants.{Place}
 use Rattle.tsa_core.specs.Calls.{Layout, is_addressable, pointee, take_root, take_step, take_steps}
 use Rattle.tsa_core.specs.Stores.{is_of, may_point, is_value_of}
-use Rattle.tsa_core.proofs.KindTests.{never, both_true}
+use Rattle.tsa_core.proofs.KindTests.{both_true}
 use Rattle.tsa_path.proofs.Bearing.{Bears}
 use Rattle.tsa_path.specs.Laws.{Locals, IsPassed}
 use Rattle.tsa_path.specs.Values.{pointed_place}

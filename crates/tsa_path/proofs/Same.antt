@@ -1,5 +1,5 @@
 -- Paths that are told apart are different, and the others are equal.
-use Rattle.std.proofs.Common.{◌≡◌, ◌∙◌, Bool, true, false, ◌&&◌, List, [], ◌∷◌, refl, sym, ap, eqb-true, eq-eqb}
+use Rattle.std.proofs.Common.{◌≡◌, ◌∙◌, true, ◌&&◌, List, [], ◌∷◌, refl, sym, ap, eqb-true, eq-eqb}
 use Rattle.std.specs.Cmp.Lexicographic.{pointwise}
 use Rattle.tsa_way.specs.Ways.{Way}
 use Rattle.tsa_way.specs.declared.path.Root.{Root}
@@ -9,17 +9,7 @@ use Rattle.tsa_way.specs.declared.path.PathStep.TheVariants.{Field, Constant, Va
 use Rattle.tsa_way.specs.contracts.path.RootPartialEq.TheImpl as root_test
 use Rattle.tsa_way.specs.contracts.path.PathStepPartialEq.TheImpl as step_test
 use Rattle.tsa_path.specs.Sameness.{same_root, same_step, same_steps, same_way, SameWaysAreEqual}
-
-never : {A : Type 0} → false ≡ true → A
-never e = cc
-
-left_part : (a b : Bool) → (a && b) ≡ true → a ≡ true
-left_part true b e = refl
-left_part false b e = never e
-
-right_part : (a b : Bool) → (a && b) ≡ true → b ≡ true
-right_part true b e = e
-right_part false b e = never e
+use Rattle.tsa_base.proofs.Truths.{left_part, never_true as never, right_part}
 
 root_equal : (a b : Root) → same_root a b ≡ true → a ≡ b
 root_equal (Global m) (Global n) e = ap Global (eqb-true m n e)

@@ -4,6 +4,7 @@ use Rattle.std.proofs.lemmas.Bool.Decides.{nat_tests}
 use Rattle.std.proofs.lemmas.List.{drop_at, append-nil}
 use Rattle.std.proofs.lemmas.Option.{slice_get_within}
 use Rattle.tsa_base.specs.declared.token.Span.{Span}
+use Rattle.tsa_base.proofs.Truths.{or_right}
 use Rattle.tsa_tree.specs.declarations.Syntax.{Initialiser}
 use Rattle.tsa_tree.specs.declared.kind.Kind.{Kind}
 use Rattle.tsa_tree.specs.declared.kind.Kind.TheVariants as type
@@ -27,7 +28,6 @@ use Rattle.tsa_core.proofs.Asking.{same_some, none_is_none, kind_head, element_a
 use Rattle.tsa_core.proofs.Laid.{IsLaid, unit_laid, front_at, by_last}
 use Rattle.tsa_core.proofs.Pieces.{row_at, at_row, thing_at, element_is}
 use Rattle.tsa_core.proofs.Rows.{Thing, Object, PieceAt, Row, member_within, member_begins}
-use Rattle.tsa_core.proofs.KindTests.{or_right}
 use Rattle.tsa_path.proofs.Bearing.{Bears, StandsDeclared}
 
 -- a later element is no array's first
@@ -130,7 +130,7 @@ item_heads here l (global_item d) h = part_heads (known_global here d) (global_p
 item_heads here l (function_item head) h = h
 item_heads here l (body_item head body close) h = h
 
-items_heads : (items : List UnitItem) (here : Scope) (l m : Layout) → Heads l → placed_behind here l items ≡ Ok m → Heads m
+pub items_heads : (items : List UnitItem) (here : Scope) (l m : Layout) → Heads l → placed_behind here l items ≡ Ok m → Heads m
 unfolding placed_behind
 items_heads [] here l m h e = subst Heads (same l m e) h
   where

@@ -7,6 +7,7 @@ use Rattle.tsa_way.specs.declared.path.PathStep.{PathStep}
 use Rattle.tsa_way.specs.declared.path.PathStep.TheVariants.{Field, Constant, Variable, Follow}
 use Rattle.tsa_path.specs.Substitution.{constant, substituted}
 use Rattle.tsa_path.specs.PathTexts.{Label, Names, path_text}
+use Rattle.tsa_path.specs.Written.{label}
 
 abbrev global : ℕ → List PathStep → Way
 global n steps = record { root = Global n; steps = steps }
@@ -50,9 +51,6 @@ pub record SubstitutionsAreAsWritten : Type 0 where
   pub no_parameter : substituted [] (global 7 (Constant 5 ∷ Field 1 ∷ [])) ≡ Some (global 7 (Constant 5 ∷ Field 1 ∷ []))
   pub kept_owner : substituted [] (owned (Field 1 ∷ [])) ≡ Some (owned (Field 1 ∷ []))
   pub parameter_alone : substituted (Some (global 4 []) ∷ []) (from (Local 0)) ≡ None
-
-abbrev label : List ℕ → Option ℕ → Label
-label name structure = record { name = name; structure = structure }
 
 abbrev members : ℕ → List Label
 members zero = label (codes "mu") None ∷ label (codes "next") (Some 0) ∷ []

@@ -13,7 +13,7 @@ use Rattle.tsa_path.specs.PathTexts.{Label, Names, path_text}
 use Rattle.tsa_path.specs.Sameness.{same_way}
 
 -- the names of a unit, by its places, and those of a function's parameters
-abbrev struct_in : Kind → Option ℕ
+abbrev pub struct_in : Kind → Option ℕ
 struct_in (type.Structure n) = Some n
 struct_in (type.Pointer n to_const) = Some n
 struct_in _ = None
@@ -29,7 +29,7 @@ names_in l params = record {
   owner = None;
 }
 
-abbrev label : List ℕ → Option ℕ → Label
+abbrev pub label : List ℕ → Option ℕ → Label
 label name structure = record { name = name; structure = structure }
 
 -- the paths of all attributes of a unit's functions

@@ -5,6 +5,7 @@ use Rattle.tsa_print.specs.declared.mark.Mark.{Mark}
 use Rattle.tsa_print.specs.declared.mark.Mark.TheVariants as marks
 use Rattle.tsa_print.specs.Canonical.{Piece, word, numeral, quoted, operator, prefix, assigned, access, mark}
 use Rattle.tsa_print.proofs.Apart.{is_good, is_dot, safe, safe_before, Apart}
+use Rattle.tsa_base.proofs.Truths.{and_false}
 
 abbrev pub is_filled : List Piece → Bool
 is_filled [] = false
@@ -42,10 +43,6 @@ joins_none last = (refl, λ qs e apart. apart)
 pub joins_loose : (last : Bool) (ps : List Piece) → Joins last ps → Joins true ps
 joins_loose true ps joins = joins
 joins_loose false ps joins = (joins.0, λ qs e apart. joins.1 qs refl apart)
-
-and_false : (b : Bool) → (b && false) ≡ false
-and_false true = refl
-and_false false = refl
 
 pub joins_apart : (last : Bool) (ps : List Piece) → Joins last ps → Apart ps
 joins_apart last ps joins = subst Apart (append-nil ps) (joins.1 [] (and_false last) tt)

@@ -21,10 +21,7 @@ use Rattle.tsa_tree.specs.types.Units.{behind_item}
 use Rattle.tsa_tree.specs.units.Syntax.{structure_item, alias_item, enumeration_item, global_item}
 use Rattle.tsa_core.proofs.TypedTerms.{some_same}
 use Rattle.tsa_core.proofs.UnitScopes.{or_other, found_append}
-
--- names keep what they mean
-abbrev pub KeepsNames : Scope → Scope → Type 0
-KeepsNames here there = (name : List ℕ) (e : Entry) → found here.names name ≡ Some e → found there.names name ≡ Some e
+use Rattle.tsa_core.proofs.BodiesAgree.{KeepsNames}
 
 -- what means a function there means it here
 abbrev pub AddsNoFunction : Scope → Scope → Type 0

@@ -1,6 +1,7 @@
 -- Where calls stand in what the profile asks of an expression.
 use Rattle.std.proofs.Common.{◌≡◌, ◌⊎◌, inl, inr, Bool, true, false, not, ◌&&◌, ◌||◌, ◌++◌, Option, Some, None, is_some, refl, sym, subst}
 use Rattle.tsa_base.specs.declared.token.Span.{Span}
+use Rattle.tsa_base.proofs.Truths.{never, or_right}
 use Rattle.tsa_tree.specs.declared.expr.BinaryOp.{BinaryOp}
 use Rattle.tsa_tree.specs.declared.expr.BinaryOp.TheVariants as op
 use Rattle.tsa_tree.specs.declared.expr.UnaryOp.{UnaryOp}
@@ -13,7 +14,7 @@ use Rattle.tsa_tree.specs.types.DeclaredTypes.{typed_value}
 use Rattle.tsa_tree.specs.types.Expressions.{type_of}
 use Rattle.tsa_tree.specs.types.Runnable.{has_call, have_call, is_free, is_whole, is_call, is_compared, is_comparison, is_condition}
 use Rattle.tsa_tree.specs.types.Scopes.{context_of}
-use Rattle.tsa_core.proofs.KindTests.{never, and_true, or_left, or_right}
+use Rattle.tsa_core.proofs.KindTests.{and_true, or_left}
 use Rattle.tsa_seen.specs.declared.premise.ProfileCode.TheVariants.{PF1}
 use Rattle.tsa_seen.specs.Premises.{first}
 use Rattle.tsa_seen.specs.declared.standing.Standing.{Standing}

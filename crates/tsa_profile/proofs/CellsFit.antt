@@ -2,6 +2,7 @@
 use Rattle.std.proofs.Common.{◌≡◌, ◌∙◌, ℕ, zero, suc, arith, nat_eq, Bool, true, false, not, ◌&&◌, ◌||◌, [], ◌∷◌, Option, Some, None, is_some, is_none, option_map, option_and_then, slice_get, refl, sym, ap, subst}
 use Rattle.std.proofs.lemmas.Bool.Decides.{nat_tests}
 use Rattle.tsa_base.specs.declared.value.Value.TheVariants.{Pointer}
+use Rattle.tsa_base.proofs.Truths.{never}
 use Rattle.tsa_tree.specs.declarations.Syntax.{Initialiser, value, list}
 use Rattle.tsa_tree.specs.declared.expr.UnaryOp.TheVariants as prefix
 use Rattle.tsa_tree.specs.declared.kind.ExpressionType.{ExpressionType}
@@ -30,7 +31,7 @@ use Rattle.tsa_layout.specs.Stores.{is_of}
 use Rattle.tsa_item.specs.Items.{or_zero}
 use Rattle.tsa_fill.specs.Units.{address_in, cell_value, values_in}
 use Rattle.tsa_core.proofs.CaseNumbers.{value_fits, unsigned_below}
-use Rattle.tsa_core.proofs.KindTests.{never, both_true, and_true, not_false}
+use Rattle.tsa_core.proofs.KindTests.{both_true, and_true, not_false}
 use Rattle.tsa_core.proofs.NoFailure.{none_of_both, none_of_first, keeps_typed}
 use Rattle.tsa_core.proofs.TypedTerms.{some_same}
 use Rattle.tsa_path.proofs.ArgumentPaths.{bound}

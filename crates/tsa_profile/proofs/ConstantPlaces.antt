@@ -33,7 +33,7 @@ use Rattle.tsa_layout.specs.Parts.{no_stable}
 use Rattle.tsa_layout.specs.Places.{has_some}
 use Rattle.tsa_lead.proofs.Laid.{IsLaid}
 use Rattle.tsa_core.specs.Uses.{access_guards, member_guards, field_guards, name_guards}
-use Rattle.tsa_core.proofs.KindTests.{never, both_true}
+use Rattle.tsa_core.proofs.KindTests.{both_true}
 use Rattle.tsa_core.proofs.KindsOfTerms.{of_owner}
 use Rattle.tsa_core.proofs.ScopesAlike.{Alike, no_function, known_alike}
 use Rattle.tsa_core.proofs.TypedTerms.{some_same, terms_have_types, member_numbered}
@@ -42,6 +42,7 @@ use Rattle.tsa_path.proofs.Pointers.{spot_of, spot_onward}
 use Rattle.tsa_path.proofs.StandDeclared.{Marks, marks, part_marks, inner_marks, StandsAs, Heads, global_marked, member_marked, element_marked}
 use Rattle.tsa_path.proofs.StepsBehind.{Inner, member_by, Piece, element_by}
 use Rattle.tsa_seen.specs.Locks.{is_empty}
+use Rattle.tsa_base.proofs.Truths.{never}
 
 -- what is declared so far stays as it is
 pub record Extends (l whole : Layout) : Type 0 where

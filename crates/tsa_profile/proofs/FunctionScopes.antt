@@ -12,24 +12,19 @@ use Rattle.tsa_tree.specs.types.Scopes.{Scope, FunctionEntry, found}
 use Rattle.tsa_tree.specs.types.Symbols.{function_or_next, meant_function, number_of}
 use Rattle.tsa_lead.proofs.Laid.{front_at, last_at, by_last}
 use Rattle.tsa_core.specs.Programs.{Bodied, Declared, unless_known, first_head}
-use Rattle.tsa_core.proofs.KindTests.{never, neither, or_left, or_right}
+use Rattle.tsa_core.proofs.KindTests.{neither, or_left}
 use Rattle.tsa_core.proofs.TypedTerms.{some_same}
 use Rattle.tsa_core.proofs.UnitScopes.{or_other, found_append}
-use Rattle.tsa_profile.proofs.AddedNames.{KeepsNames, kept_name, AddsData}
+use Rattle.tsa_core.proofs.BodiesAgree.{AreMeant, KeepsNames, Means}
+use Rattle.tsa_profile.proofs.AddedNames.{kept_name, AddsData}
+use Rattle.tsa_base.proofs.Truths.{never, or_right}
 
 -- the function of a number has a name
 abbrev pub IsNamed : List Declared → ℕ → List ℕ → Type 0
 IsNamed ds n name = (d : Declared) × ((slice_get ds n ≡ Some d) × (d.head.name.text ≡ name))
 
--- a name means the function of a number
-abbrev pub Means : Scope → List ℕ → ℕ → Type 0
-Means here name n = (e : Entry) × ((found here.names name ≡ Some e) × (e.meaning ≡ meant.Function n))
-
 abbrev pub KnowsFunctions : List Declared → Scope → Type 0
 KnowsFunctions ds here = (name : List ℕ) (e : Entry) (n : ℕ) → found here.names name ≡ Some e → e.meaning ≡ meant.Function n → IsNamed ds n name
-
-abbrev pub AreMeant : List Declared → Scope → Type 0
-AreMeant ds here = (n : ℕ) (d : Declared) → slice_get ds n ≡ Some d → Means here d.head.name.text n
 
 -- the function of a number has its body
 abbrev pub HasBody : List FunctionEntry → ℕ → Type 0

@@ -2,6 +2,7 @@
 use Rattle.std.proofs.Common.{◌≡◌, ◌∙◌, ℕ, ◌^◌, nat_lt, Bool, true, false, not, ◌&&◌, ◌||◌, List, ◌++◌, Option, Some, None, slice_get, refl, sym, ap}
 use Rattle.tsa_base.specs.declared.value.Value.{Value}
 use Rattle.tsa_base.specs.declared.value.Value.TheVariants.{Int, Unsigned, Pointer}
+use Rattle.tsa_base.proofs.Truths.{never}
 use Rattle.tsa_tree.specs.declared.kind.Kind.{Kind}
 use Rattle.tsa_tree.specs.declared.kind.Kind.TheVariants as type
 use Rattle.tsa_tree.specs.types.Arithmetic.{is_int}
@@ -10,7 +11,6 @@ use Rattle.tsa_layout.specs.Calls.{is_structure}
 use Rattle.tsa_layout.specs.Stores.{is_of}
 use Rattle.tsa_item.specs.Items.{zero_of}
 use Rattle.tsa_lead.proofs.Laid.{front_at}
-use Rattle.tsa_core.proofs.KindTests.{never}
 
 -- the kinds of what is declared
 abbrev pub is_data : Kind → Bool

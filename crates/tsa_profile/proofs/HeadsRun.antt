@@ -10,20 +10,21 @@ use Rattle.tsa_tree.specs.expressions.Syntax.{Expression, Arguments, none, more}
 use Rattle.tsa_tree.specs.points.Syntax.{expression_span}
 use Rattle.tsa_tree.specs.types.DeclaredTypes.{thing_type}
 use Rattle.tsa_tree.specs.types.Heads.{with_param}
-use Rattle.tsa_tree.specs.types.Runnable.{has_call, have_call, is_free, are_free, is_small, is_lock_function, is_environment, has_body, no_generic, params_run, kind_runs, first_runs, head_runs}
+use Rattle.tsa_tree.specs.types.Runnable.{has_call, have_call, is_free, are_free, is_small, is_lock_function, is_environment, has_body, no_generic, params_run, kind_runs, first_runs, head_runs, is_generic}
 use Rattle.tsa_tree.specs.types.Runnable as run
 use Rattle.tsa_tree.specs.types.Scopes.{Scope, found}
 use Rattle.tsa_tree.specs.units.Syntax.{UnitItem}
 use Rattle.tsa_core.proofs.BodyScopes.{SameTypes, through, with_param_types, small_kept}
-use Rattle.tsa_core.proofs.KindTests.{never, neither, not_false, and_true}
+use Rattle.tsa_core.proofs.KindTests.{neither, not_false, and_true}
 use Rattle.tsa_way.specs.Ways.{Way}
 use Rattle.tsa_seen.specs.declared.premise.ProfileCode.TheVariants.{PF1, PF2, PF4, PF6, PF7, PF9}
 use Rattle.tsa_seen.specs.Premises.{premise, first}
 use Rattle.tsa_seen.specs.declared.standing.Standing.TheVariants.{Inside}
 use Rattle.tsa_judge.specs.Expressions.{View, own, parts}
-use Rattle.tsa_argument.specs.Declarations.{way, is_order, is_named_once, is_among, is_call, argument, with_way, ways_behind, attribute_arguments, guard_premises, is_generic, misfits, attribute_premises, param_premises, is_nothing, head_premises}
+use Rattle.tsa_argument.specs.Declarations.{way, is_order, is_named_once, is_among, is_call, argument, with_way, ways_behind, attribute_arguments, guard_premises, misfits, attribute_premises, param_premises, is_nothing, head_premises}
 use Rattle.tsa_argument.proofs.NoneFails.{none_of_both, none_of_first}
 use Rattle.tsa_profile.proofs.CallsStand.{neither_has, keeps_free}
+use Rattle.tsa_base.proofs.Truths.{never}
 
 -- arguments of attributes have no calls
 argument_free : (v : View) (kind : AttrKind) (ways : List Way) (e : Expression) → first (argument v kind ways e) ≡ None → is_free e ≡ true

@@ -19,6 +19,7 @@ use Rattle.tsa_tree.specs.types.Known.{Context}
 use Rattle.tsa_core.proofs.CaseLists.{InRange}
 use Rattle.tsa_core.proofs.KindTests.{and_true, both_true}
 use Rattle.tsa_core.proofs.TypedTerms.{some_same}
+use Rattle.tsa_base.proofs.Numbers.{small_remainder}
 
 -- the range of `int`
 int_pos : (n : ℕ) → n < 2 ^ 31 → is_int (pos n) ≡ true
@@ -70,11 +71,6 @@ literal_fits n false = by (nat_le (2 ^ 31) n) refl
     by : (b : Bool) → nat_le (2 ^ 31) n ≡ b → IsFit (if b then numeral.Unsigned n else numeral.Int (pos n))
     by true e = tt
     by false e = int_pos n (grind (arith, nat_tests, e))
-
--- a remainder is no larger than what is divided
-small_remainder : (n k : ℕ) → n % k ≤ n
-small_remainder n zero = omega arith
-small_remainder n (suc k) = omega arith
 
 remainder_fits : (a b : ℤ) → is_int a ≡ true → is_int (int_rem a b) ≡ true
 remainder_fits (pos n) b h = let less = pos_below n h in let small = small_remainder n (unsigned_abs b) in int_pos (n % unsigned_abs b) (omega (arith, less, small))

@@ -25,13 +25,14 @@ use Rattle.tsa_core.specs.Programs as program
 use Rattle.tsa_core.proofs.NoFailure.{none_of_both}
 use Rattle.tsa_core.proofs.TypedTerms.{some_same}
 use Rattle.tsa_core.proofs.UnitScopes.{declared_told}
+use Rattle.tsa_core.proofs.BodiesAgree.{Means}
 use Rattle.tsa_profile.specs.Paths.{paths_if}
 use Rattle.tsa_judge.specs.Tables.{with_declared, tables_behind, tables_of_all}
 use Rattle.tsa_profile.specs.Tables.{PathsAreThoseOfTheCore}
 use Rattle.tsa_judge.specs.Units.{Unit, attributes_by, attributes_behind, paths_at, points_in, unit_of}
 use Rattle.tsa_profile.proofs.AddedNames.{adds_structure, adds_alias, adds_enumeration, adds_global}
 use Rattle.tsa_profile.proofs.FunctionPaths.{functions_are, body_paths}
-use Rattle.tsa_profile.proofs.FunctionScopes.{Bodies, Means, IsMarked, Stands, TellsBody, stands_data, one_meant, head_stands, none_came, body_told}
+use Rattle.tsa_profile.proofs.FunctionScopes.{Bodies, IsMarked, Stands, TellsBody, stands_data, one_meant, head_stands, none_came, body_told}
 
 -- Lists whose parts are mapped.
 mapped_same : {A B : Type 0} (f g : A → B) (xs : List A) → ((n : ℕ) (x : A) → slice_get xs n ≡ Some x → g x ≡ f x) → map f xs ≡ map g xs
@@ -48,7 +49,7 @@ set_mapped f g (x ∷ xs) (suc n) v here others =
     ap₂ (λ y ys. y ∷ ys) (sym (others 0 x refl (λ e. absurd (omega (arith, e)))))
     (set_mapped f g xs n v here (λ m y at other. others (suc m) y at (λ e. other (omega (arith, e)))))
 
-map_both : {A B C : Type 0} (f : B → C) (g : A → B) (xs : List A) → map f (map g xs) ≡ map (λ x. f (g x)) xs
+pub map_both : {A B C : Type 0} (f : B → C) (g : A → B) (xs : List A) → map f (map g xs) ≡ map (λ x. f (g x)) xs
 map_both f g [] = refl
 map_both f g (x ∷ xs) = ap (λ ys. f (g x) ∷ ys) (map_both f g xs)
 

@@ -1,6 +1,7 @@
 -- The points of a typed body in the profile are those of statements that the machine runs.
 use Rattle.std.proofs.Common.{◌≡◌, ◌∙◌, Bool, true, false, not, ◌&&◌, List, [], ◌∷◌, ◌++◌, Option, Some, None, is_some, refl, sym, ap}
 use Rattle.tsa_base.specs.declared.token.Span.{Span}
+use Rattle.tsa_base.proofs.Truths.{never}
 use Rattle.tsa_tree.specs.declarations.Syntax.{Declaration, Initialiser, value, list}
 use Rattle.tsa_tree.specs.declared.kind.ThingType.{ThingType}
 use Rattle.tsa_tree.specs.declared.premise.TypeCode.TheVariants.{TY2, TY3, TY7, TY9}
@@ -21,7 +22,7 @@ use Rattle.tsa_tree.specs.types.Statements as stated
 use Rattle.tsa_tree.specs.types.Statements.{statement_premises, statements_premises, case_premises, default_premises, label_premises, for_premises, for_test, unless_again, is_again, simple_premises, step_premises, test_premises, init_premises, in_a_loop, in_a_switch, is_case_again, behind, behind_init}
 use Rattle.tsa_tree.specs.types.Targets.{declared_in}
 use Rattle.tsa_core.proofs.DeedsTold.{init_told}
-use Rattle.tsa_core.proofs.KindTests.{never, not_false, and_true}
+use Rattle.tsa_core.proofs.KindTests.{not_false, and_true}
 use Rattle.tsa_core.proofs.NoFailure as typing
 use Rattle.tsa_core.proofs.ValuesServe.{constant_free}
 use Rattle.tsa_judge.specs.Points.{PlacedPoint, placed, placed_simple, placed_init, placed_step, placed_test, placed_for, placed_in, placed_all}
@@ -35,7 +36,7 @@ use Rattle.tsa_argument.proofs.NoneFails.{none_of_both, none_of_two, none_of_fir
 use Rattle.tsa_profile.proofs.CallsStand.{inside_free, whole_stands, begun_stands, test_stands}
 
 -- the points of two parts, and the first of some points
-points_of_both : (a : Around) (ps qs : List PlacedPoint) → first (points_premises a (ps ++ qs)) ≡ None
+pub points_of_both : (a : Around) (ps qs : List PlacedPoint) → first (points_premises a (ps ++ qs)) ≡ None
     → (first (points_premises a ps) ≡ None) × (first (points_premises a qs) ≡ None)
 unfolding points_premises first
 points_of_both a [] qs h = (refl, h)
@@ -44,12 +45,12 @@ points_of_both a (p ∷ ps) qs h =
     let two = points_of_both a ps qs one.1 in
     (none_of_two (point_premises a p) (points_premises a ps) one.0 two.0, two.1)
 
-point_before : (a : Around) (p : PlacedPoint) (ps : List PlacedPoint) → first (points_premises a (p ∷ ps)) ≡ None
+pub point_before : (a : Around) (p : PlacedPoint) (ps : List PlacedPoint) → first (points_premises a (p ∷ ps)) ≡ None
     → (first (point_premises a p) ≡ None) × (first (points_premises a ps) ≡ None)
 unfolding points_premises
 point_before a p ps h = none_of_both (point_premises a p) (points_premises a ps) h
 
-point_alone : (a : Around) (p : PlacedPoint) → first (points_premises a (p ∷ [])) ≡ None → first (point_premises a p) ≡ None
+pub point_alone : (a : Around) (p : PlacedPoint) → first (points_premises a (p ∷ [])) ≡ None → first (point_premises a p) ≡ None
 point_alone a p h = (point_before a p [] h).0
 
 -- a local: typing lets it begin with no list

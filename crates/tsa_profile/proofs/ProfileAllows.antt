@@ -12,33 +12,20 @@ use Rattle.tsa_layout.specs.declared.place.Placed.{Placed}
 use Rattle.tsa_layout.specs.Calls.{Layout, is_structure, is_addressable}
 use Rattle.tsa_core.specs.Programs.{Attr}
 use Rattle.tsa_core.proofs.KindTests.{and_true}
-use Rattle.tsa_seen.specs.declared.premise.Failure.{Failure}
 use Rattle.tsa_seen.specs.declared.premise.ProfileCode.{ProfileCode}
 use Rattle.tsa_seen.specs.declared.premise.ProfileCode.TheVariants.{PF3}
 use Rattle.tsa_argument.specs.Declarations as profile
 use Rattle.tsa_argument.specs.Declarations.{guard_premises, given_init, init_premises}
 use Rattle.tsa_judge.specs.Expressions.{own, parts}
-use Rattle.tsa_seen.specs.Premises.{Premise, premise, or_else, failure_of, first}
+use Rattle.tsa_seen.specs.Premises.{Premise, premise, failure_of, first}
 use Rattle.tsa_seen.specs.declared.standing.Standing.TheVariants.{Inside}
 use Rattle.tsa_judge.specs.Units.{Unit, attributes_behind, view_in, item_premises, items_premises}
 use Rattle.tsa_profile.proofs.CellsFit.{Allows}
 use Rattle.tsa_profile.proofs.ConstantPlaces.{guarded}
 use Rattle.tsa_profile.proofs.InitialisersFit.{AllowedInitialiser, AllowedItems, AllowedInit}
 use Rattle.tsa_profile.proofs.StartsTyped.{AllowedItem, AllowedAll}
-
--- no premise of two lists fails
-or_else_or_else : (a b c : Option Failure) → or_else (or_else a b) c ≡ or_else a (or_else b c)
-or_else_or_else None b c = refl
-or_else_or_else (Some f) b c = refl
-
-first_append : (xs ys : List Premise) → first (xs ++ ys) ≡ or_else (first xs) (first ys)
-unfolding first
-first_append [] ys = refl
-first_append (x ∷ xs) ys = ap (or_else (failure_of x)) (first_append xs ys) ∙ sym (or_else_or_else (failure_of x) (first xs) (first ys))
-
-neither_fails : (a b : Option Failure) → or_else a b ≡ None → (a ≡ None) × (b ≡ None)
-neither_fails (Some f) b h = absurd cc
-neither_fails None b h = (refl, h)
+use Rattle.tsa_use.proofs.Failures.{first_append}
+use Rattle.tsa_use.proofs.NoneFails.{neither_fails}
 
 pub none_of_both : (xs ys : List Premise) → first (xs ++ ys) ≡ None → (first xs ≡ None) × (first ys ≡ None)
 none_of_both xs ys h = neither_fails (first xs) (first ys) (sym (first_append xs ys) ∙ h)

@@ -4,6 +4,7 @@ use Rattle.std.proofs.lemmas.List.Elements.{All-append, All-cons, All-nil}
 use Rattle.std.proofs.lemmas.Map.Entries.{All-lookup}
 use Rattle.std.specs.Str.{bytes_eq}
 use Rattle.tsa_base.specs.declared.token.Span.{Span}
+use Rattle.tsa_base.proofs.Truths.{never}
 use Rattle.tsa_tree.specs.declarations.Syntax.{Declaration, DeclaredType, Initialiser}
 use Rattle.tsa_tree.specs.declared.kind.Declaring.TheVariants as declaring
 use Rattle.tsa_tree.specs.declared.kind.Kind.{Kind}
@@ -39,7 +40,7 @@ use Rattle.tsa_lead.proofs.Laid as laid
 use Rattle.tsa_lead.proofs.Laid.{IsLaid, front_at}
 use Rattle.tsa_lead.proofs.Pieces.{some_at}
 use Rattle.tsa_core.specs.Kinds.{Setting, Belongs}
-use Rattle.tsa_core.proofs.KindTests.{never, both_true, not_false, not_true}
+use Rattle.tsa_core.proofs.KindTests.{both_true, not_false, not_true}
 use Rattle.tsa_core.proofs.KindsOfTerms.{part_at}
 use Rattle.tsa_core.proofs.LaidScopes as scopes
 use Rattle.tsa_core.proofs.LaidScopes.{FitsBy, NamesFit, IsLaidOut, is_written_kind, kind_written}

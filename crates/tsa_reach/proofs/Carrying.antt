@@ -15,7 +15,7 @@ use Rattle.tsa_reach.specs.Courses.{Carried}
 use Rattle.tsa_reach.specs.Passing.{IsCarried, IsLeft, IsStep, Passes}
 use Rattle.tsa_reach.specs.Rows.{set_at}
 use Rattle.tsa_reach.specs.Stages.{AreStages, IsNoted}
-use Rattle.tsa_reach.proofs.Slots.{same_some}
+use Rattle.tsa_base.proofs.Options.{some_same as same_some}
 
 pub carried_first : (cases : ℕ → Case) (b : Block) (from : Statuses) → IsCarried cases b from 0 from
 carried_first cases b from t = (λ h. h, λ h. h)

@@ -10,9 +10,7 @@ use Rattle.tsa_bodies.specs.Paths.{paths_of}
 use Rattle.tsa_report.specs.Laws.{UnitsWithoutLinesHaveNoWarnings, UnitsWithoutWarningsHaveNoLines}
 use Rattle.tsa_report.specs.Warned.{AreWarned, IsBodyWarned, Warned, both, lines_of, no_lines}
 use Rattle.tsa_report.proofs.Told.{rules_that_fail_are_told}
-
-same : {A : Type 0} {x y : A} → Some x ≡ Some y → x ≡ y
-same e = cc
+use Rattle.tsa_base.proofs.Options.{some_same as same}
 
 -- a body of which no line is told
 record IsQuiet (bytes : List ℕ) (items : List UnitItem) (b : BodyText) : Type 0 where

@@ -1,5 +1,5 @@
 -- There is one text of each body's warnings, and so one of a unit's.
-use Rattle.std.proofs.Common.{◌≡◌, ◌∙◌, ℕ, List, [], ◌∷◌, Some, sym, ap, ap₂, subst}
+use Rattle.std.proofs.Common.{◌≡◌, ◌∙◌, ℕ, List, [], ◌∷◌, sym, ap, ap₂, subst}
 use Rattle.tsa_tree.specs.units.Syntax.{UnitItem}
 use Rattle.tsa_way.specs.Ways.{Way}
 use Rattle.tsa_core.specs.Programs.{Function, Program, program_of}
@@ -11,9 +11,7 @@ use Rattle.tsa_bodies.specs.Bodies.{BodyText, names_of}
 use Rattle.tsa_bodies.specs.Paths.{paths_of}
 use Rattle.tsa_report.specs.Warned.{AreWarned, IsBodyWarned, Warned, both, lines_of}
 use Rattle.tsa_report.proofs.SortedOnce.{sorted_once}
-
-same : {A : Type 0} {x y : A} → Some x ≡ Some y → x ≡ y
-same e = cc
+use Rattle.tsa_base.proofs.Options.{some_same as same}
 
 -- rules that fail, in order
 failures_once : (names : Names) (u : Program) (f : Function) (paths : List Way) (a b : List RuleFailure) → AreToldInOrder names u f paths a → AreToldInOrder names u f paths b → a ≡ b

@@ -13,14 +13,11 @@ use Rattle.tsa_tree.specs.declared.kind.ExpressionType.{ExpressionType}
 use Rattle.tsa_resolve.specs.Verdicts.{at, outcome, verdict_of}
 use Rattle.tsa_resolve.proofs.LengthLaws.{shape_span}
 use Rattle.tsa_resolve.proofs.Steps.{Alike, alike, first_append}
+use Rattle.tsa_resolve.proofs.Walk.{or_nothing}
 
 abbrev pub asked : TypeCode → (ExpressionType → Bool) → Span → Result ExpressionType Failure → Option Failure
 asked code test span (Err f) = Some f
 asked code test span (Ok t) = if test t then Some (at code span) else None
-
-or_nothing : (o : Option Failure) → or_else o None ≡ o
-or_nothing (Some x) = refl
-or_nothing None = refl
 
 last_first : (code : TypeCode) (b : Bool) (span : Span) → first (premise code span b ∷ []) ≡ or_else (if b then Some (at code span) else None) None
 unfolding first

@@ -1,5 +1,5 @@
 -- What is wrong with lock expressions, with attributes, and with lists of them.
-use Rattle.std.proofs.Common.{◌≡◌, ◌∙◌, ℕ, ◌+◌, suc, arith, Bool, true, false, not, List, [], ◌∷◌, drop, Option, Some, None, Result, Ok, Err, refl, sym, ap, if◌then◌else◌}
+use Rattle.std.proofs.Common.{◌≡◌, ◌∙◌, ℕ, ◌+◌, suc, Bool, true, false, not, List, [], ◌∷◌, drop, Option, Some, None, Result, Ok, Err, refl, sym, ap, if◌then◌else◌}
 use Rattle.tsa_tree.specs.declared.attr.Attr.{Attr}
 use Rattle.tsa_tree.specs.declared.expr.Expr.{Expr}
 use Rattle.tsa_tree.specs.declared.kind.ExpressionType.{ExpressionType}
@@ -16,18 +16,9 @@ use Rattle.tsa_resolve.specs.Found.{constant_in, found_in, with_constant}
 use Rattle.tsa_resolve.specs.Locks.{locked}
 use Rattle.tsa_resolve.specs.Verdicts.{at, verdict_of}
 use Rattle.tsa_resolve.proofs.Asked.{asked, asked_first}
-use Rattle.tsa_resolve.proofs.Steps.{first_append}
-
-plus_one : (n : ℕ) → suc n ≡ n + 1
-plus_one n = omega arith
-
-or_nothing : (o : Option Failure) → or_else o None ≡ o
-or_nothing (Some x) = refl
-or_nothing None = refl
-
-or_else_same : (a b d : Option Failure) → or_else a (or_else b d) ≡ or_else (or_else a b) d
-or_else_same (Some x) b d = refl
-or_else_same None b d = refl
+use Rattle.tsa_resolve.proofs.Steps.{first_append, or_else_same}
+use Rattle.tsa_base.proofs.Numbers.{plus_one}
+use Rattle.tsa_resolve.proofs.Walk.{or_nothing}
 
 module _ (here : Scope) where
   by_lock : (e : Expr) (t : ExpressionType) (b : Bool) → (if not b then Some (at TY6 e.span) else None) ≡ (if b then None else Some (at TY6 e.span))

@@ -8,12 +8,6 @@ pub none_known : {A : Type 0} (x : Option A) → is_some x ≡ false → x ≡ N
 none_known None h = refl
 none_known (Some x) h = cc
 
--- what is found among keys that are seen as others
-pub lookup-seen : {K L X : Type 0} (seen : K → L) (test : L → Bool) (es : List (K × X))
-    → lookup (λ k. test (seen k)) es ≡ lookup test (map (λ e. (seen e.0, e.1)) es)
-lookup-seen seen test [] = refl
-lookup-seen seen test (e ∷ es) = ap (λ w. if test (seen e.0) then Some e.1 else w) (lookup-seen seen test es)
-
 module _ {K X : Type 0} (name : K → List ℕ) where
   abbrev spelled : List (K × X) → List (List ℕ × X)
   spelled es = map (λ e. (name e.0, e.1)) es

@@ -17,7 +17,7 @@ use Rattle.tsa_tree.specs.declared.kind.ThingType.{ThingType}
 use Rattle.tsa_tree.specs.declared.kind.ExpressionType.{ExpressionType}
 use Rattle.tsa_resolve.specs.Verdicts.{at, outcome, verdict_of, failure_of_all, found_type, name_verdict, one_verdict, two_verdict, member_verdict, field_verdict, or_failed, call_verdict}
 
-or_else_same : (a b d : Option Failure) → or_else a (or_else b d) ≡ or_else (or_else a b) d
+pub or_else_same : (a b d : Option Failure) → or_else a (or_else b d) ≡ or_else (or_else a b) d
 or_else_same (Some x) b d = refl
 or_else_same None b d = refl
 
@@ -31,7 +31,7 @@ abbrev pub Alike : Option Failure → Option ExpressionType → Type 0
 Alike x t = is_some t ≡ is_none x
 
 -- the failure of a premise of its own
-abbrev own : Bool → TypeCode → Span → Option Failure
+abbrev pub own : Bool → TypeCode → Span → Option Failure
 own b code span = if b then Some (at code span) else None
 
 one_gives : (s : Span) (b : Bool) (f : ExpressionType → ExpressionType) (x : Option Failure) (t : Option ExpressionType) → Alike x t

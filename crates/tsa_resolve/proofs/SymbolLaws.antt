@@ -1,7 +1,8 @@
 -- Names noted one behind the other.
-use Rattle.std.proofs.Common.{ℕ, ◌≡◌, ◌∙◌, ◌+◌, suc, arith, List, [], ◌∷◌, ◌++◌, drop, refl, sym, ap}
+use Rattle.std.proofs.Common.{ℕ, ◌≡◌, ◌∙◌, ◌+◌, suc, List, [], ◌∷◌, ◌++◌, drop, refl, sym, ap}
 use Rattle.std.proofs.lemmas.List.{append-nil, append_assoc}
 use Rattle.tsa_base.specs.declared.token.Span.{Span}
+use Rattle.tsa_base.proofs.Numbers.{plus_one}
 use Rattle.tsa_tree.specs.declared.attr.Attr.{Attr}
 use Rattle.tsa_tree.specs.declared.decl.Init.{Init}
 use Rattle.tsa_tree.specs.declared.expr.Expr.{Expr}
@@ -31,9 +32,6 @@ pub noted_first : (notes : Notes) (x : Span × Symbol) (xs : Names) → noted no
 noted_first notes x xs = noted_append notes (x ∷ []) xs
 
 pub ruleset notes = (noted_append, noted_nothing)
-
-plus_one : (n : ℕ) → suc n ≡ n + 1
-plus_one n = omega arith
 
 -- the names of a list element by element
 module _ {A : Type 0} (names : List A → Names) (one : A → Names) (nil : names [] ≡ []) (more : (x : A) (xs : List A) → names (x ∷ xs) ≡ one x ++ names xs) where

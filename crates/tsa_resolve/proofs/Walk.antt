@@ -1,6 +1,7 @@
 -- What the walk over an expression comes to at each node.
-use Rattle.std.proofs.Common.{◌≡◌, ◌∙◌, ℕ, ◌+◌, zero, suc, drop, arith, Bool, true, false, not, ◌||◌, nat_eq, List, [], ◌∷◌, Option, Some, None, Result, Ok, Err, refl, sym, ap, length, if◌then◌else◌}
+use Rattle.std.proofs.Common.{◌≡◌, ◌∙◌, ℕ, ◌+◌, zero, suc, drop, Bool, true, false, not, ◌||◌, nat_eq, List, [], ◌∷◌, Option, Some, None, Result, Ok, Err, refl, sym, ap, length, if◌then◌else◌}
 use Rattle.tsa_base.specs.declared.token.Span.{Span}
+use Rattle.tsa_base.proofs.Numbers.{plus_one}
 use Rattle.tsa_tree.specs.declared.expr.Expr.{Expr}
 use Rattle.tsa_tree.specs.expressions.Syntax.{Identifier, Expression, Arguments, number, null, call, more}
 use Rattle.tsa_tree.specs.expressions.Shapes.{shape, shapes}
@@ -19,7 +20,7 @@ use Rattle.tsa_tree.specs.declared.kind.ExpressionType.{ExpressionType}
 use Rattle.tsa_resolve.specs.Verdicts.{at, outcome, found_type, verdict_of, failure_of_all, or_failed}
 use Rattle.std.specs.Prelude.{slice_get}
 use Rattle.std.proofs.lemmas.Bool.{eqb-true, eqb-false}
-use Rattle.tsa_resolve.proofs.Steps.{Alike, alike, found_is, first_append, named_step, unary_step, binary_step, index_step, field_step, call_step}
+use Rattle.tsa_resolve.proofs.Steps.{Alike, alike, found_is, first_append, named_step, unary_step, binary_step, index_step, field_step, call_step, or_else_same}
 
 pub number_step : (c : Context) (n : ℕ) (u : Bool) (span : Span) → verdict_of c (number n u span) ≡ Ok (number_type n u)
 unfolding verdict_of type_of premises_of first
@@ -49,16 +50,12 @@ or_same : (a b d : Bool) → (a || (b || d)) ≡ ((a || b) || d)
 or_same true b d = refl
 or_same false b d = refl
 
-failed_is : (x : Option Failure) (t : Option ExpressionType) → Alike x t → failed (outcome x t) ≡ x
+pub failed_is : (x : Option Failure) (t : Option ExpressionType) → Alike x t → failed (outcome x t) ≡ x
 failed_is (Some x) t h = refl
 failed_is None (Some t) h = refl
 failed_is None None h = cc
 
-or_else_same : (a b d : Option Failure) → or_else a (or_else b d) ≡ or_else (or_else a b) d
-or_else_same (Some x) b d = refl
-or_else_same None b d = refl
-
-or_nothing : (o : Option Failure) → or_else o None ≡ o
+pub or_nothing : (o : Option Failure) → or_else o None ≡ o
 or_nothing (Some x) = refl
 or_nothing None = refl
 
@@ -79,9 +76,6 @@ agree_by m n false e h = absurd (eqb-false m n e h)
 
 pub counts_agree : (m n : ℕ) → m ≡ n → nat_eq m n ≡ true
 counts_agree m n h = agree_by m n (nat_eq m n) refl h
-
-plus_one : (n : ℕ) → suc n ≡ n + 1
-plus_one n = omega arith
 
 module _ (c : Context) where
   types_more : (e : Expression) (rest : Arguments) → types_of c (more e rest) ≡ found_type (verdict_of c e) ∷ types_of c rest

@@ -13,13 +13,13 @@ use Rattle.tsa_rules.specs.Cases.{role_by, tests_by}
 use Rattle.tsa_rules.specs.Conditions.{Condition, condition_in}
 use Rattle.tsa_rules.specs.Points.{no_function, or_idle, local_begun, is_a_try, try_number, try_variable_at}
 use Rattle.tsa_rules.specs.TryVariables.{AreInOrder}
-use Rattle.tsa_rules.proofs.Possible.{itself}
 use Rattle.tsa_rules.proofs.Tests.{never}
 use Rattle.tsa_told.specs.declared.duty.Duty.{Duty}
 use Rattle.tsa_told.specs.declared.duty.Duty.TheVariants as duty
 use Rattle.tsa_told.specs.Duties.{Tells, role_with}
 use Rattle.tsa_roles.specs.Roles.{duty_in, duty_with}
 use Rattle.tsa_roles.specs.Told.{AreRoles, Grows, IsDuty}
+use Rattle.tsa_base.proofs.Numbers.{itself}
 
 -- A function whose one point begins a local with what a try gives, in a program with that try: there the number of the local tells it from others.
 abbrev with_try : Program → Program

@@ -11,10 +11,7 @@ use Rattle.tsa_roles.specs.declared.variables.Variable.{Variable}
 use Rattle.tsa_roles.specs.Roles.{begins, declared_in, local_in, number_in, tries_in, variables_in}
 use Rattle.tsa_roles.specs.Variables.{AreKept, variable_after, variable_at, variable_in}
 use Rattle.tsa_roles.proofs.Places.{position_push, place, counted_at, counted_all}
-
--- what is told of one
-same_some : {A : Type 0} {x y : A} → Some x ≡ Some y → x ≡ y
-same_some e = cc
+use Rattle.tsa_base.proofs.Options.{some_same as same_some}
 
 known : (duties : List Duty) (local : ℕ) (v : Variable) (o : Option ℕ) → declared_in duties local ≡ o → option_map (variable_at duties) o ≡ Some v
     → (v.number ≡ number_in duties local) × (Some v.begin ≡ declared_in duties local)

@@ -18,16 +18,14 @@ use Rattle.tsa_rules.specs.KindSets.{has_kind, kind_number, same_kind}
 use Rattle.tsa_rules.specs.Marks.{kinds_of, names_as}
 use Rattle.tsa_rules.specs.Cases.{tests_by, role_by, case_of, later_in, exit_in, is_leaving_in, fails_in, CasesTellTheRules}
 use Rattle.tsa_rules.proofs.Tests.{never, left_part, right_part}
-use Rattle.tsa_rules.proofs.Possible.{both, itself}
+use Rattle.tsa_rules.proofs.Possible.{both}
 use Rattle.tsa_rules.proofs.KindBits.{told_apart, marks_tell_kinds}
 use Rattle.tsa_rules.proofs.CaseEffects.{entries, exits, effects}
+use Rattle.tsa_base.proofs.Numbers.{itself}
+use Rattle.tsa_base.proofs.Truths.{or_right}
 
 or_left : (a b : Bool) → a ≡ true → (a || b) ≡ true
 or_left a b e = rw e refl
-
-or_right : (a b : Bool) → b ≡ true → (a || b) ≡ true
-or_right true b e = refl
-or_right false b e = e
 
 or_cases : (a b : Bool) → (a || b) ≡ true → (a ≡ true) ⊎ (b ≡ true)
 or_cases true b e = inl refl

@@ -12,10 +12,11 @@ use Rattle.tsa_rules.specs.Points.{points_of, or_idle, or_unused, attrs_called, 
 use Rattle.tsa_rules.specs.StatusLaws.{IsUnnamed}
 use Rattle.tsa_rules.specs.Kept.{KeepsRows, KeptProgramsHaveNoWarnings}
 use Rattle.tsa_rules.specs.Sheets.{Sheet, rows_of, passes, is_among, has_attr, has_guards, lists_at, lists_from, lists, function_passes, functions_pass, ProgramsThatPassHaveNoWarnings}
-use Rattle.tsa_rules.proofs.Tests.{never, below, not_below, left_part, right_part, some_same}
+use Rattle.tsa_rules.proofs.Tests.{never, below, not_below, left_part, right_part}
 use Rattle.tsa_rules.proofs.Carried.{kept_rows_break_no_rule}
 use Rattle.tsa_rules.proofs.Unnamed.{rules_speak_of_named_paths}
 use Rattle.tsa_rules.proofs.Sheets.{sheets_that_pass_are_kept}
+use Rattle.tsa_base.proofs.Options.{some_same}
 
 pub kept_programs_have_no_warnings : KeptProgramsHaveNoWarnings
 kept_programs_have_no_warnings u keeps w x = by (keeps w.function x.function x.is_there)

@@ -23,8 +23,10 @@ use Rattle.tsa_rules.specs.Points.{points_of, or_idle, point_at, uses_at, attrs_
 use Rattle.tsa_rules.specs.Marks.{claim_in, mark_of}
 use Rattle.tsa_rules.specs.Cases.{kept_for}
 use Rattle.tsa_rules.specs.TryVariables.{IsNext, begun_count, AreInOrder, TryVariablesAreToldByDeclarations}
-use Rattle.tsa_rules.proofs.Tests.{never, neither, left_part, some_same}
-use Rattle.tsa_rules.proofs.Possible.{itself, found, tries_called, listed, position_below}
+use Rattle.tsa_rules.proofs.Tests.{never, neither, left_part}
+use Rattle.tsa_rules.proofs.Possible.{found, tries_called, listed, position_below}
+use Rattle.tsa_base.proofs.Numbers.{itself}
+use Rattle.tsa_base.proofs.Options.{some_same}
 
 -- what is found passes
 passes_step : {X : Type 0} (p : X → Bool) (x a : X) (xs : List X) (b : Bool) → p x ≡ b → (find p xs ≡ Some a → p a ≡ true) → (if b then Some x else find p xs) ≡ Some a → p a ≡ true

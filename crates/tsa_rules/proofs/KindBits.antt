@@ -13,8 +13,8 @@ use Rattle.tsa_rules.specs.declared.kinds.Kinds.{Kinds}
 use Rattle.tsa_rules.specs.Attributes.{names}
 use Rattle.tsa_rules.specs.KindSets.{kind_number, same_kind, no_kinds, has_kind, with_kind, KindsAreSets}
 use Rattle.tsa_rules.specs.Marks.{kinds_with, names_as, MarksTellKinds}
-use Rattle.tsa_rules.proofs.Tests.{some_same}
 use Rattle.tsa_rules.proofs.Possible.{or_true}
+use Rattle.tsa_base.proofs.Options.{some_same}
 
 pub or-false : (b : Bool) → (b || false) ≡ b
 or-false true = refl

@@ -16,7 +16,9 @@ use Rattle.tsa_rules.specs.Conditions.{Subject, the_call, the_local, Condition, 
 use Rattle.tsa_rules.specs.Points.{points_of, or_idle, point_at, uses_at, attrs_called, attrs_at, is_a_try, try_variable_at, try_variables, try_number, try_kept, is_status}
 use Rattle.tsa_rules.specs.Effects.{entry_by, exit_by, is_taken_by, answer_given, taken_by, if_taken, deeper, given_back, Attempt, answer_kept, lock_taken, lock_missed, after_attempt, after_attribute, attempt_of, is_success, answer_of_call, attempt_at, after_claim, after_call, same_answer, left_by_try, after_decision, after_asking, after_test}
 use Rattle.tsa_rules.specs.StatusLaws.{StatusesStayPossible}
-use Rattle.tsa_rules.proofs.Tests.{never, right_part, some_same}
+use Rattle.tsa_rules.proofs.Tests.{never, right_part}
+use Rattle.tsa_base.proofs.Numbers.{itself}
+use Rattle.tsa_base.proofs.Options.{some_same}
 
 pub both : (a b : Bool) → a ≡ true → b ≡ true → (a && b) ≡ true
 both true b e f = f
@@ -95,9 +97,6 @@ position_step n x xs false same rest e =
 pub position_below : (n : ℕ) (xs : List ℕ) → list_any (nat_eq n) xs ≡ true → position_or_len (nat_eq n) xs < length xs
 position_below n [] e = never (sym e)
 position_below n (x ∷ xs) e = position_step n x xs (nat_eq n x) refl (position_below n xs) e
-
-pub itself : (n : ℕ) → nat_eq n n ≡ true
-itself n = grind (arith, nat_tests)
 
 pub or_true : (b : Bool) → (b || true) ≡ true
 or_true true = refl

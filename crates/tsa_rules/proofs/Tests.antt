@@ -1,5 +1,5 @@
 -- Tests and what they say.
-use Rattle.std.proofs.Common.{◌≡◌, ℕ, zero, suc, ◌<◌, ◌≤◌, nat_eq, nat_lt, Bool, true, false, not, ◌&&◌, ◌||◌, List, [], ◌∷◌, length, All, Some, refl, sym, ap, true≢false, arith, eqb-true}
+use Rattle.std.proofs.Common.{◌≡◌, ℕ, zero, suc, ◌<◌, ◌≤◌, nat_eq, nat_lt, Bool, true, false, not, ◌&&◌, ◌||◌, List, [], ◌∷◌, length, All, refl, sym, ap, true≢false, arith, eqb-true}
 use Rattle.std.proofs.lemmas.Bool.Decides.{nat_tests}
 use Rattle.std.specs.List.{list_any}
 use Rattle.tsa_rules.specs.Statuses.{Status, Free, Shared, Exclusive, Lent, Pending, is_free, is_exclusive, is_unheld, is_takable_again, same_status, deepest, IsExclusive, IsHeld, IsTakableAgain}
@@ -22,9 +22,6 @@ left_part false b e = e
 pub right_part : (a b : Bool) → (a && b) ≡ true → b ≡ true
 right_part true b e = e
 right_part false b e = never (sym e)
-
-pub some_same : {A : Type 0} {x y : A} → Some x ≡ Some y → x ≡ y
-some_same e = cc
 
 pub affirmed : (b : Bool) → not b ≡ false → b ≡ true
 affirmed true e = refl

@@ -9,7 +9,7 @@ use Rattle.tsa_rules.specs.Points.{edges_of, function_at}
 use Rattle.tsa_rules.specs.Texts.{global}
 use Rattle.tsa_rules.specs.Walks.{Course, course_of, Edge, entry_edge, edge_from, IsWalk, along, on_a_walk, where_edges_meet}
 use Rattle.tsa_rules.specs.WalkLaws.{branch, loop, BranchesMeet, LoopsComeBack}
-use Rattle.tsa_rules.proofs.Tests.{some_same}
+use Rattle.tsa_base.proofs.Options.{some_same}
 
 not_free : {A : Type 0} → Exclusive 1 ≡ Free → A
 not_free e = cc

@@ -1,5 +1,5 @@
 -- The tags of a unit item by item, and which of its structs are locks.
-use Rattle.std.proofs.Common.{ℕ, ◌≡◌, ◌∙◌, ◌+◌, suc, arith, Bool, ◌||◌, List, [], ◌∷◌, ◌++◌, drop, Option, Some, None, option_map, refl, sym, ap}
+use Rattle.std.proofs.Common.{ℕ, ◌≡◌, ◌∙◌, ◌+◌, suc, Bool, ◌||◌, List, [], ◌∷◌, ◌++◌, drop, Option, Some, None, option_map, refl, sym, ap}
 use Rattle.std.proofs.lemmas.List.{append-nil, append_assoc}
 use Rattle.std.specs.Borrow.{Bor}
 use Rattle.std.specs.List.{list_any}
@@ -15,10 +15,7 @@ use Rattle.tsa_tree.specs.units.Syntax.{UnitItem}
 use Rattle.tsa_tree.specs.units.Shapes.{shape_with, item_shape, item_shapes}
 use Rattle.tsa_tree.specs.declared.meaning.Tag.TheVariants as kept
 use Rattle.tsa_tree.specs.types.Units.{Tags, with_tag, tags_behind, is_capability, is_marked, locks_of}
-
--- one more, as code and as definitions write it
-plus_one : (n : ℕ) → suc n ≡ n + 1
-plus_one n = omega arith
+use Rattle.tsa_base.proofs.Numbers.{plus_one}
 
 -- an item is no struct
 abbrev NoStruct : Item → Type 0

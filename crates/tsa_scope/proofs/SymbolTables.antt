@@ -9,14 +9,11 @@ use Rattle.std.proofs.lemmas.Bool.Decides.{nat_tests}
 use Rattle.std.proofs.lemmas.Cmp.{ranked}
 use Rattle.std.proofs.lemmas.List.Sorted.{IsNonDecreasingBy-from_default}
 use Rattle.tsa_base.specs.declared.token.Span.{Span}
+use Rattle.tsa_base.proofs.Numbers.{plus_one}
 use Rattle.tsa_scope.specs.declared.symbols.Named.{Named}
 use Rattle.tsa_tree.specs.declared.meaning.Symbol.{Symbol}
 use Rattle.tsa_tree.specs.types.Symbols.{symbol_in}
 use Rattle.tsa_scope.specs.SymbolTables.{listed, ends_at, nobody, place_at, Rises}
-
--- one more, as code and as definitions write it
-plus_one : (n : ℕ) → suc n ≡ n + 1
-plus_one n = omega arith
 
 -- numbers that differ
 other : (a b : ℕ) → (a ≡ b → ⊥) → nat_eq a b ≡ false

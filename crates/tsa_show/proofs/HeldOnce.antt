@@ -1,5 +1,5 @@
 -- There is one text of each body's held sets, and so one of a unit's.
-use Rattle.std.proofs.Common.{◌≡◌, ◌∙◌, ℕ, List, Some, sym, ap, subst}
+use Rattle.std.proofs.Common.{◌≡◌, ◌∙◌, ℕ, List, sym, ap, subst}
 use Rattle.std.proofs.lemmas.List.Sorted.{Contains-permutation, IsPermutation-sym}
 use Rattle.tsa_tree.specs.units.Syntax.{UnitItem}
 use Rattle.tsa_rules.specs.Walks.{ReachAt, course_of}
@@ -13,9 +13,7 @@ use Rattle.tsa_show.specs.Held.{Account, IsAccountHeld, IsBodyHeld, IsOrder, IsP
 use Rattle.tsa_show.specs.Pieces.{Pieces}
 use Rattle.tsa_show.proofs.Pieces.{one_text}
 use Rattle.tsa_report.proofs.SortedOnce.{sorted_once}
-
-same : {A : Type 0} {x y : A} → Some x ≡ Some y → x ≡ y
-same e = cc
+use Rattle.tsa_base.proofs.Options.{some_same as same}
 
 -- the set of a path at a point
 set_once : (a : Account) (point cap : ℕ) (s t : Statuses) → IsSetAt a point cap s → IsSetAt a point cap t → s ≡ t

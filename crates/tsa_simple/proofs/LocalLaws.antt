@@ -1,14 +1,14 @@
 -- What is wrong with locals and their initialisers, by their parts.
-use Rattle.std.proofs.Common.{◌≡◌, ◌∙◌, ℕ, ◌+◌, suc, arith, Bool, true, false, not, ◌&&◌, ◌||◌, List, [], ◌∷◌, ◌++◌, drop, option_map, Option, Some, None, Result, Ok, Err, refl, sym, ap, if◌then◌else◌}
+use Rattle.std.proofs.Common.{◌≡◌, ◌∙◌, ℕ, ◌+◌, suc, Bool, true, false, not, ◌&&◌, ◌||◌, List, [], ◌∷◌, ◌++◌, drop, option_map, Option, Some, None, Result, Ok, Err, refl, sym, ap}
 use Rattle.std.specs.Borrow.{Bor}
 use Rattle.std.specs.Result.{result_err}
 use Rattle.tsa_base.specs.declared.token.Span.{Span}
+use Rattle.tsa_base.proofs.Numbers.{plus_one}
 use Rattle.tsa_tree.specs.declared.decl.Init.{Init}
 use Rattle.tsa_tree.specs.declared.kind.Declaring.TheVariants as declaring
 use Rattle.tsa_tree.specs.declared.kind.ThingType.{ThingType}
 use Rattle.tsa_tree.specs.declared.premise.Bearer.TheVariants as on
 use Rattle.tsa_tree.specs.declared.premise.Failure.{Failure}
-use Rattle.tsa_tree.specs.declared.premise.TypeCode.{TypeCode}
 use Rattle.tsa_tree.specs.declared.premise.TypeCode.TheVariants.{TY2, TY3}
 use Rattle.tsa_tree.specs.declarations.Syntax.{Declaration, Initialisers, value, list}
 use Rattle.tsa_tree.specs.declarations.Shapes.{init_shape, init_shapes}
@@ -17,35 +17,17 @@ use Rattle.tsa_tree.specs.types.Attributes.{attributes_premises}
 use Rattle.tsa_tree.specs.types.DeclaredTypes.{resolve, is_refused, thing_type, unknown_tag, length_premises, parts_premises}
 use Rattle.tsa_tree.specs.types.Locals.{local_premises, can_not_go, has_type, init_breaks, names_in, names_in_init, names_in_items}
 use Rattle.tsa_tree.specs.types.Operands.{lacks, goes_to}
-use Rattle.tsa_tree.specs.types.Premises.{Premise, premise, or_else, first}
+use Rattle.tsa_tree.specs.types.Premises.{premise, or_else, first}
 use Rattle.tsa_tree.specs.types.Scopes.{Scope, context_of, is_taken}
 use Rattle.tsa_resolve.specs.declared.found.Found.{Found}
 use Rattle.tsa_resolve.specs.Found.{found_in}
 use Rattle.tsa_resolve.specs.Lengths.{name_premises}
 use Rattle.tsa_resolve.specs.Parts.{found_thing}
-use Rattle.tsa_resolve.specs.Verdicts.{at}
-use Rattle.tsa_resolve.proofs.Steps.{first_append}
+use Rattle.tsa_resolve.proofs.Steps.{first_append, or_else_same, own}
+use Rattle.tsa_resolve.proofs.Walk.{or_nothing}
 use Rattle.tsa_simple.specs.declared.locals.LocalParts.{LocalParts}
 use Rattle.tsa_simple.specs.Locals.{value_breaks, local_by}
-use Rattle.tsa_simple.proofs.SimpleLaws.{err_is, thing_is}
-
-abbrev own : Bool → TypeCode → Span → Option Failure
-own b code span = if b then Some (at code span) else None
-
-own_first : (b : Bool) (code : TypeCode) (s : Span) (rest : List Premise) → first (premise code s b ∷ rest) ≡ or_else (own b code s) (first rest)
-unfolding first
-own_first b code s rest = refl
-
-plus_one : (n : ℕ) → suc n ≡ n + 1
-plus_one n = omega arith
-
-or_nothing : (o : Option Failure) → or_else o None ≡ o
-or_nothing (Some x) = refl
-or_nothing None = refl
-
-or_else_same : (a b d : Option Failure) → or_else a (or_else b d) ≡ or_else (or_else a b) d
-or_else_same (Some x) b d = refl
-or_else_same None b d = refl
+use Rattle.tsa_simple.proofs.SimpleLaws.{err_is, thing_is, own_first}
 
 module _ (here : Scope) where
   -- the expressions of an initialiser

@@ -28,31 +28,19 @@ use Rattle.tsa_tree.specs.types.Statements.{Around, leaf_premises, init_premises
 use Rattle.tsa_tree.specs.types.Symbols.{names_in_leaf, names_in_step, names_in_for_init}
 use Rattle.tsa_resolve.specs.declared.found.Found.{Found}
 use Rattle.tsa_resolve.specs.Found.{constant_in, found_in}
-use Rattle.tsa_resolve.specs.Judging.{failed}
 use Rattle.tsa_resolve.specs.Parts.{found_thing}
-use Rattle.tsa_resolve.specs.Verdicts.{at, outcome, verdict_of}
+use Rattle.tsa_resolve.specs.Verdicts.{at, verdict_of}
 use Rattle.tsa_resolve.proofs.FoundLaws.{thing_same, err_same}
 use Rattle.tsa_resolve.proofs.LengthLaws.{shape_span}
-use Rattle.tsa_resolve.proofs.Steps.{Alike, alike, found_is, first_append}
+use Rattle.tsa_resolve.proofs.Steps.{alike, found_is, first_append, own}
+use Rattle.tsa_resolve.proofs.Walk.{failed_is, or_nothing}
 use Rattle.tsa_simple.specs.Leaves.{alone_premises, alone_names}
 use Rattle.tsa_simple.specs.Simple.{written_by, assigned, passes, returned}
 use Rattle.tsa_simple.specs.declared.verdicts.Target.{Target}
 
-abbrev own : Bool → TypeCode → Span → Option Failure
-own b code span = if b then Some (at code span) else None
-
-own_first : (b : Bool) (code : TypeCode) (s : Span) (rest : List Premise) → first (premise code s b ∷ rest) ≡ or_else (own b code s) (first rest)
+pub own_first : (b : Bool) (code : TypeCode) (s : Span) (rest : List Premise) → first (premise code s b ∷ rest) ≡ or_else (own b code s) (first rest)
 unfolding first
 own_first b code s rest = refl
-
-failed_is : (x : Option Failure) (t : Option ExpressionType) → Alike x t → failed (outcome x t) ≡ x
-failed_is (Some x) t h = refl
-failed_is None (Some t) h = refl
-failed_is None None h = cc
-
-or_nothing : (o : Option Failure) → or_else o None ≡ o
-or_nothing (Some x) = refl
-or_nothing None = refl
 
 module _ (c : Context) where
   -- what fails in an expression

@@ -1,6 +1,7 @@
 -- Items one by one, up to the body that is asked for.
-use Rattle.std.proofs.Common.{◌≡◌, ◌∙◌, ℕ, ◌+◌, suc, nat_eq, arith, Bool, true, false, List, [], ◌∷◌, drop, Option, Some, None, if◌then◌else◌, refl, sym, ap, ap₂, subst, eq-eqb, eqb-true}
+use Rattle.std.proofs.Common.{◌≡◌, ◌∙◌, ℕ, ◌+◌, suc, nat_eq, Bool, true, false, List, [], ◌∷◌, drop, Option, Some, None, if◌then◌else◌, refl, sym, ap, ap₂, subst, eq-eqb, eqb-true}
 use Rattle.tsa_base.specs.declared.token.Span.{Span}
+use Rattle.tsa_base.proofs.Numbers.{plus_one}
 use Rattle.tsa_tree.specs.declarations.Shapes.{head_shape}
 use Rattle.tsa_tree.specs.declarations.Syntax.{Head}
 use Rattle.tsa_tree.specs.declared.item.Item.{Item}
@@ -131,9 +132,6 @@ nowhere u function (Some s) there h = absurd cc
 pub at_later : (u : Unit) (function : ℕ) (o later : Option Site) (there : Knowledge) (i : Inside) → IsAt u function o there (Some i) → IsAt u function (or_later o later) there (Some i)
 at_later u function (Some s) later there i h = h
 at_later u function None later there i h = absurd h
-
-plus_one : (n : ℕ) → suc n ≡ n + 1
-plus_one n = omega arith
 
 module _ (u : Unit) (function : ℕ) (items : List Item) (i : ℕ) (k : Knowledge) where
   abbrev from : Knowledge → ℕ → Option Site

@@ -11,7 +11,8 @@ use Rattle.tsa_tree.specs.units.Syntax.{UnitItem, body_item}
 use Rattle.tsa_core.proofs.Laid.{front_at}
 use Rattle.tsa_core.specs.Programs.{Declared, bodied_function, declared_by, declared_functions, first_head}
 use Rattle.tsa_core.proofs.NoFailure.{none_of_both}
-use Rattle.tsa_profile.proofs.FunctionScopes.{Bodies, Means, Stands, TellsBody, body_told, one_meant}
+use Rattle.tsa_core.proofs.BodiesAgree.{Means}
+use Rattle.tsa_profile.proofs.FunctionScopes.{Bodies, Stands, TellsBody, body_told, one_meant}
 use Rattle.tsa_profile.proofs.PathTables as tables
 use Rattle.tsa_profile.proofs.PathTables.{Reads, bodies_behind, head_told, own_body, reads_on}
 

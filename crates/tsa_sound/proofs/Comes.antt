@@ -18,8 +18,8 @@ use Rattle.tsa_mean.specs.Outs.{Out, traps, reads, yields}
 use Rattle.tsa_mean.specs.States.{Work, calling, working}
 use Rattle.tsa_mean.specs.Operators.{converted_to, operate_on}
 use Rattle.tsa_mean.specs.Working.{Locals, filled, filled_all, local_at, lvalue, rvalue, rvalues}
+use Rattle.tsa_mean.proofs.Filling.{NoRead, operate_reads_none, or_trap_reads_none, read_of_first}
 use Rattle.tsa_sound.specs.FramesFit.{ArgsFit, SidesFit, WorkFits}
-use Rattle.tsa_sound.proofs.ReadsOf.{NoRead, operate_reads_none, or_trap_reads_none, read_of_first}
 
 -- nothing is called at the point, and its sides are being worked out
 pub record IsBare (call : Option Call) (work : Work) : Type 0 where

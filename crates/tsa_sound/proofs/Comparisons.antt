@@ -13,11 +13,12 @@ use Rattle.tsa_rules.specs.Effects.{same_answer}
 use Rattle.tsa_path.specs.Values.{is_true, of_truth}
 use Rattle.tsa_mean.specs.Frames.{outcome_of}
 use Rattle.tsa_mean.specs.Operators.{joined_with, operate_on, prefix_on}
-use Rattle.tsa_mean.specs.Outs.{Out, traps, reads, yields, bind}
+use Rattle.tsa_mean.specs.Outs.{yields, bind}
 use Rattle.tsa_mean.specs.Working.{Locals, local_at, rvalue}
 use Rattle.tsa_sound.specs.PartlyWorked.{IsWorked}
 use Rattle.tsa_sound.specs.SettledStatuses.{answer_held}
-use Rattle.tsa_sound.proofs.Tests.{IsBeside, as_int, as_null, as_unsigned, beside_is, held_number, never_yields, none_is_some, number, read_yields, same_some, same_yields}
+use Rattle.tsa_sound.proofs.Tests.{IsBeside, as_int, as_null, as_unsigned, beside_is, held_number, never_yields, none_is_some, number, same_some, same_yields}
+use Rattle.tsa_sound.proofs.Says.{bound}
 
 -- the outcome of a test, by the truth of its value
 abbrev pub Tells : Value → Condition → Bool → Type 0
@@ -82,12 +83,6 @@ unequal_right true false w v as_unsigned e = is_of (Int (pos 1)) v true e refl
 unequal_right false true w v as_unsigned e = is_of (Int (pos 1)) v true e refl
 unequal_right false false w v as_unsigned e = is_of (Int (pos 0)) v false e refl
 unequal_right a k w v as_null e = never_yields e
-
--- one after the other
-bound : {A B : Type 0} (out : Out A) (f : A → Out B) (b : B) → bind out f ≡ yields b → (a : A) × (out ≡ yields a) × (f a ≡ yields b)
-bound (yields a) f b e = (a, refl, e)
-bound (traps kind) f b e = never_yields e
-bound (reads place) f b e = read_yields e
 
 call_is_no_local : {n : ℕ} {A : Type 0} → the_call ≡ the_local n → A
 call_is_no_local e = absurd cc

@@ -4,10 +4,7 @@ use Rattle.std.proofs.lemmas.Bool.Decides.{nat_tests}
 use Rattle.std.specs.Prelude.{Contains, cond}
 use Rattle.tsa_core.specs.Control.{Edge, Outcome, Next, Yes, No, Rest, Chosen, edge, leaves_by, next_point, same_outcome}
 use Rattle.tsa_sound.proofs.Sums.{first_in, rest_in}
-
-both : (a b : Bool) → (a && b) ≡ true → (a ≡ true) × (b ≡ true)
-both true b e = (refl, e)
-both false b e = absurd cc
+use Rattle.tsa_base.proofs.Truths.{both}
 
 same_ints : (z w : ℤ) → (int_le z w && int_le w z) ≡ true → z ≡ w
 same_ints (pos m) (pos n) e = let p = both (int_le (pos m) (pos n)) (int_le (pos n) (pos m)) e in ap pos (let a = p.0 in let b = p.1 in grind (arith, nat_tests, a, b))

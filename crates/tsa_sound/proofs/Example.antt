@@ -1,11 +1,10 @@
 -- A unit that takes a lock meets all that the laws ask of a program.
-use Rattle.std.proofs.Common.{◌≡◌, ◌∙◌, ℕ, zero, suc, Bool, true, false, List, [], ◌∷◌, length, ◌≤◌, ◌^◌, Some, None, inl, option_and_then, slice_get, refl, ap, sym, subst, arith, leb-true}
-use Rattle.std.specs.Prelude.{All, AllPairs, Contains, IsSome}
-use Rattle.tsa_tree.specs.declared.attr.AttrKind.{AttrKind}
+use Rattle.std.proofs.Common.{◌≡◌, ◌∙◌, ℕ, zero, suc, Bool, true, false, List, [], ◌∷◌, length, ◌^◌, Some, None, inl, option_and_then, slice_get, refl, ap, sym, subst, leb-true}
+use Rattle.std.specs.Prelude.{All, IsSome}
 use Rattle.tsa_tree.specs.declared.attr.AttrKind.TheVariants as attr
 use Rattle.tsa_tree.specs.declared.kind.Kind.TheVariants as type
 use Rattle.tsa_way.specs.Ways.{Way}
-use Rattle.tsa_core.specs.Bodies.{Body, go_on}
+use Rattle.tsa_core.specs.Bodies.{go_on}
 use Rattle.tsa_core.specs.Meanings.{Call}
 use Rattle.tsa_core.specs.Programs.{Attr, Function}
 use Rattle.tsa_core.specs.Terms.{Term, address, answer}
@@ -22,18 +21,17 @@ use Rattle.tsa_mean.proofs.Worked.{turned}
 use Rattle.tsa_sound.specs.CallFacts.{CallFacts, first_pointed, of_lock}
 use Rattle.tsa_sound.specs.Examples.{ALockedWriteMeetsTheFacts, rows, sheet}
 use Rattle.tsa_sound.specs.BodyFacts.{AllLead, BodyFacts, MentionsParameters, SaysItsMode}
-use Rattle.tsa_sound.specs.Facts.{FunctionFacts, IsAmong, PointFacts, WritesUnder}
+use Rattle.tsa_sound.specs.Facts.{FunctionFacts, PointFacts, WritesUnder}
 use Rattle.tsa_sound.specs.FramesFit.{setting_behind, setting_with, stable_of}
 use Rattle.tsa_sound.specs.TermFacts.{AllFit, AllLoad, Loads, TermFits}
 use Rattle.tsa_sound.specs.PartlyWorked.{guard_ways, target_way}
 use Rattle.tsa_sound.proofs.Sums.{first_in}
 use Rattle.tsa_path.specs.Laws.{IsSmall}
-use Rattle.tsa_path.specs.Sameness.{same_way}
-use Rattle.tsa_rules.specs.Attributes.{claim_count}
 use Rattle.tsa_sound.proofs.Constants.{differ}
 use Rattle.tsa_sound.proofs.ExampleForms.{OfCall, OfSet, assigns, for_call, for_set, goes_next, joins, no_assign, no_call, no_declaration, no_join, nothing_loaded}
 use Rattle.tsa_sound.proofs.ExampleLayout.{laid_out}
 use Rattle.tsa_sound.proofs.Tests.{none_is_some, same_some}
+use Rattle.tsa_sound.proofs.ExampleCaller.{IsNamed, alone, has_path, no_body, none_claimed, one_named}
 
 -- the function, and its points
 abbrev w : Function
@@ -67,9 +65,6 @@ taken_attrs = refl
 given_attrs : ◌≡◌ {A = List Attr} (record { kind = attr.Release; success = false; path = Some (global 0) } ∷ []) (attrs_at locked_write w 2)
 unfolding worked
 given_attrs = refl
-
-has_path : (kind : AttrKind) → All (λ (a : Attr). IsSome a.path) (record { kind = kind; success = false; path = Some (global 0) } ∷ [])
-has_path kind = all_more (λ (a : Attr). IsSome a.path) (record { kind = kind; success = false; path = Some (global 0) }) [] refl (all_none (λ (a : Attr). IsSome a.path))
 
 -- the one argument leads to the lock
 first_argument : (k : ℕ) (x : Term) (w' : Way) → slice_get (address (term.global 0) ∷ []) k ≡ Some x → option_and_then as_pointer (given (Some (global 0) ∷ []) k) ≡ Some w'
@@ -228,18 +223,6 @@ points (suc (suc zero)) = giving
 points (suc (suc (suc zero))) = ending
 points (suc (suc (suc (suc p)))) = beyond p
 
-alone : AllPairs (λ c d. same_way c d ≡ false) (global 0 ∷ [])
-alone i j d less inside = absurd (omega (arith, less, inside))
-
-first_among : (c : Way) → Some (global 0) ≡ Some c → Contains (global 0 ∷ []) c
-first_among c e = subst (Contains (global 0 ∷ [])) (same_some e) (first_in (global 0) [])
-
-abbrev IsNamed : Attr → Type 0
-IsNamed a = IsAmong sheet.paths a.path
-
-one_named : (kind : AttrKind) → All IsNamed (record { kind = kind; success = false; path = Some (global 0) } ∷ [])
-one_named kind = all_more IsNamed (record { kind = kind; success = false; path = Some (global 0) }) [] first_among (all_none IsNamed)
-
 named : (p : ℕ) → All IsNamed (attrs_at locked_write w p)
 unfolding worked
 named zero = subst (All IsNamed) taken_attrs (one_named attr.Acquire)
@@ -267,9 +250,6 @@ leads (suc zero) c e = none_is_some e
 leads (suc (suc zero)) c e = for_call (λ c. AllLead (stable_of w.body) c.args (uses_at w 2).arguments) (point_at w 2).call giving_leads c e
 leads (suc (suc (suc zero))) c e = none_is_some e
 leads (suc (suc (suc (suc p)))) c e = none_is_some e
-
-none_claimed : (c : Way) → claim_count [] c ≤ 1
-none_claimed c = omega arith
 
 -- it has no attributes, no locals and no value
 body_facts : BodyFacts w
@@ -299,9 +279,6 @@ function_facts = record {
 few_places : IsSmall locked_write.layout
 unfolding worked
 few_places = leb-true (length locked_write.layout.places) (2 ^ 31) refl
-
-no_body : {A : Type 0} → IsSome {T = Body} None → A
-no_body h = absurd cc
 
 with_body : (n : ℕ) → IsSome (function_at locked_write n).body → FunctionFacts locked_write rows n
 unfolding worked

@@ -1,7 +1,6 @@
 -- A unit that hands a lock over to a function meets all that the laws ask of a program.
-use Rattle.std.proofs.Common.{ℕ, zero, suc, ◌≡◌, ◌^◌, length, None, refl, subst, leb-true}
+use Rattle.std.proofs.Common.{ℕ, zero, suc, ◌≡◌, ◌^◌, length, refl, subst, leb-true}
 use Rattle.std.specs.Prelude.{IsSome, slice_get}
-use Rattle.tsa_core.specs.Bodies.{Body}
 use Rattle.tsa_core.specs.Layouts.{structure_at}
 use Rattle.tsa_core.proofs.Worked.{worked}
 use Rattle.tsa_path.specs.Laws.{IsSmall}
@@ -11,7 +10,7 @@ use Rattle.tsa_sound.specs.Examples.{ACallMeetsTheFacts, call_rows, locked_call}
 use Rattle.tsa_sound.specs.Facts.{FunctionFacts}
 use Rattle.tsa_sound.specs.LaidOut.{LaidOut}
 use Rattle.tsa_sound.proofs.ExampleCallee.{callee_facts}
-use Rattle.tsa_sound.proofs.ExampleCaller.{caller_facts}
+use Rattle.tsa_sound.proofs.ExampleCaller.{caller_facts, no_body}
 use Rattle.tsa_sound.proofs.ExampleLayout.{Names, all_laid_out, layout, names_of}
 
 abbrev inner_names : Names
@@ -33,9 +32,6 @@ laid_out = subst LaidOut layout_is (all_laid_out inner_names lock_names number_n
 few_places : IsSmall locked_call.layout
 unfolding worked
 few_places = leb-true (length locked_call.layout.places) (2 ^ 31) refl
-
-no_body : {A : Type 0} → IsSome {T = Body} None → A
-no_body h = absurd cc
 
 with_body : (n : ℕ) → IsSome (function_at locked_call n).body → FunctionFacts locked_call call_rows n
 unfolding worked

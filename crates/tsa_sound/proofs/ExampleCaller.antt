@@ -67,7 +67,7 @@ given_attrs : ◌≡◌ {A = List Attr} (record { kind = attr.Release; success =
 unfolding worked
 given_attrs = refl
 
-has_path : (kind : AttrKind) → All (λ (a : Attr). IsSome a.path) (record { kind = kind; success = false; path = Some (global 0) } ∷ [])
+pub has_path : (kind : AttrKind) → All (λ (a : Attr). IsSome a.path) (record { kind = kind; success = false; path = Some (global 0) } ∷ [])
 has_path kind = all_more (λ (a : Attr). IsSome a.path) (record { kind = kind; success = false; path = Some (global 0) }) [] refl (all_none (λ (a : Attr). IsSome a.path))
 
 -- the one argument leads to the lock
@@ -90,7 +90,7 @@ taking_calls = record {
 }
 
 -- the function that is called has a body
-no_body : {A : Type 0} → IsSome {T = Body} None → A
+pub no_body : {A : Type 0} → IsSome {T = Body} None → A
 no_body h = absurd cc
 
 body_there : IsSome (function_at locked_call 2).body
@@ -271,16 +271,16 @@ points (suc (suc zero)) = giving
 points (suc (suc (suc zero))) = ending
 points (suc (suc (suc (suc p)))) = beyond p
 
-alone : AllPairs (λ c d. same_way c d ≡ false) (global 0 ∷ [])
+pub alone : AllPairs (λ c d. same_way c d ≡ false) (global 0 ∷ [])
 alone i j d less inside = absurd (omega (arith, less, inside))
 
 first_among : (c : Way) → Some (global 0) ≡ Some c → Contains (global 0 ∷ []) c
 first_among c e = subst (Contains (global 0 ∷ [])) (same_some e) (first_in (global 0) [])
 
-abbrev IsNamed : Attr → Type 0
+abbrev pub IsNamed : Attr → Type 0
 IsNamed a = IsAmong sheet.paths a.path
 
-one_named : (kind : AttrKind) → All IsNamed (record { kind = kind; success = false; path = Some (global 0) } ∷ [])
+pub one_named : (kind : AttrKind) → All IsNamed (record { kind = kind; success = false; path = Some (global 0) } ∷ [])
 one_named kind = all_more IsNamed (record { kind = kind; success = false; path = Some (global 0) }) [] first_among (all_none IsNamed)
 
 named : (p : ℕ) → All IsNamed (attrs_at locked_call w p)
@@ -311,7 +311,7 @@ leads (suc (suc zero)) c e = for_call (λ c. AllLead (stable_of w.body) c.args (
 leads (suc (suc (suc zero))) c e = none_is_some e
 leads (suc (suc (suc (suc p)))) c e = none_is_some e
 
-none_claimed : (c : Way) → claim_count [] c ≤ 1
+pub none_claimed : (c : Way) → claim_count [] c ≤ 1
 none_claimed c = omega arith
 
 -- it has no attributes, no locals and no value

@@ -3,6 +3,7 @@ use Rattle.std.proofs.Common.{◌≡◌, ◌∙◌, ℕ, zero, suc, pos, negsuc,
 use Rattle.std.specs.List.{list_any}
 use Rattle.std.specs.Prelude.{All, Contains, IsSome}
 use Rattle.tsa_base.specs.declared.value.Value.{Value}
+use Rattle.tsa_base.proofs.Truths.{or_right}
 use Rattle.tsa_tree.specs.declared.attr.AttrKind.{AttrKind}
 use Rattle.tsa_tree.specs.declared.attr.AttrKind.TheVariants as attr
 use Rattle.tsa_tree.specs.declared.kind.Kind.{Kind}
@@ -47,7 +48,7 @@ use Rattle.tsa_sound.proofs.Constants.{differ}
 use Rattle.tsa_sound.proofs.Deciding.{IsSettled, exclusive, free, lent, settled_is, shared}
 use Rattle.tsa_sound.proofs.HandedOver.{all_of, claim_is, join, names_own}
 use Rattle.tsa_sound.proofs.LocalsBegin.{scalar_served}
-use Rattle.tsa_sound.proofs.Mentioned.{or_left, or_right}
+use Rattle.tsa_sound.proofs.Mentioned.{or_left}
 use Rattle.tsa_sound.proofs.NewFrame.{none_held}
 use Rattle.tsa_sound.proofs.PlacesStand.{chained}
 use Rattle.tsa_sound.proofs.Says.{constant_value}

@@ -12,7 +12,6 @@ pub mod Comparisons
 pub mod Deciding
 pub mod Branches
 pub mod Says
-pub mod ReadsOf
 pub mod NextRead
 pub mod NoPointers
 pub mod PlacesStand

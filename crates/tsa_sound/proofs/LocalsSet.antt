@@ -49,7 +49,7 @@ set_local_at [] i v l = absurd (omega (arith, l))
 set_local_at (y ∷ ys) zero v l = refl
 set_local_at (y ∷ ys) (suc i) v l = set_local_at ys i v (omega (arith, l))
 
-neither : (a b : Bool) → (a || b) ≡ false → (a ≡ false) × (b ≡ false)
+pub neither : (a b : Bool) → (a || b) ≡ false → (a ≡ false) × (b ≡ false)
 neither true b e = differ (sym e)
 neither false b e = (refl, e)
 

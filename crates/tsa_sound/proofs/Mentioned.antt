@@ -2,6 +2,7 @@
 use Rattle.std.proofs.Common.{◌≡◌, ◌∙◌, ℕ, Bool, true, false, ◌||◌, List, [], ◌∷◌, Option, Some, None, option_map, option_and_then, if◌then◌else◌, refl, ap, eq-eqb}
 use Rattle.std.specs.List.{list_any}
 use Rattle.tsa_base.specs.declared.value.Value.{Value}
+use Rattle.tsa_base.proofs.Truths.{or_right}
 use Rattle.tsa_layout.specs.declared.evaluation.Spot.{Spot}
 use Rattle.tsa_layout.specs.declared.evaluation.Spot.TheVariants.{Place, Holds}
 use Rattle.tsa_way.specs.Ways.{Way}
@@ -15,10 +16,6 @@ use Rattle.tsa_rules.specs.Points.{is_index, is_rooted_at, mentions}
 pub or_left : (a b : Bool) → a ≡ true → (a || b) ≡ true
 or_left true b e = refl
 or_left false b e = cc
-
-pub or_right : (a b : Bool) → b ≡ true → (a || b) ≡ true
-or_right true b e = refl
-or_right false b e = e
 
 module _ (l : Layout) (f g : ℕ → Option Value) where
   step_alike : (step : PathStep) (spot : Spot) → ((n : ℕ) → is_index n step ≡ true → f n ≡ g n) → take_step l f step spot ≡ take_step l g step spot

@@ -11,9 +11,9 @@ use Rattle.tsa_sched.specs.declared.event.TrapKind.TheVariants as trap
 use Rattle.tsa_mean.specs.Operators.{converted_to, joined_with, prefix_on}
 use Rattle.tsa_mean.specs.Outs.{reads, yields, bind, or_trap}
 use Rattle.tsa_mean.specs.Working.{Locals, at_first, filled, filled_all, lvalue, rvalue, rvalues}
+use Rattle.tsa_mean.proofs.Filling.{ReadOf, join_read, no_trap, no_yield, or_trap_reads_none, prefix_reads_none, read_of, read_of_first, same_read}
 use Rattle.tsa_sound.specs.PartlyWorked.{AreWorked, IsOfKind, IsWorked, PointsAlong, target_way}
 use Rattle.tsa_sound.specs.TermFacts.{AllLoad, Loads}
-use Rattle.tsa_sound.proofs.ReadsOf.{ReadOf, join_read, no_trap, no_yield, or_trap_reads_none, prefix_reads_none, read_of, read_of_first, same_read}
 
 module _ (k : Setting) (stable : ℕ → Bool) (locals : Locals) (p : ℕ) where
   abbrev Worked : Term → Term → Type 0

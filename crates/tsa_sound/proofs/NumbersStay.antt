@@ -16,6 +16,7 @@ use Rattle.tsa_tree.specs.types.Arithmetic.{divided, exactly, int_of, is_int, on
 use Rattle.tsa_core.specs.Kinds.{binary_kind, prefix_kind}
 use Rattle.tsa_sound.specs.Facts.{IsWhole}
 use Rattle.tsa_sound.proofs.Constants.{both}
+use Rattle.tsa_base.proofs.Numbers.{small_remainder}
 
 -- a number in range, and its kind
 abbrev pub NumberFits : Number → Type 0
@@ -60,10 +61,6 @@ is_below n e = grind (arith, nat_tests, e)
 pub truth_fits : (b : Bool) → NumberFits (truth b)
 truth_fits true = int_pos 1 (omega arith)
 truth_fits false = int_pos 0 (omega arith)
-
-small_remainder : (n k : ℕ) → n % k ≤ n
-small_remainder n zero = omega arith
-small_remainder n (suc k) = omega arith
 
 small_quotient : (n k : ℕ) → n / suc k ≤ n
 small_quotient n k = omega arith

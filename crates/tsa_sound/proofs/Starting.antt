@@ -1,5 +1,5 @@
 -- Every start has the invariant: each thread begins with a function that asks nothing of its caller, and no lock is held.
-use Rattle.std.proofs.Common.{◌≡◌, ◌∙◌, ℕ, zero, suc, ◌+◌, ◌<◌, Bool, true, false, ◌||◌, ◌&&◌, List, [], ◌∷◌, length, map, Option, Some, None, option_and_then, slice_get, slice_index_or, refl, ap, sym, subst, arith}
+use Rattle.std.proofs.Common.{◌≡◌, ◌∙◌, ℕ, zero, suc, ◌+◌, ◌<◌, Bool, true, false, ◌&&◌, List, [], ◌∷◌, length, map, Option, Some, None, option_and_then, slice_get, slice_index_or, refl, ap, sym, subst, arith}
 use Rattle.std.specs.List.{list_any}
 use Rattle.std.specs.Prelude.{All, Contains, IsSome}
 use Rattle.tsa_base.specs.declared.value.Value.{Value}
@@ -44,11 +44,7 @@ use Rattle.tsa_sound.proofs.Mentioned.{leads_alike}
 use Rattle.tsa_sound.proofs.RunsSound.{runs_are_sound}
 use Rattle.tsa_sound.proofs.Sums.{first_in, free_hold, no_hold, rest_in}
 use Rattle.tsa_sound.proofs.Transfer.{found}
-
--- what holds of no element of a list
-neither : (a b : Bool) → (a || b) ≡ false → (a ≡ false) × (b ≡ false)
-neither true b e = differ (sym e)
-neither false b e = (refl, e)
+use Rattle.tsa_sound.proofs.LocalsSet.{neither}
 
 none_of : {A : Type 0} (p : A → Bool) (xs : List A) → list_any p xs ≡ false → (a : A) → Contains xs a → p a ≡ false
 none_of p [] e a (k, l, is) = absurd (omega (arith, l))

@@ -1,5 +1,5 @@
 -- Writes of cells: their guards are held alone, and the store stays well-typed.
-use Rattle.std.proofs.Common.{◌≡◌, ◌∙◌, ℕ, zero, suc, ◌<◌, nat_eq, Bool, true, false, not, ◌&&◌, ◌||◌, List, [], ◌∷◌, Option, Some, None, slice_get, slice_index_or, slice_set, refl, ap, sym, subst, eqb-true}
+use Rattle.std.proofs.Common.{◌≡◌, ◌∙◌, ℕ, ◌<◌, nat_eq, Bool, true, false, not, ◌&&◌, ◌||◌, List, Option, Some, None, slice_get, refl, ap, sym, subst, eqb-true}
 use Rattle.std.specs.Prelude.{All, Contains}
 use Rattle.tsa_base.specs.declared.value.Value.{Value}
 use Rattle.tsa_base.specs.declared.value.Value.TheVariants.{Int, Unsigned, Pointer}
@@ -34,6 +34,7 @@ use Rattle.tsa_mean.specs.Outs.{yields}
 use Rattle.tsa_mean.specs.Safe.{IsHeldAlone}
 use Rattle.tsa_mean.specs.States.{Frame, Holds, State, Work, working, running, holds_of, value_at, with_thread, with_value}
 use Rattle.tsa_mean.specs.Working.{lvalue, rvalue}
+use Rattle.tsa_mean.proofs.Lists.{set_keeps}
 use Rattle.tsa_sound.specs.Facts.{RightFits, FunctionFacts, PointFacts, WritesUnder}
 use Rattle.tsa_sound.specs.FramesFit.{IsWorkedLeft, OldFits, ProgramRows, SidesFit, WorkFits, function_of, paths_of, setting_with, stable_of, status_before, status_by}
 use Rattle.tsa_sound.specs.Invariant.{StackFits, ThreadFits}
@@ -55,14 +56,6 @@ use Rattle.tsa_sound.proofs.Says.{bound}
 use Rattle.tsa_sound.proofs.Tests.{same_some}
 use Rattle.tsa_sound.proofs.Threads.{before_turn, safe_by_act, set_here, turn_is, turned}
 use Rattle.tsa_sound.proofs.ValuesFit.{HasKind, conversion_has, operation_has, value_fits}
-
--- what holds of each element, and of the one that is set, holds after it is set
-set_keeps : {A : Type 0} (P : ℕ → A → Type 0) (xs : List A) (i : ℕ) (x d : A) → ((j : ℕ) → P j (slice_index_or xs j d)) → P i x → (j : ℕ) → P j (slice_index_or (slice_set xs i x) j d)
-set_keeps P [] i x d all new j = all j
-set_keeps P (y ∷ ys) zero x d all new zero = new
-set_keeps P (y ∷ ys) zero x d all new (suc j) = all (suc j)
-set_keeps P (y ∷ ys) (suc i) x d all new zero = all zero
-set_keeps P (y ∷ ys) (suc i) x d all new (suc j) = set_keeps (λ k. P (suc k)) ys i x d (λ k. all (suc k)) new j
 
 -- a value that serves where one of another kind is wanted
 allowed : (c d e : Bool) → (not c || d) ≡ true → (c || not e) ≡ true → (d || not e) ≡ true

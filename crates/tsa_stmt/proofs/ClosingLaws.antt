@@ -2,7 +2,6 @@
 use Rattle.std.proofs.Common.{ℕ, ◌+◌, ◌≡◌, ◌∙◌, Option, Some, None, ap, sym, subst, refl, List, [], ◌∷◌, ◌++◌, length, map, option_map, arith, Ok}
 use Rattle.std.proofs.lemmas.List.{length-append, length-map}
 use Rattle.std.specs.Borrow.{Bor}
-use mathlib.Core.Former.{Count}
 use Rattle.tsa_base.specs.declared.token.Span.{Span}
 use Rattle.tsa_base.specs.Tokens.{Lexeme}
 use Rattle.tsa_forms.proofs.Cases.{goes}
@@ -12,7 +11,7 @@ use Rattle.tsa_tree.specs.declared.stmt.Point.{Point}
 use Rattle.tsa_tree.specs.declared.stmt.Stmt.{Stmt}
 use Rattle.tsa_tree.specs.declared.stmt.StmtKind.{StmtKind, Row_of-Stmt, end_of-Stmt, more_of-Stmt, items-the_row-Stmt, items_hidden-the_row-Stmt-0}
 use Rattle.tsa_tree.specs.declared.stmt.StmtKind.TheVariants as kind
-use Rattle.tsa_tree.specs.declared.stmt.StmtKind.TheVariants.{Local, Eval, Assign, Block'}
+use Rattle.tsa_tree.specs.declared.stmt.StmtKind.TheVariants.{Local, Eval, Assign}
 use Rattle.tsa_tree.specs.expressions.Syntax.{Expression}
 use Rattle.tsa_tree.specs.points.Syntax.{PlacedDeed, tests, points_of, points_of_init, points_of_step, point_of_test, point_of_for}
 use Rattle.tsa_tree.specs.Rows.{a_keyword, a_semicolon}
@@ -20,6 +19,7 @@ use Rattle.tsa_tree.specs.expressions.Shapes.{shape}
 use Rattle.tsa_tree.specs.tokens.Signs.{Aliases, span_at, span_over}
 use Rattle.tsa_tree.specs.statements.Syntax.{Statement, do_loop, block, more}
 use Rattle.tsa_tree.specs.statements.Shapes.{stmt_shape, stmt_shapes, stmt_row_shape, point_shape, IsNumbered, AreNumbered, AreNumberedInRow, init_of, step_of, counted, MayBeFirst, MayBeThird}
+use Rattle.tsa_tree.proofs.statements.Trees.{row_of}
 use Rattle.tsa_expr.specs.declared.refusal.SyntaxRefusal.{SyntaxRefusal}
 use Rattle.tsa_expr.specs.Gives.{Fails}
 use Rattle.tsa_expr.proofs.Answering.{fails_then, fails_same}
@@ -192,10 +192,6 @@ row_shaped n (more_of-Stmt k point own rest) = ap (more (stmt_shape k own)) (row
 row_numbered : (n : _) (row : Row_of-Stmt n) (m : ℕ) → AreNumbered (items-the_row-Stmt n row) m → AreNumberedInRow row m
 row_numbered n end_of-Stmt m h = tt
 row_numbered n (more_of-Stmt k point own rest) m h = (h.0, row_numbered _ rest _ h.1)
-
-abbrev row_of : StmtKind → (n : Count) × Row_of-Stmt n
-row_of (Block' _ _ row) = (_, row)
-row_of _ = (_, end_of-Stmt)
 
 pub block_shaped : (items : Bor (List Stmt)) (span : Span) → stmt_shape (kind.Block items) span ≡ block (stmt_shapes items.now) span
 block_shaped items span =

@@ -32,7 +32,7 @@ tied_lists (x ∷ xs) (y ∷ ys) e =
 same_tie : (xs ys : List ℕ) → xs ≡ ys → slice_cmp nat_cmp xs ys ≡ Equal
 same_tie xs ys same = ap (slice_cmp nat_cmp xs) (sym same) ∙ tied_itself nat_list_cmp_total xs
 
-is_below : (a b : ℕ) → nat_cmp a b ≡ Less → a < b
+pub is_below : (a b : ℕ) → nat_cmp a b ≡ Less → a < b
 is_below a b e = ranked a b Less (sym e)
 
 below_is : (a b : ℕ) → a < b → nat_cmp a b ≡ Less

@@ -21,7 +21,7 @@ use Rattle.tsa_tree.specs.types.Operands.{integer_kind, common}
 use Rattle.tsa_tree.specs.types.Scopes.{Scope, context_of, known_in}
 use Rattle.tsa_core.specs.Meanings.{meaning, loaded, of_name, of_call, to_member, name_term}
 use Rattle.tsa_core.specs.Terms.{Sense}
-use Rattle.tsa_core.proofs.KindTests.{never, both_true, integer_plain, common_integer}
+use Rattle.tsa_core.proofs.KindTests.{both_true, integer_plain, common_integer}
 use Rattle.tsa_told.specs.declared.gist.Gist.{Gist}
 use Rattle.tsa_told.specs.declared.worth.Worth.{Worth}
 use Rattle.tsa_told.specs.declared.worth.Worth.TheVariants as worth
@@ -30,6 +30,7 @@ use Rattle.tsa_told.specs.Told as told
 use Rattle.tsa_told.specs.Worths.{worth_of, gist_of, number_behind, joined_worth, worth_beside, prefix_gist, binary_gist}
 use Rattle.tsa_told.proofs.Worths.{constant_is, loaded_is}
 use Rattle.tsa_told.proofs.Gists.{number_worth, unary_gist, binary_is}
+use Rattle.tsa_base.proofs.Truths.{never}
 
 -- what is made of constants, worked out
 abbrev made : Bool → Result Number Trap → Option (Result Number Trap)

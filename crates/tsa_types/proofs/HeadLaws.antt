@@ -14,7 +14,8 @@ use Rattle.tsa_resolve.specs.declared.refusal.TypeRefusal.{TypeRefusal}
 use Rattle.tsa_resolve.specs.Judged.{Judges}
 use Rattle.tsa_resolve.proofs.Steps.{first_append}
 use Rattle.tsa_resolve.proofs.SymbolLaws.{Notes, noted, noted_append, noted_first}
-use Rattle.tsa_data.proofs.Judging.{judged_some, judged_rest}
+use Rattle.tsa_resolve.proofs.Sequences.{judged_some}
+use Rattle.tsa_data.proofs.Judging.{judged_rest}
 
 module _ (here : Scope) (head : Head) (with_body : Bool) where
   -- the parts of its premises

@@ -1,20 +1,13 @@
 -- The names of items one by one.
-use Rattle.std.proofs.Common.{ℕ, ◌≡◌, ◌∙◌, ◌+◌, suc, arith, List, [], ◌∷◌, ◌++◌, drop, sym, ap}
+use Rattle.std.proofs.Common.{ℕ, ◌≡◌, ◌∙◌, ◌+◌, suc, List, [], ◌∷◌, drop, sym, ap}
 use Rattle.tsa_tree.specs.declared.item.Item.{Item}
 use Rattle.tsa_tree.specs.types.Scopes.{Scope}
 use Rattle.tsa_tree.specs.types.Symbols.{Names, names_in_item}
 use Rattle.tsa_tree.specs.types.Units.{behind_item, names_in_unit_items}
 use Rattle.tsa_tree.specs.units.Shapes.{item_shape, item_shapes}
-use Rattle.tsa_resolve.proofs.SymbolLaws.{Notes, noted, noted_append, noted_nothing}
-
-plus_one : (n : ℕ) → suc n ≡ n + 1
-plus_one n = omega arith
-
-step : (notes after : Notes) (own rest all : Names) → after ≡ noted notes own → all ≡ own ++ rest → noted after rest ≡ noted notes all
-step notes after own rest all is whole = ap (λ n. noted n rest) is ∙ sym (noted_append notes own rest) ∙ ap (noted notes) (sym whole)
-
-nothing : (notes : Notes) (all : Names) → all ≡ [] → noted notes all ≡ notes
-nothing notes all is = ap (noted notes) is ∙ noted_nothing notes
+use Rattle.tsa_resolve.proofs.SymbolLaws.{Notes, noted}
+use Rattle.tsa_base.proofs.Numbers.{plus_one}
+use Rattle.tsa_body.proofs.StatementNames.{nothing, step}
 
 module _ (notes : Notes) (here : Scope) (items : List Item) (i : ℕ) where
   abbrev items_from : Scope → ℕ → Names

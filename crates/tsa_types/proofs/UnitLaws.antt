@@ -1,5 +1,5 @@
 -- Items one by one, and functions with their bodies.
-use Rattle.std.proofs.Common.{ℕ, ◌≡◌, ◌∙◌, ◌+◌, suc, arith, Bool, true, false, List, [], ◌∷◌, drop, Option, Some, None, Err, Result, option_map, refl, sym, ap, subst}
+use Rattle.std.proofs.Common.{ℕ, ◌≡◌, ◌∙◌, ◌+◌, suc, Bool, true, false, List, [], ◌∷◌, drop, Option, Some, None, Err, Result, option_map, refl, sym, ap, subst}
 use Rattle.std.specs.Borrow.{Bor}
 use Rattle.std.specs.Prelude.{⊤, is_some}
 use Rattle.tsa_tree.specs.declared.item.FnTree.{FnTree}
@@ -23,11 +23,7 @@ use Rattle.tsa_tree.specs.types.Units.{outermost, body_premises, item_premises, 
 use Rattle.tsa_resolve.proofs.Sequences.{judges_some, judged_some, judged_rest}
 use Rattle.tsa_resolve.proofs.Steps.{first_append}
 use Rattle.tsa_resolve.proofs.SymbolLaws.{Notes, noted, noted_append}
-
-plus_one : (n : ℕ) → suc n ≡ n + 1
-plus_one n = omega arith
-
--- ITEMS
+use Rattle.tsa_base.proofs.Numbers.{plus_one}
 
 module _ (here : Scope) (items : List Item) (i : ℕ) where
   abbrev wrong_from : Scope → ℕ → Option Failure

@@ -36,11 +36,11 @@ use Rattle.tsa_use.specs.Failures.{failing, failing_arguments}
 use Rattle.tsa_use.specs.Values.{name_code, unled}
 use Rattle.tsa_use.proofs.Operands.{span_is}
 
-or_else_or_else : (a b c : Option Failure) → or_else (or_else a b) c ≡ or_else a (or_else b c)
+pub or_else_or_else : (a b c : Option Failure) → or_else (or_else a b) c ≡ or_else a (or_else b c)
 or_else_or_else None b c = refl
 or_else_or_else (Some f) b c = refl
 
-or_else_none : (a : Option Failure) → or_else a None ≡ a
+pub or_else_none : (a : Option Failure) → or_else a None ≡ a
 or_else_none None = refl
 or_else_none (Some f) = refl
 

@@ -5,7 +5,7 @@ use Rattle.tsa_seen.specs.declared.premise.Failure.{Failure}
 use Rattle.tsa_seen.specs.declared.premise.ProfileCode.{ProfileCode}
 use Rattle.tsa_seen.specs.Premises.{Premise, premise, or_else, failure_of, first}
 
-neither_fails : (a b : Option Failure) → or_else a b ≡ None → (a ≡ None) × (b ≡ None)
+pub neither_fails : (a b : Option Failure) → or_else a b ≡ None → (a ≡ None) × (b ≡ None)
 neither_fails (Some f) b h = absurd cc
 neither_fails None b h = (refl, h)
 

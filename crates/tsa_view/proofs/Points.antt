@@ -33,15 +33,12 @@ use Rattle.tsa_control.specs.Laws as site
 use Rattle.tsa_control.specs.Sites.{Site, within}
 use Rattle.tsa_way.specs.LockPaths.{stable_in}
 use Rattle.tsa_view.specs.Views.{number_called}
+use Rattle.tsa_profile.proofs.PathTables.{map_both}
 
 -- the attributes of what is called, by the call and by its function's number
 called_by_number : (known : List (List Attr)) (c : Option Call) → site.called_attributes known c ≡ called_attributes known (option_map (λ x. x.function) c)
 called_by_number known None = refl
 called_by_number known (Some c) = refl
-
-map_both : {A B C : Type 0} (f : B → C) (g : A → B) (xs : List A) → map f (map g xs) ≡ map (λ x. f (g x)) xs
-map_both f g [] = refl
-map_both f g (x ∷ xs) = ap (λ ys. f (g x) ∷ ys) (map_both f g xs)
 
 map_same : {A B : Type 0} (f g : A → B) (xs : List A) → ((x : A) → f x ≡ g x) → map f xs ≡ map g xs
 map_same f g [] h = refl

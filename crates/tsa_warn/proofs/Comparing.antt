@@ -13,7 +13,7 @@ use Rattle.tsa_rules.specs.declared.rule.Rule.TheVariants.{TS01, TS02, TS03, TS0
 use Rattle.tsa_rules.specs.Fails.{all_rules, rule_number}
 use Rattle.tsa_texts.specs.Orders.{IsToldBefore, texts_of}
 use Rattle.tsa_texts.specs.Ranks.{PathText, rank_in}
-use Rattle.tsa_texts.proofs.Telling.{one_is_told_first, ranks_follow_the_order}
+use Rattle.tsa_texts.proofs.Telling.{one_is_told_first, ranks_follow_the_order, is_below}
 use Rattle.tsa_failures.specs.declared.failure.RuleFailure.{RuleFailure}
 use Rattle.tsa_warn.specs.Comparisons.{failure_cmp}
 use Rattle.tsa_warn.specs.Orders.{Precedes, by_point, by_rule, by_path}
@@ -44,9 +44,6 @@ back TS12 = refl
 -- rules of one number are the same
 same_rule : (r s : Rule) → rule_number r ≡ rule_number s → r ≡ s
 same_rule r s same = let alike : Some r ≡ Some s = sym (back r) ∙ ap rule_at same ∙ back s in cc
-
-is_below : (a b : ℕ) → nat_cmp a b ≡ Less → a < b
-is_below a b e = ranked a b Less (sym e)
 
 is_same : (a b : ℕ) → nat_cmp a b ≡ Equal → a ≡ b
 is_same a b e = ranked a b Equal (sym e)

@@ -19,12 +19,12 @@ use Rattle.tsa_core.specs.Kinds.{Setting, Belongs}
 use Rattle.tsa_core.specs.Meanings.{as_kind, loaded, meaning, arguments, null_pointer}
 use Rattle.tsa_core.specs.Terms.{Term, constant, variable, answer, global, member, element, target, load, address, converted, prefixed, joined, Sense}
 use Rattle.tsa_core.specs.Uses.{argument_ways}
-use Rattle.tsa_core.proofs.KindTests.{never}
 use Rattle.tsa_core.proofs.TypedTerms.{some_same}
 use Rattle.tsa_path.specs.Substitution.{as_pointer, given, pointed_way}
 use Rattle.tsa_sound.specs.PartlyWorked as worked
 use Rattle.tsa_sound.specs.PartlyWorked.{further, local_way, place_way, target_way}
 use Rattle.tsa_accepted.proofs.terms.LedTerms.{Points, does}
+use Rattle.tsa_base.proofs.Truths.{never}
 
 -- A path that is one of a pointer as it stands: its root is a global, or it goes on from a local.
 abbrev IsPlain : Root → List PathStep → Type 0

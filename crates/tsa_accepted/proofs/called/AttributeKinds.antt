@@ -2,6 +2,7 @@
 use Rattle.std.proofs.Common.{◌≡◌, ◌⊎◌, inl, inr, ℕ, Bool, true, false, List, [], ◌∷◌, All, Option, refl, sym}
 use Rattle.std.proofs.lemmas.List.Elements.{All-append, All-cons, All-nil}
 use Rattle.tsa_base.specs.declared.token.Span.{Span}
+use Rattle.tsa_base.proofs.Truths.{never}
 use Rattle.tsa_tree.specs.attributes.Syntax.{Attribute}
 use Rattle.tsa_tree.specs.declared.attr.AttrKind.{AttrKind}
 use Rattle.tsa_tree.specs.declared.attr.AttrKind.TheVariants as attr
@@ -11,7 +12,6 @@ use Rattle.tsa_tree.specs.expressions.Syntax.{Arguments, none, more}
 use Rattle.tsa_tree.specs.types.Runnable.{change_of, changes, gives, gives_number, leaves, leaves_all, tries}
 use Rattle.tsa_tree.specs.types.Scopes.{Scope}
 use Rattle.tsa_core.specs.Programs.{Attr, attr_args, attrs_of}
-use Rattle.tsa_core.proofs.KindTests.{never}
 use Rattle.tsa_mean.specs.Acts.{changes_lock}
 use Rattle.tsa_rules.specs.Attributes as rules
 use Rattle.tsa_seen.specs.Locks as seen

@@ -1,5 +1,5 @@
 -- At each point of a body a function that is known by its name has the result and the parameters of the program's.
-use Rattle.std.proofs.Common.{Bool, false, true, ◌≡◌, ◌∙◌, ℕ, List, [], ◌∷◌, All, IfSome, map, Option, Some, None, option_map, slice_get, slice_index_or, sym, ap, subst}
+use Rattle.std.proofs.Common.{Bool, false, true, ◌≡◌, ◌∙◌, ℕ, List, [], ◌∷◌, All, IfSome, map, Option, Some, None, option_map, slice_get, slice_index_or, sym, subst}
 use Rattle.std.proofs.lemmas.List.Elements.{All-append, All-cons, All-nil}
 use Rattle.std.proofs.lemmas.Map.Entries.{All-lookup}
 use Rattle.std.specs.Str.{bytes_eq}
@@ -11,26 +11,17 @@ use Rattle.tsa_tree.specs.types.Locals.{behind_local, local_entry, unless_taken}
 use Rattle.tsa_tree.specs.types.Scopes.{Scope, found, further, is_taken, with_name}
 use Rattle.tsa_tree.specs.types.Units.{outset}
 use Rattle.tsa_tree.specs.units.Syntax.{UnitItem}
-use Rattle.tsa_lead.specs.Units.{placed_in}
 use Rattle.tsa_core.specs.Bodies.{known_in_body}
 use Rattle.tsa_core.specs.KindLaws.{signatures}
 use Rattle.tsa_core.specs.PointKinds.{Signatures}
-use Rattle.tsa_core.specs.Programs.{Bodied, Function, Program, bodied_function, declared_functions, function_in, layout_or_none, program_of}
+use Rattle.tsa_core.specs.Programs.{Bodied, Function, Program, bodied_function, program_of}
 use Rattle.tsa_core.proofs.CallsHold.{CallsFit}
 use Rattle.tsa_core.proofs.EachScope.{each_point}
-use Rattle.tsa_core.proofs.MappedLists.{map_at}
 use Rattle.tsa_core.proofs.ScopesAlike.{known_found}
-use Rattle.tsa_core.proofs.SignaturesFit.{AreOf, CallBy, NamesCall, unit_calls}
+use Rattle.tsa_core.proofs.SignaturesFit.{CallBy, NamesCall, unit_calls}
 use Rattle.tsa_core.proofs.TypedTerms.{some_same}
+use Rattle.tsa_core.proofs.PointsHold.{program_signatures}
 use Rattle.tsa_rules.specs.Points.{function_at, or_no_function}
-
--- the signatures of a program are those of the functions that its unit declares
-program_signatures : (items : List UnitItem) → AreOf (signatures (program_of items)) (declared_functions (outset items) items)
-unfolding program_of
-program_signatures items n d is =
-    let make = function_in (layout_or_none (placed_in items)) items in
-    let there = map_at make (declared_functions (outset items) items) n ∙ ap (option_map make) is in
-    (ap (option_map (λ f. f.result)) there, ap (option_map (λ f. map (λ t. t.kind) f.params)) there)
 
 module _ (sig : Signatures) where
   abbrev Calls : Scope → Type 0

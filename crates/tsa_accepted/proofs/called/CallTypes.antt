@@ -1,6 +1,7 @@
 -- What the answer of a call becomes where a value of a kind is wanted, and beside what it is compared with.
 use Rattle.std.proofs.Common.{◌≡◌, ℕ, pos, negsuc, nat_eq, Bool, true, false, ◌&&◌, ◌||◌, Option, Some, None, IsSome, option_and_then, is_none, is_some, if◌then◌else◌, refl, sym, ap, subst}
 use Rattle.tsa_base.specs.declared.value.Value.TheVariants.{Int, Unsigned, Pointer}
+use Rattle.tsa_base.proofs.Truths.{never, or_right}
 use Rattle.tsa_tree.specs.declared.expr.BinaryOp.{BinaryOp}
 use Rattle.tsa_tree.specs.declared.kind.ExpressionType.{ExpressionType}
 use Rattle.tsa_tree.specs.declared.kind.Kind.{Kind}
@@ -13,7 +14,7 @@ use Rattle.tsa_core.specs.Bodies.{declare, set_to}
 use Rattle.tsa_core.specs.Kinds.{scalar_kind}
 use Rattle.tsa_core.specs.Meanings.{as_kind, beside, is_int, loaded, null_pointer, of_type}
 use Rattle.tsa_core.specs.Terms.{Term, constant, variable, answer, global, member, element, target, load, address, converted, prefixed, joined, Sense}
-use Rattle.tsa_core.proofs.KindTests.{never, both_true, one_of, or_left, or_right, integer_is, pointer_plain}
+use Rattle.tsa_core.proofs.KindTests.{both_true, one_of, or_left, integer_is, pointer_plain}
 use Rattle.tsa_judge.specs.Expressions.{is_truth}
 use Rattle.tsa_rules.specs.Conditions as cond
 use Rattle.tsa_rules.specs.Conditions.{Condition, Subject, the_call, condition, condition_at, answer_in, answer_of, answer_beside, subject_in, yes_or_no}

@@ -1,6 +1,7 @@
 -- What is said of the call of a deed by typing, by running and by the profile.
 use Rattle.std.proofs.Common.{◌≡◌, ◌∙◌, ℕ, Bool, true, false, not, ◌&&◌, ◌||◌, List, [], ◌∷◌, Some, None, option_and_then, refl, sym, ap, ap₂}
 use Rattle.tsa_base.specs.declared.token.Span.{Span}
+use Rattle.tsa_base.proofs.Truths.{never}
 use Rattle.tsa_tree.specs.declared.expr.BinaryOp.TheVariants as op
 use Rattle.tsa_tree.specs.declared.expr.UnaryOp.TheVariants as prefix
 use Rattle.tsa_tree.specs.declared.kind.ExpressionType.{ExpressionType}
@@ -15,7 +16,7 @@ use Rattle.tsa_core.specs.Meanings.{Call, arguments, call_in, call_of, meaning, 
 use Rattle.tsa_core.specs.Terms.{answer, Sense}
 use Rattle.tsa_core.specs.Uses.{argument_ways, call_ways, called_ways}
 use Rattle.tsa_core.proofs.CallsHold.{call_called}
-use Rattle.tsa_core.proofs.KindTests.{never, neither, not_true}
+use Rattle.tsa_core.proofs.KindTests.{neither, not_true}
 use Rattle.tsa_core.proofs.TypedTerms.{some_same}
 use Rattle.tsa_core.proofs.ValuesServe.{no_call}
 use Rattle.tsa_seen.specs.Locks.{tries}

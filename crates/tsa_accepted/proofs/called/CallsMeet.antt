@@ -30,7 +30,6 @@ use Rattle.tsa_core.proofs.BodyScopes.{BeginsIn, unit_begins}
 use Rattle.tsa_core.proofs.CallsHold.{CallsFit}
 use Rattle.tsa_core.proofs.DeedsHold.{Facts}
 use Rattle.tsa_core.proofs.FactsKnown.{FactsAt, all_facts, each_both}
-use Rattle.tsa_core.proofs.KindTests.{never}
 use Rattle.tsa_core.proofs.KnownLocals.{NamesBelow, points_speak_of_known}
 use Rattle.tsa_core.proofs.MappedLists.{map_at, map_length}
 use Rattle.tsa_core.proofs.ScopesBelong.{Each, scopes_belong}
@@ -50,7 +49,6 @@ use Rattle.tsa_profile.proofs.KnownCalls.{Reaches}
 use Rattle.tsa_profile.proofs.UnitsRun.{profiles_are_runnable}
 use Rattle.tsa_sound.specs.CallFacts.{CallFacts, Declares, IsOutside, IsUnmentioned}
 use Rattle.tsa_accepted.specs.terms.Units.{IsInProfile}
-use Rattle.tsa_accepted.proofs.kept.HeadScopes.{names_parameters}
 use Rattle.tsa_accepted.proofs.kept.StablePaths.{attrs_fine, attrs_unmentioned}
 use Rattle.tsa_accepted.specs.called.Laws.{CallsHaveTheirFacts}
 use Rattle.tsa_accepted.proofs.called.ArgumentsLead.{arguments_lead}
@@ -64,6 +62,8 @@ use Rattle.tsa_accepted.proofs.called.PlacedPoints as placing
 use Rattle.tsa_accepted.proofs.called.PlacedPoints.{Judged, PlacedAt, attributes_same, declared_there, function_declared, placed_at, reaches, unit_judged}
 use Rattle.tsa_accepted.proofs.called.ScopesMoved.{belongs_moved, facts_moved, points_have_more, points_know_below, scope_moved}
 use Rattle.tsa_accepted.proofs.called.TryNumbers.{declared_at_point, other_variable, try_numbered}
+use Rattle.tsa_accepted.proofs.entered.HeadScopes.{names_parameters}
+use Rattle.tsa_base.proofs.Truths.{never}
 
 module _ (items : List UnitItem) (l : Layout) (in_profile : IsInProfile items l) (n : ℕ) (d : Declared) (b : Bodied)
     (declared : slice_get (declared_functions (outset items) items) n ≡ Some d) (bodied : bodied_function d.head.name.text (outset items) items ≡ Some b)

@@ -1,6 +1,7 @@
 -- What is said of the call in a condition, and of what it is compared with.
 use Rattle.std.proofs.Common.{◌≡◌, ◌∙◌, Bool, true, false, not, ◌&&◌, ◌||◌, ◌++◌, Option, Some, None, IsSome, is_some, refl, sym, ap, ap₂, subst}
 use Rattle.tsa_base.specs.declared.token.Span.{Span}
+use Rattle.tsa_base.proofs.Truths.{never}
 use Rattle.tsa_tree.specs.declared.expr.BinaryOp.{BinaryOp}
 use Rattle.tsa_tree.specs.declared.expr.BinaryOp.TheVariants as op
 use Rattle.tsa_tree.specs.declared.expr.UnaryOp.TheVariants as prefix
@@ -20,7 +21,7 @@ use Rattle.tsa_core.specs.Meanings.{Call, beside, call_in, loaded, meaning, or_c
 use Rattle.tsa_core.specs.Terms.{Term, answer, joined, prefixed}
 use Rattle.tsa_core.specs.Uses.{argument_ways, call_ways}
 use Rattle.tsa_core.proofs.CallsHold.{call_whole}
-use Rattle.tsa_core.proofs.KindTests.{never, both_true, neither, not_false, not_true, one_of, scalar_is}
+use Rattle.tsa_core.proofs.KindTests.{both_true, neither, not_false, not_true, one_of, scalar_is}
 use Rattle.tsa_core.proofs.KindsOfTerms.{of_one, of_two, typed}
 use Rattle.tsa_core.proofs.SetsHold.{passes_typed}
 use Rattle.tsa_core.proofs.TypedTerms.{some_same}

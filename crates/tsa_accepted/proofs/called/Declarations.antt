@@ -21,12 +21,7 @@ use Rattle.tsa_argument.proofs.NoneFails.{none_of_both}
 use Rattle.tsa_judge.specs.Bodies.{points_premises}
 use Rattle.tsa_judge.specs.Units as profile
 use Rattle.tsa_judge.specs.Units.{around, attributes_behind, heads_premises, points_in, refusal_of_profile, tries_limits, paths_limits, unit_of}
-
-split_first : {A : Type 0} (xs ys : List A) (P : A → Type 0) → ((n : ℕ) (x : A) → slice_get xs n ≡ Some x → P x) → ((n : ℕ) (x : A) → slice_get ys n ≡ Some x → P x)
-    → (n : ℕ) (x : A) → slice_get (xs ++ ys) n ≡ Some x → P x
-split_first [] ys P h g n x e = g n x e
-split_first (y ∷ xs) ys P h g zero x e = h 0 x e
-split_first (y ∷ xs) ys P h g (suc n) x e = split_first xs ys P (λ k z f. h (suc k) z f) g n x e
+use Rattle.tsa_accepted.proofs.entered.HeadScopes.{split_first}
 
 module _ (all : List UnitItem) where
   -- A first declaration: no structs' members are known by their names there, its name is new, and nothing fails.

@@ -1,6 +1,7 @@
 -- What the laws of calls ask of the deed that calls.
 use Rattle.std.proofs.Common.{◌≡◌, ◌∙◌, ℕ, Bool, true, false, not, ◌&&◌, List, Option, Some, None, is_some, refl, sym, ap, subst}
 use Rattle.tsa_base.specs.declared.token.Span.{Span}
+use Rattle.tsa_base.proofs.Truths.{never}
 use Rattle.tsa_tree.specs.declarations.Syntax.{Initialiser, value, list}
 use Rattle.tsa_tree.specs.declared.expr.BinaryOp.{BinaryOp}
 use Rattle.tsa_tree.specs.declared.kind.Kind.{Kind}
@@ -28,7 +29,7 @@ use Rattle.tsa_core.specs.Terms.{Term}
 use Rattle.tsa_core.specs.Uses.{argument_ways, call_ways, init_uses, uses_by, value_uses}
 use Rattle.tsa_core.proofs.DeedsHold.{Facts}
 use Rattle.tsa_core.proofs.DeedsTold.{init_told, set_told}
-use Rattle.tsa_core.proofs.KindTests.{never, both_true, neither, not_false, or_left, integer_is}
+use Rattle.tsa_core.proofs.KindTests.{both_true, neither, not_false, or_left, integer_is}
 use Rattle.tsa_core.proofs.KindsOfTerms.{typed}
 use Rattle.tsa_core.proofs.NoFailure.{keeps_typed}
 use Rattle.tsa_core.proofs.SetsHold.{passes_typed, right_integer}

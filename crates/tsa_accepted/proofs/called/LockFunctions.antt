@@ -24,7 +24,7 @@ use Rattle.tsa_way.specs.Ways.{Way}
 use Rattle.tsa_core.specs.Calls.{Layout}
 use Rattle.tsa_core.specs.Programs.{Attr, attr_args, attrs_of, bodied_function, function_of, stable_locals, succeeds}
 use Rattle.tsa_core.proofs.BodyScopes.{head_types, kind_kept, small_kept}
-use Rattle.tsa_core.proofs.KindTests.{never, both_true, no_length, not_true}
+use Rattle.tsa_core.proofs.KindTests.{both_true, no_length, not_true}
 use Rattle.tsa_core.proofs.NoFailure as typing
 use Rattle.tsa_core.proofs.UnitScopes.{declared_told}
 use Rattle.tsa_rules.specs.Attributes as rules
@@ -38,6 +38,7 @@ use Rattle.tsa_judge.specs.Units.{unit_of, view_of}
 use Rattle.tsa_sound.specs.CallFacts.{IsOutside, first_pointed, of_lock}
 use Rattle.tsa_accepted.proofs.called.LockParameters.{known_last, parameter_way}
 use Rattle.tsa_accepted.proofs.called.AttributeKinds.{change_is}
+use Rattle.tsa_base.proofs.Truths.{never}
 
 record IsPointer (t : ThingType) : Type 0 where
   struct : ℕ

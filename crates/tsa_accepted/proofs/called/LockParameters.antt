@@ -15,10 +15,10 @@ use Rattle.tsa_way.specs.LockPaths.{Led, as_lock, is_address, is_pointer, leads,
 use Rattle.tsa_way.specs.Ways.{Way, from, onward}
 use Rattle.tsa_way.specs.declared.path.PathStep.TheVariants.{Follow}
 use Rattle.tsa_way.specs.declared.path.Root.TheVariants.{Local}
-use Rattle.tsa_core.proofs.KindTests.{never}
 use Rattle.tsa_core.proofs.ScopesAlike.{known_found}
 use Rattle.tsa_core.proofs.UnitScopes.{or_other, found_append}
 use Rattle.tsa_sound.specs.CallFacts.{first_pointed}
+use Rattle.tsa_base.proofs.Truths.{never}
 
 -- a name that is new is known as it was declared last
 none_found : {A : Type 0} (o : Option A) → is_some o ≡ false → o ≡ None

@@ -5,7 +5,7 @@ use Rattle.std.specs.List.{list_any}
 use Rattle.tsa_way.specs.Ways.{Way}
 use Rattle.tsa_core.specs.Bodies.{Known}
 use Rattle.tsa_core.specs.Programs.{Attr}
-use Rattle.tsa_core.proofs.KindTests.{neither, never}
+use Rattle.tsa_core.proofs.KindTests.{neither}
 use Rattle.tsa_core.proofs.ScopesBelong.{Each}
 use Rattle.tsa_core.proofs.TypedTerms.{some_same}
 use Rattle.tsa_path.specs.Substitution.{substituted}
@@ -13,6 +13,7 @@ use Rattle.tsa_rules.specs.Attributes as rules
 use Rattle.tsa_rules.specs.Attributes.{all_as_called, as_called}
 use Rattle.tsa_seen.specs.Locks.{lacks_path, tries}
 use Rattle.tsa_accepted.proofs.called.AttributeKinds.{same_test}
+use Rattle.tsa_base.proofs.Truths.{never}
 
 -- what holds of all points holds of one
 pub each_at : (P : Known → Type 0) (ks : List Known) (n : ℕ) (k : Known) → Each P ks → slice_get ks n ≡ Some k → P k

@@ -12,7 +12,7 @@ use Rattle.tsa_tree.specs.types.DeclaredTypes.{thing_type}
 use Rattle.tsa_tree.specs.types.Heads as heads
 use Rattle.tsa_tree.specs.types.Heads.{inside}
 use Rattle.tsa_tree.specs.types.Premises as types
-use Rattle.tsa_tree.specs.types.Runnable.{first_runs, has_body, is_environment, is_lock_function, kind_runs, leaves_all, takes_integers}
+use Rattle.tsa_tree.specs.types.Runnable.{first_runs, has_body, is_environment, is_lock_function, kind_runs, leaves_all, takes_integers, is_generic}
 use Rattle.tsa_tree.specs.types.Scopes.{Scope, found}
 use Rattle.tsa_tree.specs.types.Units.{outset}
 use Rattle.tsa_tree.specs.units.Syntax.{UnitItem}
@@ -20,12 +20,12 @@ use Rattle.tsa_way.specs.LockPaths.{stable_in}
 use Rattle.tsa_way.specs.Ways.{Way}
 use Rattle.tsa_core.specs.Calls.{Layout}
 use Rattle.tsa_core.specs.Programs.{Attr, Bodied, Declared, attr_args, attrs_of, bodied_function, function_of, stable_locals}
-use Rattle.tsa_core.proofs.KindTests.{never, both_true, neither, one_of}
+use Rattle.tsa_core.proofs.KindTests.{both_true, neither, one_of}
 use Rattle.tsa_rules.specs.Attributes as rules
 use Rattle.tsa_seen.specs.Locks as seen
 use Rattle.tsa_seen.specs.Premises.{first}
 use Rattle.tsa_seen.specs.declared.premise.ProfileCode.TheVariants.{PF6, PF7}
-use Rattle.tsa_argument.specs.Declarations.{attribute_arguments, attribute_premises, is_generic, is_int, is_nothing, misfits, param_premises, tries_otherwise, ways_behind}
+use Rattle.tsa_argument.specs.Declarations.{attribute_arguments, attribute_premises, is_int, is_nothing, misfits, param_premises, tries_otherwise, ways_behind}
 use Rattle.tsa_argument.proofs.NoneFails.{none_of_both, none_of_first}
 use Rattle.tsa_judge.specs.Expressions.{View}
 use Rattle.tsa_judge.specs.Units.{unit_of, view_of}
@@ -35,6 +35,7 @@ use Rattle.tsa_accepted.proofs.called.CallTypes.{clash}
 use Rattle.tsa_accepted.proofs.called.Declarations.{First, bodied_is}
 use Rattle.tsa_accepted.proofs.called.AttributeKinds.{Leaves, attrs_leave, no_change_no_try, number_given, same_test}
 use Rattle.tsa_accepted.proofs.called.LockFunctions.{lock_outside}
+use Rattle.tsa_base.proofs.Truths.{never}
 
 module _ (all : List UnitItem) (here : Scope) (known : List (List Attr)) (with_body : Bool) (owned : here.owned ≡ []) (l : Layout) where
   -- a function without a body

@@ -4,14 +4,15 @@ use Rattle.std.proofs.lemmas.List.Folds.{find_at}
 use Rattle.std.specs.List.{cons_option, list_any}
 use Rattle.tsa_core.specs.Bodies.{Point}
 use Rattle.tsa_core.specs.Programs.{Function, Program}
-use Rattle.tsa_core.proofs.KindTests.{never}
 use Rattle.tsa_core.proofs.TypedTerms.{some_same}
 use Rattle.tsa_rules.specs.Points.{begins, declaration_of, is_a_try, local_begun, points_of, try_number, try_variable_at, try_variables}
 use Rattle.tsa_rules.specs.TryVariables.{AreInOrder, IsNext, begun_count}
-use Rattle.tsa_rules.proofs.Possible.{itself, listed}
+use Rattle.tsa_rules.proofs.Possible.{listed}
+use Rattle.tsa_base.proofs.Numbers.{itself}
+use Rattle.tsa_base.proofs.Truths.{never}
 
 -- A local is declared at one point.
-begins_later : (n : ℕ) (points : List Point) → AreInOrder n points → (p m : ℕ) (y : Point) → slice_get points p ≡ Some y → local_begun y.action ≡ Some m → n ≤ m
+pub begins_later : (n : ℕ) (points : List Point) → AreInOrder n points → (p m : ℕ) (y : Point) → slice_get points p ≡ Some y → local_begun y.action ≡ Some m → n ≤ m
 begins_later n [] h p m y at e = absurd cc
 begins_later n (x ∷ points) h zero m y at e =
     let same : x ≡ y = cc in
@@ -108,7 +109,7 @@ from_filter {A = A} {B = B} f (x ∷ xs) w b e = by (f x) refl w e (λ v h. from
     by (Some c) is zero h deeper = let same : c ≡ b = cc in (0, (x, (refl, is ∙ ap (λ y. Some y) same)))
     by (Some c) is (suc w) h deeper = let z = deeper w h in (suc z.0, z.1)
 
-tried_and_begun : (b : Bool) (o : Option ℕ) (m : ℕ) → (if b then o else None) ≡ Some m → (b ≡ true) × (o ≡ Some m)
+pub tried_and_begun : (b : Bool) (o : Option ℕ) (m : ℕ) → (if b then o else None) ≡ Some m → (b ≡ true) × (o ≡ Some m)
 tried_and_begun true o m e = (refl, e)
 tried_and_begun false o m e = absurd cc
 

@@ -31,7 +31,7 @@ use Rattle.tsa_core.specs.Kinds.{Setting, Belongs}
 use Rattle.tsa_core.specs.Meanings.{arguments, as_kind, is_int, loaded, meaning, null_pointer, of_name, of_number}
 use Rattle.tsa_core.specs.Terms.{Term, constant, variable, answer, global, member, element, target, load, address, converted, prefixed, joined, Sense}
 use Rattle.tsa_core.specs.Uses.{argument_ways}
-use Rattle.tsa_core.proofs.KindTests.{never, both_true, neither, not_false}
+use Rattle.tsa_core.proofs.KindTests.{both_true, neither, not_false}
 use Rattle.tsa_core.proofs.TypedTerms.{some_same}
 use Rattle.tsa_path.proofs.ArgumentPaths.{Chosen, chosen}
 use Rattle.tsa_rules.specs.Conditions as told
@@ -40,6 +40,7 @@ use Rattle.tsa_told.proofs.Constants.{terms_have_the_values}
 use Rattle.tsa_sound.specs.BodyFacts.{AllLead, ArgumentLeads, IsOfLocal, IsOfNumber, LeadsAlong}
 use Rattle.tsa_sound.specs.PartlyWorked.{followed, further, index_step, local_way, place_way, target_way}
 use Rattle.tsa_accepted.proofs.terms.LedTerms.{does}
+use Rattle.tsa_base.proofs.Truths.{never}
 
 -- WHERE POINTERS LEAD
 

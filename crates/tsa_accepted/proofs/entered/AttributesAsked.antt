@@ -12,9 +12,10 @@ use Rattle.tsa_tree.specs.points.Syntax.{expression_span}
 use Rattle.tsa_tree.specs.types.Attributes as types
 use Rattle.tsa_tree.specs.types.Attributes.{attributes_premises, lock_premises, stands_on}
 use Rattle.tsa_tree.specs.types.Premises as typing
+use Rattle.tsa_tree.specs.types.Runnable.{is_generic}
 use Rattle.tsa_way.specs.Ways.{Way}
 use Rattle.tsa_core.specs.Programs.{Attr, attr_args, attrs_of}
-use Rattle.tsa_core.proofs.KindTests.{both_true, never, neither, not_false, or_left, or_right}
+use Rattle.tsa_core.proofs.KindTests.{both_true, neither, not_false, or_left}
 use Rattle.tsa_core.proofs.NoFailure as typed
 use Rattle.tsa_path.specs.PathTables.{is_known}
 use Rattle.tsa_path.specs.Sameness.{same_way}
@@ -24,10 +25,11 @@ use Rattle.tsa_seen.specs.Locks.{is_try}
 use Rattle.tsa_seen.specs.Premises.{first, premise}
 use Rattle.tsa_seen.specs.declared.premise.ProfileCode.TheVariants.{PF1, PF2, PF7, PF9}
 use Rattle.tsa_seen.specs.declared.standing.Standing.TheVariants.{Inside}
-use Rattle.tsa_argument.specs.Declarations.{argument, attribute_arguments, attribute_premises, is_among, is_call, is_generic, is_int, is_named_once, is_order, misfits, way, ways_behind, with_way}
+use Rattle.tsa_argument.specs.Declarations.{argument, attribute_arguments, attribute_premises, is_among, is_call, is_int, is_named_once, is_order, misfits, way, ways_behind, with_way}
 use Rattle.tsa_argument.proofs.NoneFails.{none_of_both, none_of_first}
 use Rattle.tsa_judge.specs.Expressions.{View, own, parts}
 use Rattle.tsa_sound.specs.BodyFacts.{SaysItsMode}
+use Rattle.tsa_base.proofs.Truths.{never, or_right}
 
 -- on functions stands no order of locks
 no_order : (kind : AttrKind) → stands_on kind on.Function ≡ true → is_order kind ≡ false

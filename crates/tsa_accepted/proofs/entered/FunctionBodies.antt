@@ -1,10 +1,8 @@
 -- Functions with bodies of accepted units may be called.
-use Rattle.std.proofs.Common.{◌≡◌, ◌∙◌, ℕ, ◌≤◌, Bool, true, false, ◌||◌, List, [], ◌∷◌, ◌++◌, length, map, All, Option, Some, None, option_map, slice_get, refl, sym, ap, subst}
+use Rattle.std.proofs.Common.{◌≡◌, ◌∙◌, ℕ, ◌≤◌, Bool, true, false, List, [], ◌∷◌, ◌++◌, length, map, All, Option, Some, None, option_map, slice_get, refl, sym, ap, subst}
 use Rattle.std.proofs.lemmas.List.Elements.{All-head, All-tail}
 use Rattle.std.specs.List.{list_any}
 use Rattle.tsa_tree.specs.declarations.Syntax.{Head}
-use Rattle.tsa_tree.specs.declared.attr.AttrKind.{AttrKind}
-use Rattle.tsa_tree.specs.declared.attr.AttrKind.TheVariants as attr
 use Rattle.tsa_tree.specs.declared.kind.Kind.{Kind}
 use Rattle.tsa_tree.specs.declared.kind.Kind.TheVariants as type
 use Rattle.tsa_tree.specs.declared.kind.Declaring.TheVariants as declaring
@@ -26,9 +24,9 @@ use Rattle.tsa_core.specs.KindLaws.{kinds_of}
 use Rattle.tsa_core.specs.Kinds.{scalar_kind}
 use Rattle.tsa_core.specs.Programs.{Attr, Bodied, Declared, Function, attrs_of, bodied_function, body_in, declared_functions, function_of, stable_locals}
 use Rattle.tsa_core.proofs.BodiesAgree.{bodies_agree}
-use Rattle.tsa_core.proofs.BodyScopes.{SameTypes, body_types, head_types, through}
+use Rattle.tsa_core.proofs.BodyScopes.{SameTypes, body_types, head_types, through, other_way}
 use Rattle.tsa_core.proofs.EachScope.{each_point}
-use Rattle.tsa_core.proofs.KindTests.{never, one_of}
+use Rattle.tsa_core.proofs.KindTests.{one_of}
 use Rattle.tsa_core.proofs.LaidScopes.{kind_written}
 use Rattle.tsa_core.proofs.MappedLists.{map_at, map_length}
 use Rattle.tsa_core.proofs.NoFailure as typed
@@ -54,27 +52,8 @@ use Rattle.tsa_accepted.proofs.entered.HeadScopes.{names_parameters}
 use Rattle.tsa_accepted.proofs.entered.JudgedHeads.{BodyJudged, HeadJudged, body_has, body_name, body_judged, heads_judged, one_function}
 use Rattle.tsa_accepted.proofs.entered.ParametersMentioned.{attributes_mention}
 use Rattle.tsa_accepted.proofs.entered.ScalarLocals.{AreWritten, both_scalar, declared_scalar, params_scalar, result_written, written_further, written_local}
-
--- the two tests of kinds are one
-same_test : (kind : AttrKind) → rules.is_try kind ≡ is_try kind
-same_test attr.TryAcquire = refl
-same_test attr.TryAcquireShared = refl
-same_test attr.Requires = refl
-same_test attr.RequiresShared = refl
-same_test attr.Acquire = refl
-same_test attr.AcquireShared = refl
-same_test attr.Release = refl
-same_test attr.ReleaseShared = refl
-same_test attr.ReleaseGeneric = refl
-same_test attr.Excludes = refl
-same_test attr.GuardedBy = refl
-same_test attr.AcquiredBefore = refl
-same_test attr.AcquiredAfter = refl
-same_test attr.Capability = refl
-
-same_tries : (attrs : List Attr) → list_any (λ a. rules.is_try a.kind) attrs ≡ tries attrs
-same_tries [] = refl
-same_tries (a ∷ attrs) = ap (λ b. b || list_any (λ a. rules.is_try a.kind) attrs) (same_test a.kind) ∙ ap (λ b. is_try a.kind || b) (same_tries attrs)
+use Rattle.tsa_accepted.proofs.kept.TryLocals.{same_tries}
+use Rattle.tsa_base.proofs.Truths.{never}
 
 -- a function that tries gives an `int`
 int_kind : (kind : Kind) → is_int kind ≡ true → kind ≡ type.Int
@@ -118,10 +97,6 @@ head_asked here v head bodied h =
     let x = none_of_first PF6 head.name.span (is_nothing [] here head bodied) (param_premises here head.params ++ attributes) h in
     let y = none_of_both (param_premises here head.params) attributes x.1 in
     record { params = y.0; attributes = y.1 }
-
--- scopes with the same types, the other way round
-other_way : (s t : Scope) → SameTypes s t → SameTypes t s
-other_way s t h = record { tags = sym h.tags; aliases = λ span name. sym (h.aliases span name) }
 
 module _ (items : List UnitItem) (l : Layout) (in_profile : IsInProfile items l) (n : ℕ) (d : Declared) (b : Bodied)
     (at : slice_get (declared_functions (outset items) items) n ≡ Some d) (body_at : bodied_function d.head.name.text (outset items) items ≡ Some b)

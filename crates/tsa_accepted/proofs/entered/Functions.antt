@@ -11,7 +11,6 @@ use Rattle.tsa_core.specs.Calls.{Layout}
 use Rattle.tsa_core.specs.Programs.{Bodied, Declared, Function, Program, bodied_function, declared_functions, function_in, function_of, layout_or_none, program_of}
 use Rattle.tsa_core.proofs.BodyScopes.{BeginsIn, unit_begins}
 use Rattle.tsa_core.proofs.FactsKnown.{FactsAt, all_facts, each_both}
-use Rattle.tsa_core.proofs.KindTests.{never}
 use Rattle.tsa_core.proofs.MappedLists.{map_at}
 use Rattle.tsa_core.proofs.ScopesBelong.{Each}
 use Rattle.tsa_core.proofs.SignaturesFit.{SoundBody, body_sound}
@@ -19,6 +18,7 @@ use Rattle.tsa_lead.specs.Units.{placed_in}
 use Rattle.tsa_profile.proofs.UnitsRun.{profiles_are_runnable}
 use Rattle.tsa_rules.specs.Points.{function_at, or_no_function}
 use Rattle.tsa_accepted.specs.terms.Units.{IsInProfile}
+use Rattle.tsa_base.proofs.Truths.{never}
 
 -- A function of a unit, with its declaration and its body.
 pub record MadeFunction (items : List UnitItem) (l : Layout) (n : ℕ) (f : Function) : Type 0 where

@@ -1,83 +1,20 @@
 -- The names of a function's attributes stand for no local but its parameters.
-use Rattle.std.proofs.Common.{◌≡◌, ◌∙◌, ℕ, ℤ, zero, suc, ◌+◌, ◌+ℤ◌, pos, ◌<◌, ◌≤◌, arith, Bool, true, false, List, [], ◌∷◌, ◌++◌, length, slice_get, IfSome, Option, Some, None, is_some, refl, ap, subst}
-use Rattle.std.proofs.lemmas.List.Elements.{All-append, All-nil}
+use Rattle.std.proofs.Common.{◌≡◌, ◌∙◌, ℕ, zero, suc, ◌<◌, arith, Bool, true, false, List, [], ◌∷◌, ◌++◌, length, slice_get, IfSome, Option, Some, None, is_some, refl, ap, subst}
+use Rattle.std.proofs.lemmas.List.Elements.{All-nil}
 use Rattle.std.proofs.lemmas.Map.Entries.{All-lookup}
 use Rattle.std.specs.Str.{bytes_eq}
-use Rattle.tsa_tree.specs.declarations.Syntax.{EnumConstant, Parameter, Head}
-use Rattle.tsa_tree.specs.declared.kind.Kind.TheVariants as type
+use Rattle.tsa_tree.specs.declarations.Syntax.{Head}
 use Rattle.tsa_tree.specs.declared.kind.ThingType.{ThingType}
 use Rattle.tsa_tree.specs.declared.meaning.Entry.{Entry}
-use Rattle.tsa_tree.specs.declared.meaning.Meaning.{Meaning}
 use Rattle.tsa_tree.specs.declared.meaning.Meaning.TheVariants as meant
-use Rattle.tsa_tree.specs.expressions.Syntax.{Identifier}
-use Rattle.tsa_tree.specs.types.DeclaredTypes.{thing_type}
-use Rattle.tsa_tree.specs.types.Enums.{enumerator_entry, enumerator_value, behind_enumerators}
-use Rattle.tsa_tree.specs.types.Globals.{global_entry}
-use Rattle.tsa_tree.specs.types.Heads.{function_entry, bodied, again, behind_known, behind_head, local_entry, with_param, inside_params, inside}
-use Rattle.tsa_tree.specs.types.Scopes.{Scope, FunctionEntry, found, known_in, with_name, with_named, with_struct, a_type_name}
-use Rattle.tsa_tree.specs.types.Structs.{members_behind}
-use Rattle.tsa_tree.specs.types.Types.{single}
+use Rattle.tsa_tree.specs.types.Heads.{behind_head, inside}
+use Rattle.tsa_tree.specs.types.Scopes.{Scope, found, known_in}
 use Rattle.tsa_tree.specs.types.Units.{outset, behind_item}
 use Rattle.tsa_tree.specs.units.Syntax.{UnitItem, structure_item, alias_item, enumeration_item, global_item, function_item, body_item}
 use Rattle.tsa_core.specs.Laws.{IsBelow}
 use Rattle.tsa_core.specs.Programs.{Declared, declared_by, declared_functions, first_head, unless_known}
-use Rattle.tsa_core.proofs.KnownLocals.{NamesBelow, names_more, one_name}
-
--- The locals among the names that are known have numbers below one.
-abbrev Below : ℕ → Scope → Type 0
-Below n here = NamesBelow n here.names
-
-name_below : (n : ℕ) (here : Scope) (name : List ℕ) (e : Entry) → IsBelow n e.meaning → Below n here → Below n (with_name name e here)
-name_below n here name e is h = All-append (λ x. IsBelow n x.1.meaning) here.names ((name, e) ∷ []) h (one_name n name e is)
-
-named_below : (n : ℕ) (here : Scope) (name : Option Identifier) (e : Entry) → IsBelow n e.meaning → Below n here → Below n (with_named name e here)
-named_below n here None e is h = h
-named_below n here (Some name) e is h = name_below n here name.text e is h
-
--- no item makes a local known
-module _ (n : ℕ) where
-  enumerators_below : (here : Scope) (next : ℤ) (values : List EnumConstant) → Below n here → Below n (behind_enumerators here next values)
-  unfolding behind_enumerators
-  enumerators_below here next [] h = h
-  enumerators_below here next (e ∷ rest) h =
-      enumerators_below (with_name e.name.text (enumerator_entry (enumerator_value here e next)) here) (enumerator_value here e next +ℤ pos 1) rest
-      (name_below n here e.name.text (enumerator_entry (enumerator_value here e next)) tt h)
-
-  bodied_below : (here : Scope) (with_body : Bool) (k : ℕ) (o : Option FunctionEntry) → Below n here → Below n (bodied here with_body k o)
-  bodied_below here with_body k None h = h
-  bodied_below here with_body k (Some f) h = h
-
-  again_below : (here : Scope) (head : Head) (with_body : Bool) (m : Meaning) → Below n here → Below n (again here head with_body m)
-  again_below here head with_body (meant.Function k) h = bodied_below here with_body k (slice_get here.functions k) h
-  again_below here head with_body (meant.Global k) h = h
-  again_below here head with_body (meant.Local k) h = h
-  again_below here head with_body meant.Owned h = h
-  again_below here head with_body (meant.Constant z) h = h
-  again_below here head with_body meant.TypeName h = h
-
-  known_below : (here : Scope) (head : Head) (with_body : Bool) (o : Option Entry) → Below n here → Below n (behind_known here head with_body o)
-  known_below here head with_body None h = name_below n here head.name.text (function_entry here head (length here.functions)) tt h
-  known_below here head with_body (Some e) h = again_below here head with_body e.meaning h
-
-  head_below : (here : Scope) (head : Head) (with_body : Bool) → Below n here → Below n (behind_head here head with_body)
-  head_below here head with_body h = known_below here head with_body (found here.names head.name.text) h
-
-  item_below : (here : Scope) (item : UnitItem) → Below n here → Below n (behind_item here item)
-  item_below here (structure_item tag alias attrs members span) h =
-      named_below n (with_struct (members_behind here [] members) here) alias (a_type_name (single (type.Structure (length here.structs)) false)) tt h
-  item_below here (alias_item name ctype span) h = name_below n here name.text (a_type_name (thing_type here ctype)) tt h
-  item_below here (enumeration_item tag alias values span) h =
-      named_below n (behind_enumerators here (pos 0) values) alias (a_type_name (single type.Int false)) tt (enumerators_below here (pos 0) values h)
-  item_below here (global_item d) h = name_below n here d.name.text (global_entry here d) tt h
-  item_below here (function_item head) h = head_below here head false h
-  item_below here (body_item head body close) h = head_below here head true h
-
--- the parameters are the first locals
-params_below : (end : ℕ) (here : Scope) (n : ℕ) (params : List Parameter) → n + length params ≤ end → Below end here → Below end (inside_params here n params)
-unfolding inside_params
-params_below end here n [] le h = h
-params_below end here n (p ∷ rest) le h =
-    params_below end (with_param n p here) (suc n) rest (omega (arith, le)) (named_below end here p.name (local_entry here n p.ctype) (omega (arith, le)) h)
+use Rattle.tsa_core.proofs.KnownLocals.{names_more}
+use Rattle.tsa_core.proofs.Beginnings.{Below, head_below, item_below, params_below}
 
 inside_below : (here : Scope) (head : Head) (with_body : Bool) → Below 0 here → Below (length head.params) (inside here head with_body)
 inside_below here head with_body h =
@@ -85,7 +22,7 @@ inside_below here head with_body h =
     (names_more 0 (length head.params) (behind_head here head with_body).names (omega arith) (head_below 0 here head with_body h))
 
 -- at a function's first declaration no local is known
-split_first : {A : Type 0} (xs ys : List A) (P : A → Type 0) → ((n : ℕ) (x : A) → slice_get xs n ≡ Some x → P x) → ((n : ℕ) (x : A) → slice_get ys n ≡ Some x → P x)
+pub split_first : {A : Type 0} (xs ys : List A) (P : A → Type 0) → ((n : ℕ) (x : A) → slice_get xs n ≡ Some x → P x) → ((n : ℕ) (x : A) → slice_get ys n ≡ Some x → P x)
     → (n : ℕ) (x : A) → slice_get (xs ++ ys) n ≡ Some x → P x
 split_first [] ys P h g n x e = g n x e
 split_first (y ∷ xs) ys P h g zero x e = h 0 x e

@@ -20,6 +20,7 @@ use Rattle.tsa_core.specs.Programs.{Attr, Bodied, Declared, bodied_by, bodied_fu
 use Rattle.tsa_core.proofs.MappedLists.{map_at}
 use Rattle.tsa_core.proofs.NoFailure as typed
 use Rattle.tsa_core.proofs.TypedTerms.{some_same}
+use Rattle.tsa_core.proofs.BodiesAgree.{Means}
 use Rattle.tsa_lead.proofs.Laid.{front_at}
 use Rattle.tsa_seen.specs.Locks.{tries}
 use Rattle.tsa_seen.specs.Premises.{first}
@@ -28,7 +29,7 @@ use Rattle.tsa_judge.specs.Bodies.{Around, points_premises}
 use Rattle.tsa_judge.specs.Points.{placed_all}
 use Rattle.tsa_judge.specs.Units as profile
 use Rattle.tsa_judge.specs.Units.{Unit, around, attributes_behind, attributes_by, heads_premises, points_in, unit_of}
-use Rattle.tsa_profile.proofs.FunctionScopes.{Bodies, Means, Stands, body_told, one_meant}
+use Rattle.tsa_profile.proofs.FunctionScopes.{Bodies, Stands, body_told, one_meant}
 use Rattle.tsa_profile.proofs.PathTables.{Reads, bodies_behind, head_told, none_came_yet, own_body, reads_on}
 
 -- a name that has a body has one

@@ -14,10 +14,11 @@ use Rattle.tsa_way.specs.declared.path.PathStep.TheVariants.{Constant, Field, Fo
 use Rattle.tsa_way.specs.declared.path.Root.{Root}
 use Rattle.tsa_way.specs.declared.path.Root.TheVariants.{Global, Local, Owner}
 use Rattle.tsa_core.specs.Programs.{attr_args, attrs_of}
-use Rattle.tsa_core.proofs.KindTests.{never, one_of}
+use Rattle.tsa_core.proofs.KindTests.{one_of}
 use Rattle.tsa_accepted.proofs.laid.Mentions.{AreFine, IsFine, IsFineIfAny, IsFineRoot, way_fine}
 use Rattle.tsa_rules.specs.Points.{is_index, is_rooted_at, mentions}
 use Rattle.tsa_sound.specs.BodyFacts.{MentionsParameters}
+use Rattle.tsa_base.proofs.Truths.{never}
 
 module _ (count : ℕ) where
   abbrev Fine : ℕ → Type 0

@@ -21,7 +21,7 @@ use Rattle.tsa_core.specs.Kinds.{scalar_kind}
 use Rattle.tsa_core.proofs.BodyScopes.{SameTypes, kind_kept, small_kept, through, with_no_type, with_param_types}
 use Rattle.tsa_core.proofs.DeedsTold.{init_told}
 use Rattle.tsa_core.proofs.FactsKnown.{FactsAt}
-use Rattle.tsa_core.proofs.KindTests.{both_true, never, not_false, not_true}
+use Rattle.tsa_core.proofs.KindTests.{both_true, not_false, not_true}
 use Rattle.tsa_core.proofs.LaidScopes.{is_written_kind}
 use Rattle.tsa_core.proofs.NoFailure as typed
 use Rattle.tsa_core.proofs.ScopesBelong.{Each}
@@ -31,6 +31,7 @@ use Rattle.tsa_seen.specs.declared.premise.ProfileCode.TheVariants.{PF4}
 use Rattle.tsa_argument.specs.Declarations.{param_premises}
 use Rattle.tsa_argument.proofs.NoneFails.{none_of_first}
 use Rattle.tsa_sound.specs.BodyFacts.{IsScalar}
+use Rattle.tsa_base.proofs.Truths.{never}
 
 -- a kind that is written is a number's or a pointer's, where it is small and not void
 scalar_written : (kind : Kind) → is_scalar_kind kind ≡ true → is_nothing kind ≡ false → is_written_kind kind ≡ true → IsScalar kind

@@ -1,25 +1,19 @@
 -- At no point of a body are more locals known than were declared before it in the text.
-use Rattle.std.proofs.Common.{◌≡◌, ◌∙◌, ℕ, ◌+◌, ◌≤◌, arith, Bool, true, false, List, [], ◌∷◌, ◌++◌, length, Option, Some, None, refl, ap}
+use Rattle.std.proofs.Common.{◌≡◌, ◌∙◌, ℕ, ◌+◌, ◌≤◌, arith, List, [], ◌∷◌, ◌++◌, length, Option, Some, None, ap}
 use Rattle.std.proofs.lemmas.Grind.{flat_map-append}
 use Rattle.std.proofs.lemmas.List.{length-append}
-use Rattle.tsa_tree.specs.declarations.Syntax.{Declaration}
 use Rattle.tsa_tree.specs.declared.kind.Kind.TheVariants as type
 use Rattle.tsa_tree.specs.points.Syntax.{Deed, declares, tests, switches, jumps, idles, returns, ends, simple_deed}
 use Rattle.tsa_tree.specs.statements.Syntax.{Simple, ForInit, no_init, simple_init, local_init, Statement, block, empty, local, simple, if_alone, if_else, while_loop, do_loop, for_loop, switch, case, otherwise, label, break, continue, goto, return, Statements, none, more}
-use Rattle.tsa_tree.specs.types.Locals.{local_entry, unless_taken}
-use Rattle.tsa_tree.specs.types.Scopes.{Scope, further, is_taken}
+use Rattle.tsa_tree.specs.types.Scopes.{Scope, further}
 use Rattle.tsa_tree.specs.types.Statements.{behind, behind_init}
 use Rattle.tsa_tree.specs.types.Targets.{declared_by_init, declared_in, declared_in_all}
 use Rattle.tsa_core.specs.Bodies.{Known, knows, known_in_body, known_init, known_step, known, known_all, kinds_by, kinds_declared}
-use Rattle.tsa_core.proofs.LocalLists.{locals_are_listed}
+use Rattle.tsa_core.proofs.LocalLists.{locals_are_listed, behind_locals, declared_at, init_locals}
 
 abbrev pub AreCounted : ℕ → List Known → Type 0
 AreCounted n [] = Unit {0}
 AreCounted n (k ∷ ks) = (k.here.locals ≤ n) × AreCounted (n + length (kinds_by k.here k.deed)) ks
-
--- how many locals some points declare
-abbrev declared_at : List Known → ℕ
-declared_at ks = length (kinds_declared ks)
 
 both : (ks js : List Known) → declared_at (ks ++ js) ≡ declared_at ks + declared_at js
 both ks js = ap length (flat_map-append (λ k. kinds_by k.here k.deed) ks js) ∙ length-append (kinds_declared ks) (kinds_declared js)
@@ -32,35 +26,6 @@ declares_as here s =
     let one : declared_at ((known here s ++ []) ++ knows here ends ∷ []) ≡ declared_at (known here s ++ []) + 0 = both (known here s ++ []) (knows here ends ∷ []) in
     let two : declared_at (known here s ++ []) ≡ declared_at (known here s) + 0 = both (known here s) [] in
     omega (arith, listed, one, two)
-
-unless_locals : (here : Scope) (d : Declaration) (taken : Bool) → (further 1 (unless_taken taken d.name.text (local_entry here d) here)).locals ≡ here.locals + 1
-unless_locals here d true = refl
-unless_locals here d false = refl
-
-behind_locals : (here : Scope) (s : Statement) → (behind here s).locals ≡ here.locals + declared_in s
-unfolding behind declared_in
-behind_locals here (local d) = unless_locals here d (is_taken d.name.text here)
-behind_locals here (block items span) = refl
-behind_locals here (empty span) = refl
-behind_locals here (simple s) = refl
-behind_locals here (if_alone test arm span) = refl
-behind_locals here (if_else test arm other span) = refl
-behind_locals here (while_loop test body span) = refl
-behind_locals here (do_loop body test span) = refl
-behind_locals here (for_loop init test step body span) = refl
-behind_locals here (switch key body span) = refl
-behind_locals here (case key body span) = refl
-behind_locals here (otherwise body span) = refl
-behind_locals here (label name body span) = refl
-behind_locals here (break span) = refl
-behind_locals here (continue span) = refl
-behind_locals here (goto name span) = refl
-behind_locals here (return e span) = refl
-
-init_locals : (here : Scope) (init : ForInit) → (behind_init here init).locals ≡ here.locals + declared_by_init init
-init_locals here no_init = omega arith
-init_locals here (simple_init s) = omega arith
-init_locals here (local_init d) = unless_locals here d (is_taken d.name.text here)
 
 -- counts go on
 more_counted : (n m : ℕ) (ks : List Known) → n ≤ m → AreCounted n ks → AreCounted m ks

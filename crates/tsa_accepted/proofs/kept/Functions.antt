@@ -6,8 +6,9 @@ use Rattle.tsa_tree.specs.units.Syntax.{UnitItem}
 use Rattle.tsa_core.specs.Bodies.{known_in_body}
 use Rattle.tsa_core.specs.Calls.{Layout}
 use Rattle.tsa_core.specs.Leading.{HasPlaces}
-use Rattle.tsa_core.specs.Programs.{Bodied, Declared, Function, Program, bodied_function, declared_functions, function_in, function_of, layout_or_none, program_of}
+use Rattle.tsa_core.specs.Programs.{Bodied, Declared, Function, Program, bodied_function, declared_functions, function_in, function_of, program_of}
 use Rattle.tsa_core.proofs.MappedLists.{map_at, map_length}
+use Rattle.tsa_core.proofs.ProgramKinds.{program_layout}
 use Rattle.tsa_rules.specs.Points.{function_at, or_no_function, points_of}
 use Rattle.tsa_judge.specs.Units.{refusal_of_profile}
 use Rattle.tsa_profile.specs.Paths.{paths_of}
@@ -68,10 +69,6 @@ units_keep_their_rows items u same quiet n body =
 bodied_one : (l : Layout) (d : Declared) (o : Option Bodied) (f : Function) → function_of l d o ≡ f → IsSome f.body → (b : Bodied) × (o ≡ Some b)
 bodied_one l d None f same h = let none : IsSome (function_of l d None).body = subst (λ g. IsSome g.body) (sym same) h in absurd cc
 bodied_one l d (Some b) f same h = (b, refl)
-
-pub program_layout : (items : List UnitItem) (l : Layout) → HasPlaces items l → (program_of items).layout ≡ l
-unfolding program_of
-program_layout items l placed = ap layout_or_none placed
 
 set_apart : (items : List UnitItem) (l : Layout) → first_failing items ≡ None → HasPlaces items l → refusal_of_profile items ≡ None
     → (n : ℕ) (f : Function) → slice_get (program_of items).functions n ≡ Some f → IsSome f.body → (p : ℕ)

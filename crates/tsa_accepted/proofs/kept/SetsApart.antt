@@ -1,5 +1,5 @@
 -- What a point sets is mentioned by no path that has to stay as it is.
-use Rattle.std.proofs.Common.{◌≡◌, ◌∙◌, ℕ, zero, suc, ◌+◌, ◌<◌, ◌≤◌, arith, nat_eq, eqb-true, Bool, true, false, List, [], ◌∷◌, length, map, All, Contains, filter_map, Option, Some, None, option_map, slice_get, if◌then◌else◌, refl, sym, ap, subst}
+use Rattle.std.proofs.Common.{◌≡◌, ◌∙◌, ℕ, zero, suc, ◌+◌, ◌<◌, ◌≤◌, arith, nat_eq, eqb-true, Bool, true, false, List, [], ◌∷◌, length, map, All, Contains, filter_map, Option, Some, None, option_map, slice_get, refl, sym, ap, subst}
 use Rattle.std.specs.List.{cons_option}
 use Rattle.tsa_tree.specs.declarations.Syntax.{Declaration, Initialiser, value, list}
 use Rattle.tsa_tree.specs.declared.expr.BinaryOp.{BinaryOp}
@@ -33,10 +33,11 @@ use Rattle.tsa_profile.specs.Paths.{paths_of}
 use Rattle.tsa_sound.specs.Facts.{IsUnmentioned, set_by}
 use Rattle.tsa_accepted.proofs.laid.Laying.{places_are_laid_out}
 use Rattle.tsa_accepted.specs.kept.Laws.{SetsApart}
-use Rattle.tsa_accepted.proofs.kept.HeadScopes.{names_parameters}
 use Rattle.tsa_accepted.proofs.kept.SetLocals.{at_index, set_changes}
 use Rattle.tsa_accepted.proofs.kept.StablePaths.{attrs_fine, attrs_unmentioned, own_stay, unstable_unmentioned}
 use Rattle.tsa_accepted.proofs.kept.TryLocals.{tries_stay}
+use Rattle.tsa_accepted.proofs.called.TryNumbers.{begins_later, tried_and_begun}
+use Rattle.tsa_accepted.proofs.entered.HeadScopes.{names_parameters}
 
 -- What a point sets: a local that it assigns, or one that it declares without a call.
 data IsSet (at : Point) (n : ℕ) : Type 0 where
@@ -98,17 +99,6 @@ declares_local result k (returns None) is n e = absurd cc
 declares_local result k (returns (Some x)) is n e = absurd cc
 declares_local result k ends is n e = absurd cc
 
--- A local is declared at one point.
-begins_later : (n : ℕ) (points : List Point) → AreInOrder n points → (p m : ℕ) (y : Point) → slice_get points p ≡ Some y → local_begun y.action ≡ Some m → n ≤ m
-begins_later n [] h p m y at e = absurd cc
-begins_later n (x ∷ points) h zero m y at e =
-    let same : x ≡ y = cc in
-    let next : m ≡ n = subst (IsNext n) (ap (λ z. local_begun z.action) same ∙ e) h.0 in
-    omega (arith, next)
-begins_later n (x ∷ points) h (suc p) m y at e =
-    let more = begins_later (n + begun_count (local_begun x.action)) points h.1 p m y at e in
-    omega (arith, more)
-
 never_again : (n : ℕ) (points : List Point) (x : Point) → AreInOrder n (x ∷ points) → (p m : ℕ) (y : Point) → slice_get points p ≡ Some y
     → local_begun y.action ≡ Some m → local_begun x.action ≡ Some m → ⊥
 never_again n points x h p m y at e f =
@@ -140,10 +130,6 @@ from_filter {A = A} {B = B} f (x ∷ xs) w b e = by (f x) refl w e (λ v h. from
     by None is w h deeper = let z = deeper w h in (suc z.0, z.1)
     by (Some c) is zero h deeper = let same : c ≡ b = cc in (0, (x, (refl, is ∙ ap (λ y. Some y) same)))
     by (Some c) is (suc w) h deeper = let z = deeper w h in (suc z.0, z.1)
-
-tried_and_begun : (b : Bool) (o : Option ℕ) (m : ℕ) → (if b then o else None) ≡ Some m → (b ≡ true) × (o ≡ Some m)
-tried_and_begun true o m e = (refl, e)
-tried_and_begun false o m e = absurd cc
 
 different : (m n : ℕ) → (m ≡ n → ⊥) → nat_eq m n ≡ false
 different m n h = by (nat_eq m n) refl

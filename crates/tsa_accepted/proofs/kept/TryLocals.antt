@@ -76,7 +76,7 @@ same_test attr.AcquiredBefore = refl
 same_test attr.AcquiredAfter = refl
 same_test attr.Capability = refl
 
-same_tries : (attrs : List Attr) → list_any (λ a. rules.is_try a.kind) attrs ≡ tries attrs
+pub same_tries : (attrs : List Attr) → list_any (λ a. rules.is_try a.kind) attrs ≡ tries attrs
 same_tries [] = refl
 same_tries (a ∷ attrs) = ap (λ b. b || list_any (λ a. rules.is_try a.kind) attrs) (same_test a.kind) ∙ ap (λ b. is_try a.kind || b) (same_tries attrs)
 

@@ -14,6 +14,7 @@ use Rattle.tsa_core.proofs.Asking.{element_alone, none_is_none}
 use Rattle.tsa_core.proofs.Laid.{IsLaid}
 use Rattle.tsa_core.proofs.Pieces.{at_row, row_at, thing_at}
 use Rattle.tsa_core.proofs.Rows.{Object, PieceAt, Row, Thing, object_alone, object_element, object_place}
+use Rattle.tsa_lead.proofs.TextsAlong.{none_around}
 
 -- With enough steps all is listed that a place lies in.
 nothing_around : (l : Layout) (n m : ℕ) → around l n None ≡ around l m None
@@ -22,11 +23,6 @@ nothing_around l zero zero = refl
 nothing_around l zero (suc m) = refl
 nothing_around l (suc n) zero = refl
 nothing_around l (suc n) (suc m) = refl
-
-none_around : (l : Layout) (n : ℕ) → around l n None ≡ []
-unfolding around
-none_around l zero = refl
-none_around l (suc n) = refl
 
 -- a later element is no array's first
 element_later : (l : Layout) (o i j : ℕ) (p : Placed) → slice_get l.places o ≡ Some p → p.index ≡ Some (suc j) → element_place l o i ≡ None

@@ -1,9 +1,7 @@
 -- The places of a unit are laid out as it declares them.
-use Rattle.std.proofs.Common.{◌≡◌, ◌∙◌, ℕ, zero, suc, ◌<◌, arith, Bool, true, false, ◌||◌, List, [], ◌∷◌, ◌++◌, Option, Some, None, option_and_then, option_map, slice_get, Result, Ok, refl, sym, ap, subst}
-use Rattle.tsa_base.specs.declared.token.Span.{Span}
+use Rattle.std.proofs.Common.{◌≡◌, ◌∙◌, ℕ, zero, suc, ◌<◌, arith, Bool, true, false, ◌||◌, List, [], ◌∷◌, ◌++◌, Option, Some, None, option_and_then, option_map, slice_get, refl, sym, ap, subst}
 use Rattle.tsa_tree.specs.declared.kind.Kind.{Kind}
 use Rattle.tsa_tree.specs.declared.kind.Kind.TheVariants as type
-use Rattle.tsa_tree.specs.types.Scopes.{Scope}
 use Rattle.tsa_tree.specs.types.Units.{outset}
 use Rattle.tsa_tree.specs.units.Syntax.{UnitItem}
 use Rattle.tsa_way.specs.Ways.{Way}
@@ -11,37 +9,21 @@ use Rattle.tsa_core.specs.Calls.{Layout, element_place, guards_by, guards_of, me
 use Rattle.tsa_core.specs.FillUnits.{no_places}
 use Rattle.tsa_core.specs.Holder.{Holder}
 use Rattle.tsa_core.specs.Holder.TheVariants.{Global, Member}
-use Rattle.tsa_core.specs.Items.{behind_data}
 use Rattle.tsa_core.specs.Layouts.{Part, kind_size, size_of, structure_at}
 use Rattle.tsa_core.specs.Leading.{HasPlaces, leads_to}
 use Rattle.tsa_core.specs.Placed.{Placed}
 use Rattle.tsa_core.specs.Places.{has_some}
-use Rattle.tsa_core.specs.Units.{data_placed, or_behind, placed_behind, too_many_at}
 use Rattle.tsa_core.proofs.Asking.{none_is_none, same_some}
 use Rattle.tsa_core.proofs.Laid.{IsLaid, unit_laid}
 use Rattle.tsa_core.proofs.Pieces.{at_row, element_is, row_at}
 use Rattle.tsa_core.proofs.Rows.{PieceAt, Row, Thing}
 use Rattle.tsa_lead.proofs.Leading.{what_is_led_to_bears}
-use Rattle.tsa_path.proofs.StandDeclared.{Heads, Marks, StandsAs, element_marked, global_marked, inner_marks, item_heads, marks, member_marked, no_heads, part_marks}
+use Rattle.tsa_path.proofs.StandDeclared.{Heads, Marks, StandsAs, element_marked, global_marked, inner_marks, marks, member_marked, no_heads, part_marks, items_heads}
 use Rattle.tsa_sound.specs.LaidOut as laid
 use Rattle.tsa_sound.specs.LaidOut.{LaidOut}
 use Rattle.tsa_accepted.specs.laid.Laws.{PlacesAreLaidOut}
 use Rattle.tsa_accepted.proofs.laid.FreeGuards.{AllFree, items_free, nothing_free}
 use Rattle.tsa_accepted.proofs.laid.Guarding.{Begun, begun_guards, element_guarded, guards_are, held, lies_behind}
-
-items_heads : (items : List UnitItem) (here : Scope) (l m : Layout) → Heads l → placed_behind here l items ≡ Ok m → Heads m
-unfolding placed_behind
-items_heads [] here l m h e = subst Heads (same l m e) h
-  where
-    same : (a b : Layout) → ◌≡◌ {A = Result Layout Span} (Ok a) (Ok b) → a ≡ b
-    same a b e = cc
-items_heads (item ∷ rest) here l m h e =
-    by (too_many_at here l item) e (λ f. items_heads rest (behind_data here item) (data_placed here l item) m (item_heads here l item h) f)
-  where
-    by : (o : Option Span) → or_behind o (placed_behind (behind_data here item) (data_placed here l item) rest) ≡ Ok m
-        → (placed_behind (behind_data here item) (data_placed here l item) rest ≡ Ok m → Heads m) → Heads m
-    by None e known = known e
-    by (Some span) e known = absurd cc
 
 same_marks : (l : Layout) (place : ℕ) (p : Placed) (kind : Kind) (c : Marks) → slice_get l.places place ≡ Some p → StandsAs l place kind c → marks p ≡ c
 same_marks l place p kind c at x = ap marks (same_some p x.0 (sym at ∙ x.1.0)) ∙ x.1.1.1

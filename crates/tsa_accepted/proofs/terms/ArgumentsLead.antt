@@ -30,7 +30,7 @@ use Rattle.tsa_core.specs.Meanings.{loaded, null_pointer, of_name, of_number, as
 use Rattle.tsa_core.specs.Meanings as meant
 use Rattle.tsa_core.specs.Terms.{Term, constant, variable, answer, global, member, element, target, load, address, converted, prefixed, joined, Sense}
 use Rattle.tsa_core.specs.Uses.{argument_ways}
-use Rattle.tsa_core.proofs.KindTests.{never, both_true, neither, not_false, one_of}
+use Rattle.tsa_core.proofs.KindTests.{both_true, neither, not_false, one_of}
 use Rattle.tsa_core.proofs.TypedTerms.{some_same}
 use Rattle.tsa_path.proofs.ArgumentPaths.{either}
 use Rattle.tsa_path.proofs.Pointers.{IsProper, proper_onward}
@@ -41,6 +41,7 @@ use Rattle.tsa_sound.specs.BodyFacts.{AllLead, ArgumentLeads, IsOfNumber, LeadsA
 use Rattle.tsa_sound.specs.PartlyWorked as worked
 use Rattle.tsa_sound.specs.PartlyWorked.{further, index_step, place_way, target_way}
 use Rattle.tsa_accepted.proofs.terms.LedTerms.{does}
+use Rattle.tsa_base.proofs.Truths.{never}
 
 -- The path of a term is neither a local's own nor an owner's.
 abbrev IsProperWay : Way → Type 0

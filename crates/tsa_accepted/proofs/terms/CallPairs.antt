@@ -4,6 +4,7 @@ use Rattle.tsa_tree.specs.declared.expr.BinaryOp.TheVariants as op
 use Rattle.tsa_tree.specs.declared.expr.UnaryOp.TheVariants as prefix
 use Rattle.tsa_tree.specs.declared.kind.ExpressionType.{ExpressionType}
 use Rattle.tsa_base.specs.declared.token.Span.{Span}
+use Rattle.tsa_base.proofs.Truths.{never}
 use Rattle.tsa_tree.specs.expressions.Syntax.{Identifier, Expression, Arguments, number, null, named, call, unary, binary, field, index}
 use Rattle.tsa_tree.specs.types.Expressions.{type_of}
 use Rattle.tsa_tree.specs.types.Operands.{binary_type, breaks_binary, breaks_prefix, prefix_type}
@@ -15,7 +16,7 @@ use Rattle.tsa_core.specs.Kinds.{Setting, Belongs}
 use Rattle.tsa_core.specs.Meanings.{Call, call_of, call_in, or_call}
 use Rattle.tsa_core.specs.Uses.{call_ways, called_ways}
 use Rattle.tsa_core.proofs.CallsHold.{call_called}
-use Rattle.tsa_core.proofs.KindTests.{never, neither, not_true}
+use Rattle.tsa_core.proofs.KindTests.{neither, not_true}
 use Rattle.tsa_core.proofs.KindsOfTerms.{of_one, of_two}
 use Rattle.tsa_sound.specs.BodyFacts.{AllLead}
 use Rattle.tsa_accepted.proofs.terms.ArgumentsLead.{args_lead}

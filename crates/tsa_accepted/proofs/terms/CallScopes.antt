@@ -1,5 +1,5 @@
 -- At each point of a body what is known of functions is what the program's signatures say, and pointers are handed on with their paths.
-use Rattle.std.proofs.Common.{◌≡◌, ◌∙◌, ℕ, zero, suc, Bool, List, [], ◌∷◌, All, IfSome, map, Option, Some, None, option_and_then, option_map, slice_get, refl, sym, ap, subst}
+use Rattle.std.proofs.Common.{◌≡◌, ◌∙◌, ℕ, zero, suc, Bool, List, [], ◌∷◌, All, IfSome, map, Option, Some, None, option_and_then, slice_get, refl, sym, subst}
 use Rattle.std.proofs.lemmas.List.Elements.{All-append, All-cons, All-nil}
 use Rattle.std.proofs.lemmas.Map.Entries.{All-lookup}
 use Rattle.std.specs.Str.{bytes_eq}
@@ -18,7 +18,6 @@ use Rattle.tsa_tree.specs.types.Scopes.{Scope, context_of, found, further, known
 use Rattle.tsa_tree.specs.types.Units.{outset}
 use Rattle.tsa_tree.specs.units.Syntax.{UnitItem}
 use Rattle.tsa_lead.specs.Lookups.{params_in}
-use Rattle.tsa_lead.specs.Units.{placed_in}
 use Rattle.tsa_way.specs.Ways.{Way}
 use Rattle.tsa_way.specs.declared.path.PathStep.{PathStep}
 use Rattle.tsa_way.specs.declared.path.Root.{Root}
@@ -29,29 +28,21 @@ use Rattle.tsa_core.specs.KindLaws.{setting, signatures}
 use Rattle.tsa_core.specs.Kinds.{Belongs, Setting}
 use Rattle.tsa_core.specs.Meanings.{Call, call_of}
 use Rattle.tsa_core.specs.PointKinds.{Signatures}
-use Rattle.tsa_core.specs.Programs.{Bodied, bodied_function, declared_functions, function_in, layout_or_none, program_of}
+use Rattle.tsa_core.specs.Programs.{Bodied, bodied_function, program_of}
 use Rattle.tsa_core.specs.Terms.{Term}
 use Rattle.tsa_core.specs.Uses.{called_ways}
 use Rattle.tsa_core.proofs.BodyScopes.{BeginsIn}
 use Rattle.tsa_core.proofs.CallsHold.{CallsFit, call_called}
-use Rattle.tsa_core.proofs.MappedLists.{map_at}
 use Rattle.tsa_core.proofs.ScopesAlike.{known_found}
 use Rattle.tsa_core.proofs.ScopesBelong.{body_belongs}
-use Rattle.tsa_core.proofs.SignaturesFit.{AreOf, CallBy, NamesCall, unit_calls}
+use Rattle.tsa_core.proofs.SignaturesFit.{CallBy, NamesCall, unit_calls}
 use Rattle.tsa_core.proofs.TypedTerms.{some_same}
+use Rattle.tsa_core.proofs.PointsHold.{program_signatures}
 use Rattle.tsa_path.specs.Substitution.{as_pointer, given, pointed_way}
 use Rattle.tsa_path.proofs.Pointers.{IsProper}
 use Rattle.tsa_sound.specs.PartlyWorked.{target_way}
 use Rattle.tsa_accepted.proofs.terms.ArgumentsLead.{ArePointed, IsPointed, args_pointed}
 use Rattle.tsa_accepted.proofs.terms.CallPairs.{Pairs}
-
--- the signatures of a program are those of the functions that its unit declares
-program_signatures : (items : List UnitItem) → AreOf (signatures (program_of items)) (declared_functions (outset items) items)
-unfolding program_of
-program_signatures items n d is =
-    let make = function_in (layout_or_none (placed_in items)) items in
-    let there = map_at make (declared_functions (outset items) items) n ∙ ap (option_map make) is in
-    (ap (option_map (λ f. f.result)) there, ap (option_map (λ f. map (λ t. t.kind) f.params)) there)
 
 module _ (sig : Signatures) where
   abbrev pub Calls : Scope → Type 0

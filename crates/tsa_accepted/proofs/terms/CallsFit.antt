@@ -15,7 +15,6 @@ use Rattle.tsa_core.specs.Programs.{Bodied, Declared, Function, Program, bodied_
 use Rattle.tsa_core.specs.Terms.{Term}
 use Rattle.tsa_core.specs.Uses.{Uses, uses_of}
 use Rattle.tsa_core.proofs.FactsKnown.{FactsAt}
-use Rattle.tsa_core.proofs.KindTests.{never}
 use Rattle.tsa_core.proofs.MappedLists.{map_at}
 use Rattle.tsa_core.proofs.TypedTerms.{some_same}
 use Rattle.tsa_path.specs.Substitution.{as_pointer, given}
@@ -29,7 +28,9 @@ use Rattle.tsa_accepted.proofs.terms.CallScopes.{Calls, PointsBy, body_calls, ca
 use Rattle.tsa_accepted.proofs.terms.CallsLead.{deed_leads}
 use Rattle.tsa_accepted.proofs.terms.DeedsAct.{TestsCall, deed_acts, subject_is}
 use Rattle.tsa_accepted.proofs.terms.PointsFit as points
-use Rattle.tsa_accepted.proofs.terms.PointsFit.{all_at, each_at, number_holds}
+use Rattle.tsa_accepted.proofs.terms.PointsFit.{each_at, number_holds}
+use Rattle.tsa_accepted.proofs.called.NamedAttributes.{all_at}
+use Rattle.tsa_base.proofs.Truths.{never}
 
 -- the parameters of a function are those of its signature
 params_told : (o : Option Function) (kinds : List Kind) → option_map (λ f. map (λ t. t.kind) f.params) o ≡ Some kinds → map (λ t. t.kind) (or_no_function o).params ≡ kinds

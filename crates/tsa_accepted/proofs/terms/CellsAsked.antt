@@ -2,6 +2,7 @@
 use Rattle.std.proofs.Common.{◌≡◌, ◌∙◌, ℕ, Bool, true, false, not, ◌&&◌, List, [], ◌∷◌, ◌++◌, None, is_some, is_none, if◌then◌else◌, refl, sym, ap, subst}
 use Rattle.std.specs.List.{list_any}
 use Rattle.tsa_base.specs.declared.token.Span.{Span}
+use Rattle.tsa_base.proofs.Truths.{never}
 use Rattle.tsa_tree.specs.declared.expr.BinaryOp.TheVariants as op
 use Rattle.tsa_tree.specs.declared.expr.UnaryOp.TheVariants as prefix
 use Rattle.tsa_tree.specs.expressions.Syntax.{Expression, Arguments, number, null, named, call, unary, binary, field, index, none, more}
@@ -10,7 +11,6 @@ use Rattle.tsa_core.specs.Calls.{Layout}
 use Rattle.tsa_core.specs.Cells.{own_cell, inner_cells, argument_cells, cells_read}
 use Rattle.tsa_core.specs.Meanings.{is_loaded, meaning}
 use Rattle.tsa_core.specs.Uses.{access_guards}
-use Rattle.tsa_core.proofs.KindTests.{never}
 use Rattle.tsa_seen.specs.declared.premise.ProfileCode.TheVariants.{PF2, PF3}
 use Rattle.tsa_seen.specs.Premises.{first}
 use Rattle.tsa_seen.specs.Locks.{is_empty}

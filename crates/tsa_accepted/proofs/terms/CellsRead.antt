@@ -12,7 +12,7 @@ use Rattle.tsa_core.specs.Loads.{loads, places}
 use Rattle.tsa_core.specs.Meanings.{meaning}
 use Rattle.tsa_core.specs.Terms.{Term, constant, variable, answer, global, member, element, target, load, address, converted, prefixed, joined}
 use Rattle.tsa_core.specs.Uses.{Access, access, access_guards, accesses}
-use Rattle.tsa_core.proofs.KindTests.{never, or_left, or_right, one_of}
+use Rattle.tsa_core.proofs.KindTests.{or_left, one_of}
 use Rattle.tsa_core.proofs.ValuesServe.{free_gives}
 use Rattle.tsa_path.specs.Sameness.{same_way}
 use Rattle.tsa_path.proofs.Same.{way_itself}
@@ -23,6 +23,7 @@ use Rattle.tsa_sound.specs.TermFacts.{AllLoad, Loads}
 use Rattle.tsa_accepted.proofs.terms.CellsAsked.{EachOf, HasPaths}
 use Rattle.tsa_accepted.proofs.terms.CellsTold.{IsTold}
 use Rattle.tsa_accepted.proofs.terms.GuardsAgree.{agree, all_there}
+use Rattle.tsa_base.proofs.Truths.{never, or_right}
 
 -- what a term loads is among its loads
 pub loads_contained : (x : Term) (b : Bool) (q : Term) → Loads x b q → Contains (loads x) q

@@ -16,10 +16,11 @@ use Rattle.tsa_tree.specs.types.Scopes.{Scope, context_of, known_in}
 use Rattle.tsa_core.specs.Cells.{own_cell, inner_cells, argument_cells, cells_read}
 use Rattle.tsa_core.specs.Meanings.{is_loaded, of_call, meaning}
 use Rattle.tsa_core.proofs.CallsHold.{call_called, call_whole}
-use Rattle.tsa_core.proofs.KindTests.{never, both_true, neither, not_true, one_of}
+use Rattle.tsa_core.proofs.KindTests.{both_true, neither, not_true, one_of}
 use Rattle.tsa_core.proofs.KindsOfTerms.{of_one, of_two, of_owner}
 use Rattle.tsa_core.proofs.ValuesServe.{constant_free}
 use Rattle.tsa_accepted.proofs.terms.CellsAsked.{EachOf, each_of_both}
+use Rattle.tsa_base.proofs.Truths.{never}
 
 module _ (here : Scope) (aliases : Aliases) where
   -- a typed expression without a call

@@ -31,7 +31,7 @@ use Rattle.tsa_core.specs.PointLoads.{init_cells, right_cells, written_cells, ce
 use Rattle.tsa_core.specs.Terms.{Term, constant, variable, answer, global, member, element, target, load, address, converted, prefixed, joined}
 use Rattle.tsa_core.proofs.DeedsHold.{Facts}
 use Rattle.tsa_core.proofs.DeedsTold.{init_told, SetTold, set_told}
-use Rattle.tsa_core.proofs.KindTests.{never, both_true, not_true}
+use Rattle.tsa_core.proofs.KindTests.{both_true, not_true}
 use Rattle.tsa_core.proofs.NoFailure.{keeps_typed}
 use Rattle.tsa_core.proofs.TypedTerms.{some_same}
 use Rattle.tsa_mean.specs.Frames.{left_of, right_of}
@@ -44,6 +44,7 @@ use Rattle.tsa_accepted.proofs.terms.PointsAsked.{DeedAsked, InitAsked}
 use Rattle.tsa_accepted.proofs.terms.TermsFit as terms
 use Rattle.tsa_accepted.proofs.terms.TermsFit.{as_kind_fits}
 use Rattle.tsa_accepted.proofs.terms.ValuesFit.{IsQuiet, as_kind_quiet, whole_quiet, condition_quiet, whole_fits, condition_fits, whole_call_fits, condition_call_fits}
+use Rattle.tsa_base.proofs.Truths.{never}
 
 -- zero and null are in range
 zero_in_range : (kind : Kind) → IsInRange (zero_of kind)

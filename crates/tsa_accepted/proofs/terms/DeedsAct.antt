@@ -22,12 +22,13 @@ use Rattle.tsa_core.specs.Meanings.{Call, beside, call_in, loaded, meaning, null
 use Rattle.tsa_core.specs.Meanings as meant
 use Rattle.tsa_core.specs.Terms.{Term, constant, variable, answer, global, member, element, target, load, address, converted, prefixed, joined, Sense}
 use Rattle.tsa_core.proofs.DeedsHold.{Facts}
-use Rattle.tsa_core.proofs.KindTests.{never, both_true, not_true, one_of}
+use Rattle.tsa_core.proofs.KindTests.{both_true, not_true, one_of}
 use Rattle.tsa_core.proofs.TypedTerms.{some_same}
 use Rattle.tsa_rules.specs.Conditions.{Condition, Subject, the_call, the_local, condition, condition_at, condition_in, subject_in, answer_beside, comparison, either, itself}
 use Rattle.tsa_rules.specs.Conditions as conditions
 use Rattle.tsa_sound.specs.CallFacts.{CanCall}
 use Rattle.tsa_accepted.proofs.terms.ValuesFit.{constant_made, either_called, no_call_made}
+use Rattle.tsa_base.proofs.Truths.{never}
 
 -- what is looked at is the answer, if anything
 abbrev AsksCall : Option Subject → Type 0

@@ -16,8 +16,8 @@ use Rattle.tsa_core.specs.Control.{Outcome, Next, Yes, No, Rest, Chosen}
 use Rattle.tsa_core.specs.Laws.{goes_by, is_chosen, is_told}
 use Rattle.tsa_core.specs.Meanings.{Call, as_kind, call_in, loaded, meaning}
 use Rattle.tsa_core.specs.Terms.{Term, constant, variable, answer, global, member, element, target, load, address, converted, prefixed, joined}
-use Rattle.tsa_core.proofs.KindTests.{never}
 use Rattle.tsa_core.proofs.ValuesServe.{no_call, constant_free}
+use Rattle.tsa_base.proofs.Truths.{never}
 
 -- what goes on behind itself has the one outcome
 abbrev IsNext : Outcome → Type 0

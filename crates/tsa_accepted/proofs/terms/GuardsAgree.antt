@@ -31,13 +31,14 @@ use Rattle.tsa_core.specs.Layouts.{structure_at}
 use Rattle.tsa_core.specs.Meanings.{loaded, name_term, of_name, of_call, prefix_term, operands, base_of, to_member, of_field, meaning}
 use Rattle.tsa_core.specs.Terms.{member, target, Sense}
 use Rattle.tsa_core.specs.Uses.{access_guards, field_guards, guards_owned, member_guards, name_guards, owned_by}
-use Rattle.tsa_core.proofs.KindTests.{never, both_true, neither, single_length}
+use Rattle.tsa_core.proofs.KindTests.{both_true, neither, single_length}
 use Rattle.tsa_core.proofs.KindsOfOperators.{Holds, struct_told, target_told, followed_place, struct_place}
 use Rattle.tsa_core.proofs.KindsOfTerms.{of_two, of_owner, holds}
 use Rattle.tsa_core.proofs.TypedTerms.{some_same, terms_have_types, member_numbered}
 use Rattle.tsa_path.proofs.Leads.{no_object}
 use Rattle.tsa_sound.specs.PartlyWorked.{guard_ways, guards_in, place_way}
 use Rattle.tsa_accepted.proofs.terms.LedTerms.{Stands, at_place, at_local, does}
+use Rattle.tsa_base.proofs.Truths.{never}
 
 -- each of some guards has a path
 abbrev pub all_there : List (Option Way) → Bool

@@ -26,7 +26,7 @@ use Rattle.tsa_way.specs.declared.path.PathStep.TheVariants.{Constant, Variable,
 use Rattle.tsa_core.specs.Kinds.{Setting, Belongs}
 use Rattle.tsa_core.specs.Meanings.{is_place, is_cell, loaded, never_changes, of_name, of_prefix, base_of, to_member, of_field, of_index, meaning}
 use Rattle.tsa_core.specs.Terms.{variable, load, Sense}
-use Rattle.tsa_core.proofs.KindTests.{never, both_true, not_false, single_length}
+use Rattle.tsa_core.proofs.KindTests.{both_true, not_false, single_length}
 use Rattle.tsa_core.proofs.KindsOfOperators.{struct_told}
 use Rattle.tsa_core.proofs.KindsOfTerms.{of_one, of_two, of_owner}
 use Rattle.tsa_core.proofs.TypedTerms.{some_same, terms_have_types}
@@ -36,6 +36,7 @@ use Rattle.tsa_path.proofs.StepsBehind.{Followed, pointed_by, Inner, member_by, 
 use Rattle.tsa_told.proofs.Constants.{terms_have_the_values}
 use Rattle.tsa_sound.specs.PartlyWorked as worked
 use Rattle.tsa_sound.specs.PartlyWorked.{constant_step, index_by, further, place_way, target_way}
+use Rattle.tsa_base.proofs.Truths.{never}
 
 -- a value of an array is no small one
 no_array : {A : Type 0} (t : ThingType) (n : ℕ) → t.length ≡ Some n → is_small t ≡ true → A

@@ -7,7 +7,7 @@ use Rattle.tsa_way.specs.Ways.{Way}
 use Rattle.tsa_core.specs.Bodies.{Body, Point}
 use Rattle.tsa_core.specs.Programs.{Function, Program}
 use Rattle.tsa_core.specs.Uses.{Access, Uses}
-use Rattle.tsa_core.proofs.KindTests.{never, or_left, or_right}
+use Rattle.tsa_core.proofs.KindTests.{or_left}
 use Rattle.tsa_judge.specs.Ways.{each_once, present}
 use Rattle.tsa_path.specs.PathTables.{with_path}
 use Rattle.tsa_path.specs.Sameness.{same_way}
@@ -16,6 +16,7 @@ use Rattle.tsa_path.proofs.Same.{way_equal}
 use Rattle.tsa_profile.specs.Paths.{called, paths_of, point_ways, points_in, points_ways, ways_of}
 use Rattle.tsa_rules.specs.Attributes.{is_path}
 use Rattle.tsa_rules.specs.Points.{is_guarded_by, or_unused, uses_at}
+use Rattle.tsa_base.proofs.Truths.{never, or_right}
 
 -- what comes stands among the others
 stays : (known ws : List Way) (n : ℕ) (w : Way) → slice_get known n ≡ Some w → slice_get (each_once known ws) n ≡ Some w

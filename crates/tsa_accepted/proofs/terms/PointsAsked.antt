@@ -28,12 +28,13 @@ use Rattle.tsa_seen.specs.declared.standing.Standing.TheVariants.{Whole, Test, I
 use Rattle.tsa_judge.specs.Bodies.{Around, view_at, begins_a_try, standing_of, value_misfits, point_premises, points_premises}
 use Rattle.tsa_judge.specs.Bodies as profile
 use Rattle.tsa_judge.specs.Expressions.{expression}
-use Rattle.tsa_judge.specs.Points.{PlacedPoint, placed, placed_simple, placed_init, placed_step, placed_test, placed_for, placed_in, placed_all}
+use Rattle.tsa_judge.specs.Points.{placed, placed_simple, placed_init, placed_step, placed_test, placed_for, placed_in, placed_all}
 use Rattle.tsa_judge.specs.Units as unit
 use Rattle.tsa_judge.specs.Units.{around, attributes_behind, heads_premises, item_premises, items_premises, points_in}
-use Rattle.tsa_argument.proofs.NoneFails.{none_of_both, none_of_two, none_of_first}
+use Rattle.tsa_argument.proofs.NoneFails.{none_of_both, none_of_first}
 use Rattle.tsa_accepted.proofs.terms.CellsAsked.{IsAsked, asked}
 use Rattle.tsa_accepted.proofs.terms.ScopesKept.{guards_kept}
+use Rattle.tsa_profile.proofs.PointsRun.{point_alone, point_before, points_of_both}
 
 -- what is asked of the expressions of a deed
 abbrev pub AreAsked : Layout → (ℕ → Bool) → Scope → Option Expression → Type 0
@@ -57,24 +58,6 @@ DeedAsked l stable here ends = Unit {0}
 
 abbrev pub AskedAt : Layout → (ℕ → Bool) → Known → Type 0
 AskedAt l stable k = DeedAsked l stable k.here k.deed
-
--- the points of two parts, and the first of some points
-points_of_both : (a : Around) (ps qs : List PlacedPoint) → first (points_premises a (ps ++ qs)) ≡ None
-    → (first (points_premises a ps) ≡ None) × (first (points_premises a qs) ≡ None)
-unfolding points_premises first
-points_of_both a [] qs h = (refl, h)
-points_of_both a (p ∷ ps) qs h =
-    let one = none_of_both (point_premises a p) (points_premises a (ps ++ qs)) h in
-    let two = points_of_both a ps qs one.1 in
-    (none_of_two (point_premises a p) (points_premises a ps) one.0 two.0, two.1)
-
-point_before : (a : Around) (p : PlacedPoint) (ps : List PlacedPoint) → first (points_premises a (p ∷ ps)) ≡ None
-    → (first (point_premises a p) ≡ None) × (first (points_premises a ps) ≡ None)
-unfolding points_premises
-point_before a p ps h = none_of_both (point_premises a p) (points_premises a ps) h
-
-point_alone : (a : Around) (p : PlacedPoint) → first (points_premises a (p ∷ [])) ≡ None → first (point_premises a p) ≡ None
-point_alone a p h = (point_before a p [] h).0
 
 module _ (a : Around) where
   abbrev Asked : Known → Type 0

@@ -1,6 +1,5 @@
 -- At each point of each function with a body of a unit in the profile the terms are as the laws of turns ask.
 use Rattle.std.proofs.Common.{◌≡◌, ◌∙◌, ℕ, zero, suc, Bool, true, List, [], ◌∷◌, ◌++◌, length, All, Contains, Option, Some, None, IsSome, option_map, slice_get, refl, sym, ap, subst}
-use Rattle.std.proofs.lemmas.List.Elements.{All-head, All-tail}
 use Rattle.std.proofs.lemmas.Slice.Eq.{bytes_eq-Decides}
 use Rattle.std.specs.List.{list_any}
 use Rattle.std.specs.Str.{bytes_eq}
@@ -30,7 +29,6 @@ use Rattle.tsa_core.proofs.BodyScopes.{BeginsIn, unit_begins}
 use Rattle.tsa_core.proofs.FactsKnown.{FactsAt, all_facts, each_both}
 use Rattle.tsa_core.proofs.FunctionNumbers.{uses_stand_beside}
 use Rattle.tsa_core.proofs.GoingOn.{points_go_on}
-use Rattle.tsa_core.proofs.KindTests.{never}
 use Rattle.tsa_core.proofs.MappedLists.{map_at}
 use Rattle.tsa_core.proofs.ProgramKinds.{programs_well_kinded}
 use Rattle.tsa_core.proofs.ScopesBelong.{Each, scopes_belong}
@@ -55,6 +53,8 @@ use Rattle.tsa_accepted.proofs.terms.PathsNamed.{guards_named}
 use Rattle.tsa_accepted.proofs.terms.PointsAsked.{AskedAt, items_asked}
 use Rattle.tsa_accepted.proofs.terms.SmallScopes.{HasSmall, body_small, small_in}
 use Rattle.tsa_accepted.proofs.terms.TermsAt.{TermsAt, idle_terms, terms}
+use Rattle.tsa_accepted.proofs.called.NamedAttributes.{all_at}
+use Rattle.tsa_base.proofs.Truths.{never}
 
 -- what holds of all points holds of one
 pub each_at : (P : Known → Type 0) (ks : List Known) (n : ℕ) (k : Known) → Each P ks → slice_get ks n ≡ Some k → P k
@@ -62,12 +62,6 @@ each_at P [] zero k h at = absurd cc
 each_at P [] (suc n) k h at = absurd cc
 each_at P (x ∷ ks) zero k h at = subst P (some_same at) h.0
 each_at P (x ∷ ks) (suc n) k h at = each_at P ks n k h.1 at
-
-pub all_at : {A : Type 0} (P : A → Type 0) (xs : List A) (n : ℕ) (x : A) → All P xs → slice_get xs n ≡ Some x → P x
-all_at P [] zero x h at = absurd cc
-all_at P [] (suc n) x h at = absurd cc
-all_at P (y ∷ xs) zero x h at = subst P (some_same at) (All-head P y xs h)
-all_at P (y ∷ xs) (suc n) x h at = all_at P xs n x (All-tail P y xs h) at
 
 module _ (items : List UnitItem) (l : Layout) (in_profile : IsInProfile items l) (d : Declared) (b : Bodied) (n : ℕ)
     (declared : slice_get (declared_functions (outset items) items) n ≡ Some d) (bodied : bodied_function d.head.name.text (outset items) items ≡ Some b)

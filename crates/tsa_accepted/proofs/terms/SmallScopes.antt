@@ -4,7 +4,6 @@ use Rattle.std.specs.Str.{bytes_eq}
 use Rattle.tsa_tree.specs.declarations.Syntax.{Declaration, Parameter}
 use Rattle.tsa_tree.specs.declared.kind.ThingType.{ThingType}
 use Rattle.tsa_tree.specs.declared.meaning.Entry.{Entry}
-use Rattle.tsa_tree.specs.declared.meaning.Meaning.{Meaning}
 use Rattle.tsa_tree.specs.declared.meaning.Meaning.TheVariants as meant
 use Rattle.tsa_tree.specs.expressions.Syntax.{Identifier}
 use Rattle.tsa_tree.specs.types.Constants.{enumerator}
@@ -20,7 +19,7 @@ use Rattle.tsa_core.specs.Bodies.{known_in_body}
 use Rattle.tsa_core.specs.Programs.{Bodied, bodied_by, bodied_function, or_body}
 use Rattle.tsa_core.proofs.EachScope.{each_point}
 use Rattle.tsa_core.proofs.NoFailure.{none_of_both}
-use Rattle.tsa_core.proofs.ScopesAlike.{Alike, known_found, no_function}
+use Rattle.tsa_core.proofs.ScopesAlike.{Alike, known_found, enumerator_kept}
 use Rattle.tsa_core.proofs.TypedTerms.{some_same}
 use Rattle.tsa_core.proofs.UnitScopes.{or_other, found_append, item_alike}
 use Rattle.tsa_profile.proofs.NumbersFit.{IsSmall}
@@ -72,19 +71,6 @@ local_small here d h = by (is_taken d.name.text here)
     by true = further_small here 1 h
     by false =
         further_small (with_name d.name.text (local_entry here d) here) 1 (with_local here d.name.text here.locals (local_entry here d).thing h)
-
--- what is known behind items
-enumerator_kept : (o : Option Entry) → enumerator (no_function o) ≡ enumerator o
-enumerator_kept None = refl
-enumerator_kept (Some e) = by e.meaning e.thing
-  where
-    by : (m : Meaning) (t : ThingType) → enumerator (no_function (Some (record { meaning = m; thing = t }))) ≡ enumerator (Some (record { meaning = m; thing = t }))
-    by (meant.Global n) t = refl
-    by (meant.Local n) t = refl
-    by (meant.Function n) t = refl
-    by meant.Owned t = refl
-    by (meant.Constant z) t = refl
-    by meant.TypeName t = refl
 
 alike_small : (here there : Scope) → Alike here there → Plain there → HasSmall here
 alike_small here there alike plain = record {

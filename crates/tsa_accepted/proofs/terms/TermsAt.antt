@@ -20,7 +20,7 @@ use Rattle.tsa_core.specs.PointLoads.{call_loads, cell_set, cells_before, cells_
 use Rattle.tsa_core.specs.Terms.{Term, address}
 use Rattle.tsa_core.specs.Uses.{Access, Uses, accesses, uses, uses_by}
 use Rattle.tsa_core.proofs.DeedsHold.{Facts}
-use Rattle.tsa_core.proofs.KindTests.{or_left, or_right}
+use Rattle.tsa_core.proofs.KindTests.{or_left}
 use Rattle.tsa_core.proofs.TypedTerms.{some_same}
 use Rattle.tsa_core.proofs.UsesOfCells.{uses_are_of_cells}
 use Rattle.tsa_mean.specs.Frames.{left_of, right_of}
@@ -33,6 +33,7 @@ use Rattle.tsa_accepted.proofs.terms.CellsRead.{all_contained, any_append, any_g
 use Rattle.tsa_accepted.proofs.terms.DeedTerms as deed
 use Rattle.tsa_accepted.proofs.terms.DeedTerms.{GoodCells, IsWholeGiven, operator_of}
 use Rattle.tsa_accepted.proofs.terms.PointsAsked.{DeedAsked}
+use Rattle.tsa_base.proofs.Truths.{or_right}
 
 pub record TermsAt (l : Layout) (locals : ℕ → Option Kind) (stable : ℕ → Bool) (sig : Signatures) (paths : List Way) (p : Point) (x : Uses) : Type 0 where
   pub args_fit : (c : Call) → p.call ≡ Some c → AllFit (at_point l locals None) stable c.args

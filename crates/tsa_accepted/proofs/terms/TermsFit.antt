@@ -29,7 +29,7 @@ use Rattle.tsa_core.specs.Meanings.{is_place, is_cell, is_loaded, loaded, never_
 use Rattle.tsa_core.specs.Meanings as meant
 use Rattle.tsa_core.specs.Terms.{Term, constant, variable, answer, global, member, element, target, load, address, converted, prefixed, joined, Sense}
 use Rattle.tsa_core.specs.Uses.{access_guards}
-use Rattle.tsa_core.proofs.KindTests.{never, both_true, neither, not_false, and_true, single_length, so}
+use Rattle.tsa_core.proofs.KindTests.{both_true, neither, not_false, and_true, single_length, so}
 use Rattle.tsa_core.proofs.KindsOfOperators.{Holds, struct_told, target_told, followed_place, struct_place, object_is, array_not_small}
 use Rattle.tsa_core.proofs.KindsOfTerms.{of_one, of_two, of_owner, typed, holds, part_at}
 use Rattle.tsa_core.proofs.TypedTerms.{some_same}
@@ -39,6 +39,7 @@ use Rattle.tsa_sound.specs.PartlyWorked.{guard_ways}
 use Rattle.tsa_sound.specs.TermFacts.{AllFit, IsConstPart, IsDeclaredConst, IsInRange, TermFits, member_part}
 use Rattle.tsa_accepted.proofs.terms.CellsAsked.{AddressesFree, ArgumentsFree}
 use Rattle.tsa_accepted.proofs.terms.GuardsAgree as agreement
+use Rattle.tsa_base.proofs.Truths.{never}
 
 -- a number that the grammar can spell is in range
 int_in_range : (n : ℕ) → n < 2 ^ 31 → is_int (pos n) ≡ true

@@ -26,7 +26,7 @@ use Rattle.tsa_core.specs.Meanings as meant
 use Rattle.tsa_core.specs.PointKinds.{at_point}
 use Rattle.tsa_core.specs.Terms.{Term, converted, joined, Sense}
 use Rattle.tsa_core.proofs.CallsHold.{call_called, call_whole}
-use Rattle.tsa_core.proofs.KindTests.{never, both_true, not_true, one_of}
+use Rattle.tsa_core.proofs.KindTests.{both_true, not_true, one_of}
 use Rattle.tsa_core.proofs.KindsOfTerms.{of_one, of_two}
 use Rattle.tsa_core.proofs.TypedTerms.{some_same}
 use Rattle.tsa_core.proofs.ValuesServe.{no_call, constant_free}
@@ -34,6 +34,7 @@ use Rattle.tsa_profile.proofs.NumbersFit.{IsSmall}
 use Rattle.tsa_sound.specs.TermFacts.{AllFit, Loads, TermFits}
 use Rattle.tsa_accepted.proofs.terms.CellsAsked.{AddressesFree}
 use Rattle.tsa_accepted.proofs.terms.TermsFit.{fits, operands_fit, arguments_fit}
+use Rattle.tsa_base.proofs.Truths.{never}
 
 -- a value that loads nothing
 abbrev pub IsQuiet : Term → Type 0

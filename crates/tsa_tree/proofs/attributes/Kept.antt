@@ -1,7 +1,8 @@
 -- The rows of attributes spell attributes by the productions only.
-use Rattle.std.proofs.Common.{ℕ, ◌+◌, ◌≡◌, sym, subst, refl, List, [], ◌∷◌, Bool, true, false, ◌&&◌, Some, None}
+use Rattle.std.proofs.Common.{ℕ, ◌+◌, ◌≡◌, sym, subst, refl, List, [], ◌∷◌, Bool, true, ◌&&◌, Some, None}
 use Rattle.std.specs.declared.option.Option.{Option}
 use Rattle.tsa_base.specs.Tokens.{Lexeme}
+use Rattle.tsa_base.proofs.Truths.{never_true as never}
 use Rattle.tsa_tree.specs.declared.attr.AttrKind.{AttrKind}
 use Rattle.tsa_tree.specs.declared.sign.Sign.{Sign}
 use Rattle.tsa_tree.specs.declared.sign.Sign.TheVariants as sign
@@ -16,9 +17,6 @@ use Rattle.tsa_tree.specs.attributes.Beginnings.{Opened}
 use Rattle.tsa_tree.specs.Rows.{some_attributes, a_skip, attributes, group, entries, balanced, Closer, closing_parenthesis, closing_bracket, closing_brace, Kind, kind, a_word, is_given, sees, Row, lacks, arguments_row, attribute_row, group_row, entries_end, entry_row, balanced_row, rule}
 use Rattle.tsa_tree.proofs.tokens.ProductionSigns.{shows_open, shows_close, shows_close_bracket, shows_comma, shows_text, shows_close_brace}
 use Rattle.tsa_tree.proofs.attributes.Meanings.{Keeps, Closed, ClosedEntries, ClosedBalanced}
-
-pub never : {A : Type 0} → false ≡ true → A
-never e = absurd cc
 
 -- what is given is a value
 pub given : (v : Option Bool) → is_given v ≡ true → (b : Bool) × (v ≡ Some b)

@@ -1,6 +1,7 @@
 -- What begins attributes by their rows begins them by the productions, and what the rows refuse in them the productions refuse.
 use Rattle.std.proofs.Common.{ℕ, ◌+◌, ◌≡◌, sym, subst, refl, List, [], ◌∷◌, ◌++◌, Bool, true, false, ◌&&◌, ◌||◌, ◌⊎◌, inl, inr}
 use Rattle.tsa_base.specs.Tokens.{Lexeme}
+use Rattle.tsa_base.proofs.Truths.{never_true as never}
 use Rattle.tsa_tree.specs.declared.attr.AttrKind.{AttrKind}
 use Rattle.tsa_tree.specs.declared.sign.Sign.{Sign}
 use Rattle.tsa_tree.specs.declared.sign.Sign.TheVariants as sign
@@ -18,7 +19,7 @@ use Rattle.tsa_tree.specs.Rows.{some_attributes, attributes, group, entries, Kin
 use Rattle.tsa_forms.specs.Form.{done, token, part, either}
 use Rattle.tsa_tree.proofs.tokens.ProductionSigns.{shows_open, shows_close, shows_comma, shows_text}
 use Rattle.tsa_tree.proofs.attributes.Meanings.{ClosedEntries, Begun, Opens}
-use Rattle.tsa_tree.proofs.attributes.Kept.{never, given, closed_expressions, closed_try, closed_list, closed_entry}
+use Rattle.tsa_tree.proofs.attributes.Kept.{given, closed_expressions, closed_try, closed_list, closed_entry}
 
 -- an attribute that takes a result is a try
 takes_a_try : (t : Taking) → takes_result t ≡ true → t ≡ takes.a_try

@@ -1,6 +1,7 @@
 -- The rows spell and begin balanced tokens wherever the productions do.
 use Rattle.std.proofs.Common.{ℕ, ◌+◌, ◌≡◌, ap, sym, subst, refl, List, Bool, true, None}
 use Rattle.tsa_base.specs.Tokens.{Lexeme}
+use Rattle.tsa_base.proofs.Truths.{never_true as never}
 use Rattle.tsa_tree.specs.declared.sign.Sign.{Sign}
 use Rattle.tsa_tree.specs.declared.sign.Sign.TheVariants as sign
 use Rattle.tsa_tree.specs.tokens.Signs.{Aliases, sign_at, is_plain_sign}
@@ -8,7 +9,6 @@ use Rattle.tsa_tree.specs.attributes.Spelling.{IsBalanced, of_nothing, of_token,
 use Rattle.tsa_tree.specs.attributes.Beginnings.{BeginsBalanced, begins_balanced, begins_parentheses, begins_brackets, begins_braces}
 use Rattle.tsa_tree.specs.Rows.{a_skip, balanced, Closer, closer_kind, closing_parenthesis, closing_bracket, closing_brace, kind, a_plain, sees, Row, balanced_row, rule}
 use Rattle.tsa_tree.proofs.tokens.ProductionSigns.{seen}
-use Rattle.tsa_tree.proofs.attributes.Kept.{never}
 use Rattle.tsa_forms.specs.Form.{done, token, part}
 use Rattle.tsa_forms.specs.Spelling as forms
 use Rattle.tsa_forms.specs.Spelling.{by_rule, goes_done, goes_token, goes_part, goes_limit, goes_left, goes_right, begins_rule, starts_here, starts_token, starts_in, starts_over, starts_limit, starts_right}

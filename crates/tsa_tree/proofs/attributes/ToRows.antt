@@ -1,6 +1,7 @@
 -- The rows spell, begin and refuse one attribute, one entry and balanced tokens wherever the productions do.
 use Rattle.std.proofs.Common.{ℕ, ◌+◌, ◌≡◌, ap, sym, subst, refl, List, Bool, true, false, ◌&&◌, ◌||◌, Option, None, arith}
 use Rattle.tsa_base.specs.Tokens.{Lexeme}
+use Rattle.tsa_base.proofs.Truths.{never_true as never}
 use Rattle.tsa_tree.specs.declared.attr.AttrKind.{AttrKind}
 use Rattle.tsa_tree.specs.declared.sign.Sign.{Sign}
 use Rattle.tsa_tree.specs.declared.sign.Sign.TheVariants as sign
@@ -14,7 +15,6 @@ use Rattle.tsa_tree.specs.Rows.{some_attributes, Kind, kind, a_result, is_given,
 use Rattle.tsa_tree.proofs.tokens.ProductionSigns.{seen}
 use Rattle.tsa_tree.proofs.expressions.ToRows.{expression_rows, series_rows}
 use Rattle.tsa_tree.proofs.expressions.BeginningsToRows.{expression_begins, series_begins}
-use Rattle.tsa_tree.proofs.attributes.Kept.{never}
 use Rattle.tsa_forms.specs.Spelling as forms
 use Rattle.tsa_forms.specs.Spelling.{goes_token, goes_part, goes_bar, goes_limit, goes_left, starts_here, starts_bar, starts_token, starts_in, starts_over, starts_limit, starts_left}
 

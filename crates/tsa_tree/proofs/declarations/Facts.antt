@@ -85,10 +85,6 @@ pub brace_no_comma : (s : Sign) → nat_eq (mark s) 18 ≡ true → nat_eq (mark
 brace_no_comma sign.CloseBrace e = refl
 brace_no_comma _ e = cc
 
-pub plain_no_name : (s : Sign) → is_plain s ≡ true → nat_eq (mark s) 3 ≡ false
-plain_no_name sign.Name e = cc
-plain_no_name _ e = refl
-
 -- A type begins with a word, which closes nothing and is no storage word.
 pub type_no_brace : (s : Sign) → begins_type s ≡ true → nat_eq (mark s) 18 ≡ false
 type_no_brace sign.CloseBrace e = cc

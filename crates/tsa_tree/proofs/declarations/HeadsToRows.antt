@@ -1,6 +1,7 @@
 -- The rows spell the parameters, heads, enumerators and struct bodies that the productions spell.
 use Rattle.std.proofs.Common.{ℕ, ◌+◌, ◌≡◌, ap, refl, List, Bool, true, not, Some, None, arith}
 use Rattle.tsa_base.specs.Tokens.{Lexeme}
+use Rattle.tsa_base.proofs.Truths.{never_true as never}
 use Rattle.tsa_tree.specs.declared.sign.Keyword.TheVariants as key
 use Rattle.tsa_tree.specs.declared.sign.Sign.{Sign}
 use Rattle.tsa_tree.specs.declared.sign.Sign.TheVariants as sign
@@ -9,7 +10,6 @@ use Rattle.tsa_tree.specs.declarations.ItemSpelling.{parameter, parameter_start,
 use Rattle.tsa_tree.specs.tokens.Signs.{Aliases, sign_at, identifier_at, is_void, is_close}
 use Rattle.tsa_tree.specs.Rows.{Sort, a_specifier, a_declarator, some_parameters, a_signature, a_head, a_struct_body, some_constants, Node, Call, specifier, declarator, parameter_list, parameters, signature, head, struct_body, constants, enum_body, a_name, a_close, a_comma, an_open_brace, a_close_brace, is_keyword, sees, Row, behind_storage, parameter_end, constants_end, rule}
 use Rattle.tsa_tree.proofs.attributes.Facts.{both}
-use Rattle.tsa_tree.proofs.attributes.Kept.{never}
 use Rattle.tsa_tree.proofs.declarations.ToRows.{specifier_rows, star_goes, declarator_rows, attributes_goes, members_rows}
 use Rattle.tsa_tree.proofs.tokens.ProductionSigns.{seen}
 use Rattle.tsa_tree.proofs.expressions.ToRows.{expression_rows}

@@ -2,6 +2,7 @@
 use Rattle.std.proofs.Common.{false, ℕ, ◌+◌, ◌≡◌, sym, subst, refl, List, [], ◌∷◌, Bool, true, Some, None, inl, inr, ap, arith, ◌-◌}
 use Rattle.std.proofs.lemmas.Bool.{not-true}
 use Rattle.tsa_base.specs.Tokens.{Lexeme}
+use Rattle.tsa_base.proofs.Truths.{never_true as never}
 use Rattle.tsa_tree.specs.attributes.Spelling.{IsAttributes}
 use Rattle.tsa_tree.specs.declarations.Syntax.{Specified, Parameter, EnumConstant, head_of, Declarator, Signature}
 use Rattle.tsa_tree.specs.units.Syntax.{body_item}
@@ -11,7 +12,6 @@ use Rattle.tsa_tree.specs.tokens.Signs.{Aliases, span_at, identifier_at, is_lone
 use Rattle.tsa_tree.specs.Rows.{Sort, a_skip, a_specifier, a_declarator, some_parameters, a_signature, a_head, a_struct_body, some_constants, some_items, Node, storage, specifier, declarator, parameter_list, parameters, signature, head, struct_body, constants, enum_body, declared, a_name, sees, Row, behind_storage, parameter_end, constants_end, function_end, rule}
 use Rattle.tsa_tree.proofs.tokens.ProductionSigns.{shows_name, shows_open, shows_close, shows_comma, shows_close_brace}
 use Rattle.tsa_tree.proofs.declarations.Signs.{shows_open_brace, shows_semicolon, shows_equals}
-use Rattle.tsa_tree.proofs.attributes.Kept.{never}
 use Rattle.tsa_tree.proofs.expressions.RowsToProductions.{production_of}
 use Rattle.tsa_tree.proofs.declarations.Meanings.{Keeps, Means}
 use Rattle.tsa_tree.proofs.declarations.Kept.{keeps_behind_star, keeps_behind_attributes, goes_on_comma, ends_semicolon}

@@ -3,6 +3,7 @@ use Rattle.std.proofs.Common.{ℕ, ◌+◌, ◌≡◌, sym, subst, refl, List, [
 use Rattle.std.proofs.lemmas.Bool.{not-true}
 use Rattle.std.specs.declared.option.Option.{Option}
 use Rattle.tsa_base.specs.Tokens.{Lexeme}
+use Rattle.tsa_base.proofs.Truths.{never_true as never}
 use Rattle.tsa_tree.specs.declared.sign.Keyword.TheVariants as key
 use Rattle.tsa_tree.specs.declared.sign.Sign.{Sign}
 use Rattle.tsa_tree.specs.declared.sign.Sign.TheVariants as sign
@@ -15,7 +16,6 @@ use Rattle.tsa_tree.specs.tokens.Signs.{Aliases, sign_at, span_over, identifier_
 use Rattle.tsa_tree.specs.Rows.{Sort, an_expression, a_skip, a_specifier, a_declarator, an_initialiser, some_initialisers, a_declared, some_declarations, a_variable, some_variables, Node, expression, consts, specifier, declarator, initialiser, initialisers, declared_rest, declarators, member_line, members, variable, variables, locals, Row, a_name, an_equals, sees, behind_consts, specified, specifier_row, behind_star, behind_length, behind_attributes, behind_init, delimiter, rule}
 use Rattle.tsa_tree.proofs.tokens.ProductionSigns.{shows_name, shows_close_bracket, shows_comma, shows_close_brace}
 use Rattle.tsa_tree.proofs.declarations.Signs.{shows_open_bracket, shows_open_brace, shows_semicolon, shows_equals, shows_keyword, shows_star}
-use Rattle.tsa_tree.proofs.attributes.Kept.{never}
 use Rattle.tsa_tree.proofs.expressions.RowsToProductions.{production_of}
 use Rattle.tsa_forms.specs.Form.{done, token, part, either}
 use Rattle.tsa_tree.proofs.declarations.Meanings.{Closed, delimiter_sign, Keeps, Means}

@@ -16,11 +16,11 @@ abbrev mutual
   talls no_more = 0
   talls (one_more first rest) = max (tall first) (talls rest)
 
-row-shapes : (n : _) (row : Row_of-Init n) → init_row_shape row ≡ init_shapes (items-the_row-Init n row)
+pub row-shapes : (n : _) (row : Row_of-Init n) → init_row_shape row ≡ init_shapes (items-the_row-Init n row)
 row-shapes n end_of-Init = refl
 row-shapes n (more_of-Init first rest) = ap (one_more (init_shape first)) (row-shapes _ rest)
 
-abbrev row_of : Init → (n : Count) × Row_of-Init n
+abbrev pub row_of : Init → (n : Count) × Row_of-Init n
 row_of (List' _ _ row _) = (_, row)
 row_of _ = (_, end_of-Init)
 

@@ -1,5 +1,5 @@
 -- Reading by the rows gives the answer that the grammar alone asks for, and there is no other.
-use Rattle.std.proofs.Common.{ℕ, ◌+◌, ◌≤◌, ◌≡◌, ◌∙◌, ap, sym, subst, refl, List, Bool, true, false, ◌&&◌, Some, None, Ok, Err, arith, inl, inr, ◌⊎◌, nat_eq}
+use Rattle.std.proofs.Common.{ℕ, ◌+◌, ◌≤◌, ◌≡◌, ◌∙◌, ap, sym, subst, refl, List, Bool, true, false, Some, None, Ok, Err, arith, inl, inr, ◌⊎◌, nat_eq}
 use Rattle.std.specs.declared.option.Option.{Option}
 use Rattle.tsa_base.specs.Tokens.{Lexeme}
 use Rattle.tsa_tree.specs.declared.expr.BinaryOp.{BinaryOp}
@@ -17,12 +17,9 @@ use Rattle.tsa_tree.proofs.RowsRead.{reading, reading_exact, completed, broken_f
 use Rattle.tsa_tree.proofs.expressions.Same.{spell_the_same, begin_the_same}
 use Rattle.tsa_tree.proofs.expressions.GoesOn.{unary_goes_on, expression_goes_on, operator_goes_on, unary_calls, expression_calls}
 use Rattle.tsa_tree.proofs.expressions.Unlimited.{whole, free-spelled, free-part}
+use Rattle.tsa_tree.proofs.attributes.Facts.{both}
 use Rattle.tsa_forms.specs.Exact as forms
 use Rattle.tsa_forms.specs.Reading.{Code, syntax, deep, barred, Refusal, refuse, Outcome, all}
-
-both : (p q : Bool) → (p && q) ≡ true → (p ≡ true) × (q ≡ true)
-both true q e = (refl, e)
-both false q e = cc
 
 name_marked : (s : Sign) → nat_eq (mark s) 3 ≡ true → s ≡ sign.Name
 name_marked sign.Name e = refl

@@ -3,6 +3,7 @@ use Rattle.std.proofs.Common.{ℕ, ◌+◌, ◌≤◌, ◌≡◌, ap, sym, subst
 use Rattle.std.proofs.lemmas.Bool.{leb-true}
 use Rattle.std.specs.declared.option.Option.{Option}
 use Rattle.tsa_base.specs.Tokens.{Lexeme}
+use Rattle.tsa_base.proofs.Truths.{never_true as never}
 use Rattle.tsa_tree.specs.declared.expr.UnaryOp.{UnaryOp}
 use Rattle.tsa_tree.specs.declared.expr.BinaryOp.{BinaryOp}
 use Rattle.tsa_tree.specs.declared.sign.Sign.{Sign}
@@ -15,7 +16,6 @@ use Rattle.tsa_tree.specs.Rows.{Sort, an_expression, some_arguments, Call, expre
 use Rattle.tsa_tree.proofs.tokens.ProductionSigns.{shows_name, shows_open, shows_close, shows_close_bracket, shows_comma}
 use Rattle.tsa_tree.proofs.Inductions as all
 use Rattle.tsa_tree.proofs.attributes.Meanings.{Needs, Closed, Means, Begun, Refused, Opens}
-use Rattle.tsa_tree.proofs.attributes.Kept.{never}
 use Rattle.tsa_tree.proofs.attributes.Opened.{opens_attributes, opens_one_group, opens_entries}
 use Rattle.tsa_tree.proofs.attributes.Skips.{opens_skip}
 use Rattle.tsa_tree.proofs.expressions.RowsToProductions.{weaken, keeps}

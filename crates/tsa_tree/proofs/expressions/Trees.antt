@@ -9,11 +9,11 @@ use Rattle.tsa_tree.specs.declared.expr.ExprKind.{ExprKind, Call, Call', Row_of-
 use Rattle.tsa_tree.specs.expressions.Syntax.{call, more}
 use Rattle.tsa_tree.specs.expressions.Shapes.{name_shape, kind_shape, row_shape, shape, shapes}
 
-row-shapes : (n : _) (row : Row_of-Expr n) → row_shape row ≡ shapes (items-the_row-Expr n row)
+pub row-shapes : (n : _) (row : Row_of-Expr n) → row_shape row ≡ shapes (items-the_row-Expr n row)
 row-shapes n end_of-Expr = refl
 row-shapes n (more_of-Expr kind span rest) = ap (more (kind_shape kind span)) (row-shapes _ rest)
 
-abbrev row_of : ExprKind → (n : Count) × Row_of-Expr n
+abbrev pub row_of : ExprKind → (n : Count) × Row_of-Expr n
 row_of (Call' _ _ _ row) = (_, row)
 row_of _ = (_, end_of-Expr)
 

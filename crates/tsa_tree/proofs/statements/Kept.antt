@@ -2,6 +2,7 @@
 use Rattle.std.proofs.Common.{ℕ, ◌+◌, ◌≡◌, ◌∙◌, ap, sym, subst, refl, Bool, true, Option, Some, None, List}
 use Rattle.std.proofs.lemmas.Bool.{not-true}
 use Rattle.tsa_base.specs.Tokens.{Lexeme}
+use Rattle.tsa_base.proofs.Truths.{never_true as never}
 use Rattle.tsa_tree.specs.declared.expr.BinaryOp.{BinaryOp}
 use Rattle.tsa_tree.specs.declared.sign.Keyword.TheVariants as key
 use Rattle.tsa_tree.specs.declared.sign.Sign.{Sign}
@@ -15,7 +16,6 @@ use Rattle.tsa_tree.specs.Rows.{Sort, a_simple, a_for_init, a_statement, some_st
 use Rattle.tsa_tree.specs.Rows as rows
 use Rattle.tsa_tree.proofs.tokens.ProductionSigns.{shows_name, shows_open, shows_close, shows_close_brace}
 use Rattle.tsa_tree.proofs.declarations.Signs.{shows_semicolon, shows_colon, shows_keyword}
-use Rattle.tsa_tree.proofs.attributes.Kept.{never}
 use Rattle.tsa_tree.proofs.expressions.ToRows.{stop_behind}
 use Rattle.tsa_tree.proofs.expressions.RowsToProductions.{production_of}
 use Rattle.tsa_forms.specs.Form.{done, token}

@@ -47,7 +47,7 @@ row-shapes : (n : _) (row : Row_of-Stmt n) → stmt_row_shape row ≡ stmt_shape
 row-shapes n end_of-Stmt = refl
 row-shapes n (more_of-Stmt k point own rest) = ap (more (stmt_shape k own)) (row-shapes _ rest)
 
-abbrev row_of : StmtKind → (n : Count) × Row_of-Stmt n
+abbrev pub row_of : StmtKind → (n : Count) × Row_of-Stmt n
 row_of (Block' _ _ row) = (_, row)
 row_of _ = (_, end_of-Stmt)
 

@@ -48,11 +48,11 @@ here = record {
   params = λ f. single type.Int false ∷ single (type.Pointer 0 true) false ∷ [];
 }
 
-abbrev read_as : Outcome Expression → Expression
+abbrev pub read_as : Outcome Expression → Expression
 read_as (Ok found) = found.0
 read_as (Err refusal) = null nowhere
 
-abbrev read_in : Result (List Lexeme) BadByte → Expression
+abbrev pub read_in : Result (List Lexeme) BadByte → Expression
 read_in (Ok tokens) = read_as (read tokens rows.an_expression (rows.expression [] 0 0) 0)
 read_in (Err bad) = null nowhere
 

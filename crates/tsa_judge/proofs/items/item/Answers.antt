@@ -9,8 +9,8 @@ use Rattle.tsa_seen.specs.Premises.{first}
 use Rattle.tsa_ground.specs.Judging.{Knowledge, behind, unit_at, with_scope}
 use Rattle.tsa_ground.specs.Units.{Unit, attributes_behind, item_premises}
 use Rattle.tsa_judge.proofs.Behind.{alias_behind, enum_behind, global_behind, struct_behind}
-use Rattle.tsa_ground.proofs.Sequences.{nothing_fails}
 use Rattle.tsa_judge.proofs.items.item.Goals as goal
+use Rattle.tsa_ask.proofs.Firsts.{nothing_fails}
 
 abbrev told : Unit → Knowledge → Item → Option Failure
 told u k x = first (item_premises u k.attributes (attributes_behind u k.attributes k.here (item_shape x)) k.here (item_shape x))

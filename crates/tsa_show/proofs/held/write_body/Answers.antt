@@ -1,4 +1,4 @@
-use Rattle.std.proofs.Common.{◌≡◌, ◌∙◌, Some, map, sym, ap, subst}
+use Rattle.std.proofs.Common.{◌∙◌, map, sym, ap, subst}
 use Rattle.std.specs.List.Sorted.{IsPermutation}
 use Rattle.tsa_core.specs.Programs.{program_of}
 use Rattle.tsa_texts.specs.Ranks.{numbers_of}
@@ -7,9 +7,7 @@ use Rattle.tsa_bodies.specs.Paths.{paths_of}
 use Rattle.tsa_show.specs.Held.{IsAccountHeld, account, try_names_from}
 use Rattle.tsa_show.proofs.Fronts.{on_error, on_ok}
 use Rattle.tsa_show.proofs.held.write_body.Goals as goal
-
-same : {A : Type 0} {x y : A} → Some x ≡ Some y → x ≡ y
-same e = cc
+use Rattle.tsa_base.proofs.Options.{some_same as same}
 
 pub returns-clause-all : goal.returns-clause-all
 returns-clause-all g c = on_ok c.write.result _ _ (λ all items b h.

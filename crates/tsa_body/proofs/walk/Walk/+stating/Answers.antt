@@ -12,9 +12,10 @@ use Rattle.tsa_tree.specs.types.Premises.{first}
 use Rattle.tsa_tree.specs.types.Scopes.{context_of}
 use Rattle.tsa_tree.specs.types.Statements.{statement_premises, behind}
 use Rattle.tsa_tree.specs.types.Targets.{declared_in}
-use Rattle.tsa_body.proofs.StatementLaws.{plus_one, block_wrong, block_behind, do_stops, do_goes, for_goes, statements_end, behind_end, statements_stop, statements_next, behind_next}
+use Rattle.tsa_body.proofs.StatementLaws.{block_wrong, block_behind, do_stops, do_goes, for_goes, statements_end, behind_end, statements_stop, statements_next, behind_next}
 use Rattle.tsa_tree.proofs.statements.Trees.{tall, talls, shape_of, block_at}
 use Rattle.tsa_body.proofs.walk.Walk.+stating.Goals as goal
+use Rattle.tsa_base.proofs.Numbers.{plus_one}
 
 pub statement-returns-in-Block-clause-judged : goal.statement-returns-in-Block-clause-judged
 statement-returns-in-Block-clause-judged t c =

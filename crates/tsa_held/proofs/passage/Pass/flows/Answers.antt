@@ -11,9 +11,10 @@ use Rattle.tsa_site.specs.Judging.{unit_at}
 use Rattle.tsa_site.specs.Knowing.{outset_of}
 use Rattle.tsa_site.specs.Units.{unit_of}
 use Rattle.tsa_held.specs.Units.{IsAhead, told_at}
-use Rattle.tsa_held.proofs.Passing.{all_told, none_told, plus_one}
+use Rattle.tsa_held.proofs.Passing.{all_told, none_told}
 use Rattle.tsa_held.proofs.Room.{none_at}
 use Rattle.tsa_held.proofs.passage.Pass.flows.Goals as goal
+use Rattle.tsa_base.proofs.Numbers.{plus_one}
 
 pub each-init : goal.each-init
 each-init c =

@@ -1,13 +1,11 @@
-use Rattle.std.proofs.Common.{◌∙◌, ◌++◌, ◌∷◌, ◌<◌, ◌≤◌, ◌≡◌, [], false, true, OnOk, arith, length, map, refl, slice_index_or, slice_set, sym, ap, subst, vec_len}
+use Rattle.std.proofs.Common.{◌∙◌, ◌++◌, ◌∷◌, ◌<◌, ◌≤◌, ◌≡◌, [], OnOk, arith, length, map, refl, slice_index_or, slice_set, sym, ap, subst, vec_len}
 use Rattle.std.proofs.Math.Decide.{dec_lt}
 use Rattle.std.proofs.lemmas.List.{length-map, set_past}
 use Rattle.std.proofs.lemmas.Result.{on_ok_weaker}
 use Rattle.tsa_graph.proofs.EntryLists.{put_in}
 use Rattle.tsa_stops.proofs.claims.Claims.note.Goals as goal
 use Rattle.tsa_stops.proofs.claims.Claims.note.Goals.{in-Some, in-None}
-
-never : {A : Type 0} → false ≡ true → A
-never e = cc
+use Rattle.tsa_base.proofs.Truths.{never_true as never}
 
 -- a list that is there takes the point, and where there is none nothing changes
 pub returns : goal.returns
