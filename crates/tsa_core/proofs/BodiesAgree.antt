@@ -93,7 +93,7 @@ kept_item here (body_item head body close) other x is = kept_known here head tru
 abbrev pub Means : Scope → List ℕ → ℕ → Type 0
 Means here name n = (e : Entry) × ((found here.names name ≡ Some e) × (e.meaning ≡ meant.Function n))
 
-means_kept : (here there : Scope) (name : List ℕ) (n : ℕ) → KeepsNames here there → Means here name n → Means there name n
+pub means_kept : (here there : Scope) (name : List ℕ) (n : ℕ) → KeepsNames here there → Means here name n → Means there name n
 means_kept here there name n kept h = (h.0, (kept name h.0 h.1.0, h.1.1))
 
 -- each function that is declared is known by its name

@@ -45,6 +45,7 @@ pub mod AskedLoads
 pub mod PointLoads
 pub mod JustLoads
 pub mod UsesOfCells
+pub mod IntRange
 pub use Rattle.tsa_lead.proofs.Asking
 pub use Rattle.tsa_lead.proofs.Laid
 pub use Rattle.tsa_lead.proofs.Pieces

@@ -1,5 +1,5 @@
 -- A path is among those of a function, or the function doesn't name it.
-use Rattle.std.proofs.Common.{◌≡◌, ◌∙◌, ℕ, zero, suc, arith, Bool, true, false, ◌||◌, List, [], ◌∷◌, ◌++◌, length, map, Option, Some, None, option_and_then, slice_get, refl, sym, ap, ap₂, subst}
+use Rattle.std.proofs.Common.{◌≡◌, ◌∙◌, ℕ, zero, suc, arith, Bool, true, false, ◌||◌, List, [], ◌∷◌, ◌++◌, length, map, Option, Some, None, option_and_then, slice_get, refl, sym, ap, ap₂}
 use Rattle.std.proofs.lemmas.List.Folds.{list_any-append}
 use Rattle.std.specs.List.{flat_map, list_any}
 use Rattle.tsa_way.specs.Ways.{Way}
@@ -7,11 +7,9 @@ use Rattle.tsa_core.specs.Bodies.{Body, Point}
 use Rattle.tsa_core.specs.Meanings.{Call}
 use Rattle.tsa_core.specs.Programs.{Attr, Function, Program}
 use Rattle.tsa_core.specs.Uses.{Access, Uses}
-use Rattle.tsa_judge.specs.Ways.{each_once, present}
-use Rattle.tsa_path.specs.PathTables.{with_path}
+use Rattle.tsa_judge.specs.Ways.{present}
 use Rattle.tsa_path.specs.Sameness.{same_way}
 use Rattle.tsa_path.specs.Substitution.{substituted}
-use Rattle.tsa_path.proofs.Numbers.{numbers_stay}
 use Rattle.tsa_path.proofs.Same.{way_equal}
 use Rattle.tsa_rules.specs.Attributes.{all_as_called, as_called, is_path, names}
 use Rattle.tsa_rules.specs.Points.{attrs_at, attrs_called, is_guarded_by, or_idle, or_no_function, or_unused, point_at, points_of, uses_at}
@@ -19,18 +17,7 @@ use Rattle.tsa_rules.specs.StatusLaws.{IsUnnamed}
 use Rattle.tsa_rules.proofs.Unnamed.{rules_speak_of_named_paths}
 use Rattle.tsa_cover.specs.Laws.{RulesFailForPathsOfFunctions}
 use Rattle.tsa_profile.specs.Paths.{called, called_in, paths_of, point_ways, points_in, points_ways, ways_of}
-
--- what comes stands among the others
-stays : (known ws : List Way) (n : ℕ) (w : Way) → slice_get known n ≡ Some w → slice_get (each_once known ws) n ≡ Some w
-stays known [] n w at = at
-stays known (v ∷ ws) n w at = stays (with_path known v) ws n w (numbers_stay.stays known v w n at)
-
-comes : (known ws : List Way) (k : ℕ) (w : Way) → slice_get ws k ≡ Some w → (n : ℕ) × (slice_get (each_once known ws) n ≡ Some w)
-comes known [] k w at = absurd cc
-comes known (v ∷ ws) zero w at =
-    let same : v ≡ w = cc in
-    subst (λ x. (n : ℕ) × (slice_get (each_once (with_path known v) ws) n ≡ Some x)) same (_, stays (with_path known v) ws _ v (numbers_stay.stands known v))
-comes known (v ∷ ws) (suc k) w at = comes (with_path known v) ws k w at
+use Rattle.tsa_profile.proofs.EachOnce.{comes}
 
 module _ (c : Way) where
   abbrev among : List Way → Bool

@@ -11,10 +11,8 @@ use Rattle.tsa_graph.specs.declared.arcs.Exit.{Exit}
 use Rattle.tsa_graph.specs.declared.arcs.Exit.TheVariants.{Nowhere}
 use Rattle.tsa_graph.specs.Arcs.{exit_of, more, entry_of, AreArcs}
 use Rattle.tsa_graph.specs.Edges.{edges_from, edges_into}
+use Rattle.tsa_graph.proofs.WaysMade.{equal}
 use Rattle.tsa_runs.proofs.Paths.{either, not_true}
-
-equal : (p q : ℕ) → p ≡ q → nat_eq p q ≡ true
-equal p q e = grind (arith, nat_tests, e)
 
 apart : (p q : ℕ) → (p ≡ q → ⊥) → nat_eq p q ≡ false
 apart p q other = not_true (nat_eq p q) (λ e. other (grind (arith, nat_tests, e)))

@@ -15,7 +15,7 @@ use Rattle.tsa_core.specs.Programs.{Bodied, Declared, unless_known, first_head}
 use Rattle.tsa_core.proofs.KindTests.{neither, or_left}
 use Rattle.tsa_core.proofs.TypedTerms.{some_same}
 use Rattle.tsa_core.proofs.UnitScopes.{or_other, found_append}
-use Rattle.tsa_core.proofs.BodiesAgree.{AreMeant, KeepsNames, Means}
+use Rattle.tsa_core.proofs.BodiesAgree.{AreMeant, Means, means_kept}
 use Rattle.tsa_profile.proofs.AddedNames.{kept_name, AddsData}
 use Rattle.tsa_base.proofs.Truths.{never, or_right}
 
@@ -43,9 +43,6 @@ pub record Stands (ds : List Declared) (bodies : Bodies) (here : Scope) : Type 0
   pub named : KnowsFunctions ds here
   pub meant_by : AreMeant ds here
   pub marked : (name : List ℕ) (b : Bodied) → bodies name ≡ Some b → IsMarked here name
-
-means_kept : (here there : Scope) (name : List ℕ) (n : ℕ) → KeepsNames here there → Means here name n → Means there name n
-means_kept here there name n kept h = (h.0, (kept name h.0 h.1.0, h.1.1))
 
 number_same : (n m : ℕ) → meant.Function n ≡ meant.Function m → n ≡ m
 number_same n m e = cc

@@ -22,4 +22,5 @@ pub mod TableLists
 pub mod UnitsRun
 pub mod Worked
 pub mod Laying
+pub mod EachOnce
 pub use Rattle.tsa_judge.proofs.ItemLists

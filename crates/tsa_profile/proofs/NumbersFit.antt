@@ -1,5 +1,5 @@
 -- An `int` that a constant expression is worked out to is in the range of `int`, where the enumerators that are known are.
-use Rattle.std.proofs.Common.{◌≡◌, ℕ, zero, suc, ◌-◌, ◌/◌, ◌%◌, ◌^◌, ◌<◌, ◌≤◌, ℤ, pos, negsuc, neg_ℤ, ◌+ℤ◌, ◌-ℤ◌, ◌*ℤ◌, int_div, int_rem, int_lt, int_le, unsigned_abs, arith, nat_lt, nat_le, List, Bool, true, false, Option, Some, None, Result, Ok, Err, if◌then◌else◌, refl, subst}
+use Rattle.std.proofs.Common.{◌≡◌, ℕ, zero, suc, ◌-◌, ◌/◌, ◌%◌, ◌^◌, ◌≤◌, ℤ, pos, negsuc, neg_ℤ, ◌+ℤ◌, ◌-ℤ◌, ◌*ℤ◌, int_div, int_rem, arith, nat_lt, nat_le, List, Bool, true, false, Option, Some, None, Result, Ok, Err, if◌then◌else◌, refl, subst}
 use Rattle.std.proofs.lemmas.Bool.Decides.{nat_tests}
 use Rattle.tsa_tree.specs.declared.expr.BinaryOp.{BinaryOp}
 use Rattle.tsa_tree.specs.declared.expr.BinaryOp.TheVariants as op
@@ -17,26 +17,8 @@ use Rattle.tsa_tree.specs.types.DeclaredTypes.{typed_value, value_in}
 use Rattle.tsa_tree.specs.types.Expressions.{type_of}
 use Rattle.tsa_tree.specs.types.Known.{Context}
 use Rattle.tsa_core.proofs.CaseLists.{InRange}
-use Rattle.tsa_core.proofs.KindTests.{and_true, both_true}
 use Rattle.tsa_core.proofs.TypedTerms.{some_same}
-use Rattle.tsa_base.proofs.Numbers.{small_remainder}
-
--- the range of `int`
-int_pos : (n : ℕ) → n < 2 ^ 31 → is_int (pos n) ≡ true
-int_pos n h = and_true (int_le (neg_ℤ (pos (2 ^ 31))) (pos n)) (int_lt (pos n) (pos (2 ^ 31))) refl (grind (arith, nat_tests, h))
-
-int_negative : (n : ℕ) → n < 2 ^ 31 → is_int (negsuc n) ≡ true
-int_negative n h = and_true (int_le (neg_ℤ (pos (2 ^ 31))) (negsuc n)) (int_lt (negsuc n) (pos (2 ^ 31))) (grind (arith, nat_tests, h)) refl
-
-int_opposite : (n : ℕ) → n ≤ 2 ^ 31 → is_int (neg_ℤ (pos n)) ≡ true
-int_opposite zero h = int_pos 0 (omega arith)
-int_opposite (suc n) h = int_negative n (omega (arith, h))
-
-pos_below : (n : ℕ) → is_int (pos n) ≡ true → n < 2 ^ 31
-pos_below n e = let less = (both_true (int_le (neg_ℤ (pos (2 ^ 31))) (pos n)) _ e).1 in grind (arith, nat_tests, less)
-
-negative_below : (n : ℕ) → is_int (negsuc n) ≡ true → n < 2 ^ 31
-negative_below n e = let less = (both_true _ (int_lt (negsuc n) (pos (2 ^ 31))) e).0 in grind (arith, nat_tests, less)
+use Rattle.tsa_core.proofs.IntRange.{int_opposite, int_pos, remainder_fits}
 
 abbrev pub IsFit : Number → Type 0
 IsFit (numeral.Int z) = is_int z ≡ true
@@ -71,13 +53,6 @@ literal_fits n false = by (nat_le (2 ^ 31) n) refl
     by : (b : Bool) → nat_le (2 ^ 31) n ≡ b → IsFit (if b then numeral.Unsigned n else numeral.Int (pos n))
     by true e = tt
     by false e = int_pos n (grind (arith, nat_tests, e))
-
-remainder_fits : (a b : ℤ) → is_int a ≡ true → is_int (int_rem a b) ≡ true
-remainder_fits (pos n) b h = let less = pos_below n h in let small = small_remainder n (unsigned_abs b) in int_pos (n % unsigned_abs b) (omega (arith, less, small))
-remainder_fits (negsuc n) b h =
-    let less = negative_below n h in
-    let small = small_remainder (suc n) (unsigned_abs b) in
-    int_opposite (suc n % unsigned_abs b) (omega (arith, less, small))
 
 prefix_fits : (o : UnaryOp) (n : Number) → IsFit n → Fits (operate_prefix o n)
 prefix_fits prefix.Minus (numeral.Int z) h = exactly_fits (neg_ℤ z)

@@ -1,5 +1,5 @@
 -- Operators make numbers in range of numbers in range, of the kinds that are told.
-use Rattle.std.proofs.Common.{◌≡◌, ℕ, zero, suc, ◌-◌, ◌/◌, ◌%◌, ◌^◌, ◌<◌, ◌≤◌, ℤ, pos, negsuc, neg_ℤ, ◌+ℤ◌, ◌-ℤ◌, ◌*ℤ◌, int_div, int_rem, int_le, int_lt, unsigned_abs, nat_lt, Bool, true, false, ◌&&◌, Option, Some, Result, Ok, Err, if◌then◌else◌, refl, sym, subst, arith}
+use Rattle.std.proofs.Common.{◌≡◌, ℕ, zero, suc, ◌-◌, ◌/◌, ◌%◌, ◌^◌, ◌<◌, ◌≤◌, ℤ, pos, negsuc, neg_ℤ, ◌+ℤ◌, ◌-ℤ◌, ◌*ℤ◌, int_div, int_rem, nat_lt, Bool, true, false, Option, Some, Result, Ok, Err, if◌then◌else◌, refl, sym, subst, arith}
 use Rattle.std.proofs.lemmas.Bool.Decides.{nat_tests}
 use Rattle.std.proofs.lemmas.Nat.{and_le_l, or_of_32, xor_of_32}
 use Rattle.tsa_tree.specs.declared.expr.BinaryOp.{BinaryOp}
@@ -14,8 +14,8 @@ use Rattle.tsa_tree.specs.declared.number.Trap.{Trap}
 use Rattle.tsa_tree.specs.declared.number.Trap.TheVariants.{Overflow}
 use Rattle.tsa_tree.specs.types.Arithmetic.{divided, exactly, int_of, is_int, on_int, on_unsigned, operate, operate_prefix, truth, unsigned_of}
 use Rattle.tsa_core.specs.Kinds.{binary_kind, prefix_kind}
+use Rattle.tsa_core.proofs.IntRange.{int_opposite, int_pos, remainder_fits}
 use Rattle.tsa_sound.specs.Facts.{IsWhole}
-use Rattle.tsa_sound.proofs.Constants.{both}
 use Rattle.tsa_base.proofs.Numbers.{small_remainder}
 
 -- a number in range, and its kind
@@ -32,26 +32,6 @@ abbrev pub IsGood : Option Kind → Result Number Trap → Type 0
 IsGood (Some kind) (Ok n) = (kind ≡ kind_of n) × NumberFits n
 IsGood kind r = Unit {0}
 
-and_true : (a b : Bool) → a ≡ true → b ≡ true → (a && b) ≡ true
-and_true true b one other = other
-and_true false b one other = one
-
-int_pos : (n : ℕ) → n < 2 ^ 31 → is_int (pos n) ≡ true
-int_pos n h = and_true (int_le (neg_ℤ (pos (2 ^ 31))) (pos n)) (int_lt (pos n) (pos (2 ^ 31))) refl (grind (arith, nat_tests, h))
-
-int_negative : (n : ℕ) → n < 2 ^ 31 → is_int (negsuc n) ≡ true
-int_negative n h = and_true (int_le (neg_ℤ (pos (2 ^ 31))) (negsuc n)) (int_lt (negsuc n) (pos (2 ^ 31))) (grind (arith, nat_tests, h)) refl
-
-int_opposite : (n : ℕ) → n ≤ 2 ^ 31 → is_int (neg_ℤ (pos n)) ≡ true
-int_opposite zero h = int_pos 0 (omega arith)
-int_opposite (suc n) h = int_negative n (omega (arith, h))
-
-pos_below : (n : ℕ) → is_int (pos n) ≡ true → n < 2 ^ 31
-pos_below n e = let less = (both (int_le (neg_ℤ (pos (2 ^ 31))) (pos n)) _ e).1 in grind (arith, nat_tests, less)
-
-negative_below : (n : ℕ) → is_int (negsuc n) ≡ true → n < 2 ^ 31
-negative_below n e = let less = (both _ (int_lt (negsuc n) (pos (2 ^ 31))) e).0 in grind (arith, nat_tests, less)
-
 below : (n : ℕ) → n < 2 ^ 32 → nat_lt n (2 ^ 32) ≡ true
 below n h = grind (arith, nat_tests, h)
 
@@ -64,13 +44,6 @@ truth_fits false = int_pos 0 (omega arith)
 
 small_quotient : (n k : ℕ) → n / suc k ≤ n
 small_quotient n k = omega arith
-
-remainder_fits : (a b : ℤ) → is_int a ≡ true → is_int (int_rem a b) ≡ true
-remainder_fits (pos n) b h = let less = pos_below n h in let small = small_remainder n (unsigned_abs b) in int_pos (n % unsigned_abs b) (omega (arith, less, small))
-remainder_fits (negsuc n) b h =
-    let less = negative_below n h in
-    let small = small_remainder (suc n) (unsigned_abs b) in
-    int_opposite (suc n % unsigned_abs b) (omega (arith, less, small))
 
 exactly_good : (z : ℤ) → IsGood (Some type.Int) (exactly z)
 exactly_good z = by (is_int z) refl

@@ -10,3 +10,4 @@ pub mod Computed
 pub mod PlaceExamples
 pub mod UnitExamples
 pub mod RunnableExamples
+pub mod Grown

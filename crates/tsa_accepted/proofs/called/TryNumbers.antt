@@ -97,7 +97,7 @@ try_numbered u f p n y at t e =
     sym (find_at (nat_eq n) (try_variables u f)) ∙ find_number n (try_variables u f) (listed u (points_of f) p y n at (tried_begins u y n t e))
 
 -- A try variable is one that a point declares with a call of a try.
-from_filter : {A B : Type 0} (f : A → Option B) (xs : List A) (w : ℕ) (b : B) → slice_get (filter_map f xs) w ≡ Some b
+pub from_filter : {A B : Type 0} (f : A → Option B) (xs : List A) (w : ℕ) (b : B) → slice_get (filter_map f xs) w ≡ Some b
     → (p : ℕ) × ((x : A) × ((slice_get xs p ≡ Some x) × (f x ≡ Some b)))
 from_filter f [] w b e = absurd cc
 from_filter {A = A} {B = B} f (x ∷ xs) w b e = by (f x) refl w e (λ v h. from_filter f xs v b h)

@@ -15,6 +15,7 @@ use Rattle.tsa_path.proofs.Same.{way_equal}
 use Rattle.tsa_rules.specs.Attributes.{all_as_called, as_called}
 use Rattle.tsa_rules.specs.Points.{attrs_at, attrs_called, or_idle, or_no_function, or_unused, points_of}
 use Rattle.tsa_profile.specs.Paths.{called, called_in, paths_of, point_ways, points_in, points_ways, ways_of}
+use Rattle.tsa_profile.proofs.EachOnce.{stays}
 use Rattle.tsa_sound.specs.Facts.{IsAmong}
 use Rattle.tsa_accepted.specs.kept.Laws.{PathsAreNamedOnce}
 
@@ -42,10 +43,6 @@ at_index (x ∷ xs) zero d less = refl
 at_index (x ∷ xs) (suc n) d less = at_index xs n d (omega (arith, less))
 
 -- EACH ONCE
-
-stays : (known ws : List Way) (n : ℕ) (w : Way) → slice_get known n ≡ Some w → slice_get (each_once known ws) n ≡ Some w
-stays known [] n w at = at
-stays known (v ∷ ws) n w at = stays (with_path known v) ws n w (numbers_stay.stays known v w n at)
 
 comes : (known ws : List Way) (k : ℕ) (w : Way) → slice_get ws k ≡ Some w → In (each_once known ws) w
 comes known [] k w at = absurd cc

@@ -1,6 +1,5 @@
 -- What a point sets is mentioned by no path that has to stay as it is.
-use Rattle.std.proofs.Common.{◌≡◌, ◌∙◌, ℕ, zero, suc, ◌+◌, ◌<◌, ◌≤◌, arith, nat_eq, eqb-true, Bool, true, false, List, [], ◌∷◌, length, map, All, Contains, filter_map, Option, Some, None, option_map, slice_get, refl, sym, ap, subst}
-use Rattle.std.specs.List.{cons_option}
+use Rattle.std.proofs.Common.{◌≡◌, ◌∙◌, ℕ, ◌<◌, ◌≤◌, arith, nat_eq, eqb-true, Bool, true, false, List, length, map, All, Contains, Option, Some, None, option_map, slice_get, refl, sym, ap, subst}
 use Rattle.tsa_tree.specs.declarations.Syntax.{Declaration, Initialiser, value, list}
 use Rattle.tsa_tree.specs.declared.expr.BinaryOp.{BinaryOp}
 use Rattle.tsa_tree.specs.declared.kind.Kind.{Kind}
@@ -26,7 +25,6 @@ use Rattle.tsa_core.proofs.BodiesAgree.{bodies_agree}
 use Rattle.tsa_core.proofs.EachScope.{each_point}
 use Rattle.tsa_core.proofs.MappedLists.{map_at, map_length}
 use Rattle.tsa_rules.specs.Points.{is_a_try, local_begun, mentions, or_idle, point_at, try_variable_at, try_variables}
-use Rattle.tsa_rules.specs.TryVariables.{AreInOrder, IsNext, begun_count}
 use Rattle.tsa_rules.proofs.KeptTries.{try_variables_are_told_by_declarations}
 use Rattle.tsa_judge.specs.Units.{refusal_of_profile}
 use Rattle.tsa_profile.specs.Paths.{paths_of}
@@ -36,7 +34,7 @@ use Rattle.tsa_accepted.specs.kept.Laws.{SetsApart}
 use Rattle.tsa_accepted.proofs.kept.SetLocals.{at_index, set_changes}
 use Rattle.tsa_accepted.proofs.kept.StablePaths.{attrs_fine, attrs_unmentioned, own_stay, unstable_unmentioned}
 use Rattle.tsa_accepted.proofs.kept.TryLocals.{tries_stay}
-use Rattle.tsa_accepted.proofs.called.TryNumbers.{begins_later, tried_and_begun}
+use Rattle.tsa_accepted.proofs.called.TryNumbers.{tried_and_begun, declared_once, from_filter}
 use Rattle.tsa_accepted.proofs.entered.HeadScopes.{names_parameters}
 
 -- What a point sets: a local that it assigns, or one that it declares without a call.
@@ -98,38 +96,6 @@ declares_local result k idles is n e = absurd cc
 declares_local result k (returns None) is n e = absurd cc
 declares_local result k (returns (Some x)) is n e = absurd cc
 declares_local result k ends is n e = absurd cc
-
-never_again : (n : ℕ) (points : List Point) (x : Point) → AreInOrder n (x ∷ points) → (p m : ℕ) (y : Point) → slice_get points p ≡ Some y
-    → local_begun y.action ≡ Some m → local_begun x.action ≡ Some m → ⊥
-never_again n points x h p m y at e f =
-    let next : m ≡ n = subst (IsNext n) f h.0 in
-    let one : begun_count (local_begun x.action) ≡ 1 = ap begun_count f in
-    let more = begins_later (n + begun_count (local_begun x.action)) points h.1 p m y at e in
-    absurd (omega (arith, next, one, more))
-
-declared_once : (n : ℕ) (points : List Point) → AreInOrder n points → (p q m : ℕ) (y z : Point) → slice_get points p ≡ Some y → slice_get points q ≡ Some z
-    → local_begun y.action ≡ Some m → local_begun z.action ≡ Some m → p ≡ q
-declared_once n [] h p q m y z at_p at_q e f = absurd cc
-declared_once n (x ∷ points) h zero zero m y z at_p at_q e f = refl
-declared_once n (x ∷ points) h zero (suc q) m y z at_p at_q e f =
-    let same : x ≡ y = cc in absurd (never_again n points x h q m z at_q f (ap (λ w. local_begun w.action) same ∙ e))
-declared_once n (x ∷ points) h (suc p) zero m y z at_p at_q e f =
-    let same : x ≡ z = cc in absurd (never_again n points x h p m y at_p e (ap (λ w. local_begun w.action) same ∙ f))
-declared_once n (x ∷ points) h (suc p) (suc q) m y z at_p at_q e f =
-    ap suc (declared_once (n + begun_count (local_begun x.action)) points h.1 p q m y z at_p at_q e f)
-
--- A try variable is one that a point declares with a call of a try.
-from_filter : {A B : Type 0} (f : A → Option B) (xs : List A) (w : ℕ) (b : B) → slice_get (filter_map f xs) w ≡ Some b
-    → (p : ℕ) × ((x : A) × ((slice_get xs p ≡ Some x) × (f x ≡ Some b)))
-from_filter f [] w b e = absurd cc
-from_filter {A = A} {B = B} f (x ∷ xs) w b e = by (f x) refl w e (λ v h. from_filter f xs v b h)
-  where
-    by : (o : Option B) → f x ≡ o → (w : ℕ) → slice_get (cons_option o (filter_map f xs)) w ≡ Some b
-        → ((v : ℕ) → slice_get (filter_map f xs) v ≡ Some b → (p : ℕ) × ((y : A) × ((slice_get xs p ≡ Some y) × (f y ≡ Some b))))
-        → (p : ℕ) × ((y : A) × ((slice_get (x ∷ xs) p ≡ Some y) × (f y ≡ Some b)))
-    by None is w h deeper = let z = deeper w h in (suc z.0, z.1)
-    by (Some c) is zero h deeper = let same : c ≡ b = cc in (0, (x, (refl, is ∙ ap (λ y. Some y) same)))
-    by (Some c) is (suc w) h deeper = let z = deeper w h in (suc z.0, z.1)
 
 different : (m n : ℕ) → (m ≡ n → ⊥) → nat_eq m n ≡ false
 different m n h = by (nat_eq m n) refl

@@ -28,8 +28,8 @@ use Rattle.tsa_accepted.proofs.terms.CallScopes.{Calls, PointsBy, body_calls, ca
 use Rattle.tsa_accepted.proofs.terms.CallsLead.{deed_leads}
 use Rattle.tsa_accepted.proofs.terms.DeedsAct.{TestsCall, deed_acts, subject_is}
 use Rattle.tsa_accepted.proofs.terms.PointsFit as points
-use Rattle.tsa_accepted.proofs.terms.PointsFit.{each_at, number_holds}
-use Rattle.tsa_accepted.proofs.called.NamedAttributes.{all_at}
+use Rattle.tsa_accepted.proofs.terms.PointsFit.{number_holds}
+use Rattle.tsa_accepted.proofs.called.NamedAttributes.{all_at, each_at}
 use Rattle.tsa_base.proofs.Truths.{never}
 
 -- the parameters of a function are those of its signature

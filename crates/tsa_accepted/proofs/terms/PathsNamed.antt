@@ -9,26 +9,13 @@ use Rattle.tsa_core.specs.Programs.{Function, Program}
 use Rattle.tsa_core.specs.Uses.{Access, Uses}
 use Rattle.tsa_core.proofs.KindTests.{or_left}
 use Rattle.tsa_judge.specs.Ways.{each_once, present}
-use Rattle.tsa_path.specs.PathTables.{with_path}
 use Rattle.tsa_path.specs.Sameness.{same_way}
-use Rattle.tsa_path.proofs.Numbers.{numbers_stay}
 use Rattle.tsa_path.proofs.Same.{way_equal}
 use Rattle.tsa_profile.specs.Paths.{called, paths_of, point_ways, points_in, points_ways, ways_of}
+use Rattle.tsa_profile.proofs.EachOnce.{comes}
 use Rattle.tsa_rules.specs.Attributes.{is_path}
 use Rattle.tsa_rules.specs.Points.{is_guarded_by, or_unused, uses_at}
 use Rattle.tsa_base.proofs.Truths.{never, or_right}
-
--- what comes stands among the others
-stays : (known ws : List Way) (n : ℕ) (w : Way) → slice_get known n ≡ Some w → slice_get (each_once known ws) n ≡ Some w
-stays known [] n w at = at
-stays known (v ∷ ws) n w at = stays (with_path known v) ws n w (numbers_stay.stays known v w n at)
-
-comes : (known ws : List Way) (k : ℕ) (w : Way) → slice_get ws k ≡ Some w → (n : ℕ) × (slice_get (each_once known ws) n ≡ Some w)
-comes known [] k w at = absurd cc
-comes known (v ∷ ws) zero w at =
-    let same : v ≡ w = cc in
-    subst (λ x. (n : ℕ) × (slice_get (each_once (with_path known v) ws) n ≡ Some x)) same (_, stays (with_path known v) ws _ v (numbers_stay.stands known v))
-comes known (v ∷ ws) (suc k) w at = comes (with_path known v) ws k w at
 
 at_contained : (ws : List Way) (n : ℕ) (w : Way) → slice_get ws n ≡ Some w → Contains ws w
 at_contained [] zero w at = absurd cc

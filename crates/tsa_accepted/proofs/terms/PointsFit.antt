@@ -1,5 +1,5 @@
 -- At each point of each function with a body of a unit in the profile the terms are as the laws of turns ask.
-use Rattle.std.proofs.Common.{◌≡◌, ◌∙◌, ℕ, zero, suc, Bool, true, List, [], ◌∷◌, ◌++◌, length, All, Contains, Option, Some, None, IsSome, option_map, slice_get, refl, sym, ap, subst}
+use Rattle.std.proofs.Common.{◌≡◌, ◌∙◌, ℕ, Bool, true, List, [], ◌∷◌, ◌++◌, length, All, Contains, Option, Some, None, IsSome, option_map, slice_get, refl, sym, ap, subst}
 use Rattle.std.proofs.lemmas.Slice.Eq.{bytes_eq-Decides}
 use Rattle.std.specs.List.{list_any}
 use Rattle.std.specs.Str.{bytes_eq}
@@ -33,7 +33,6 @@ use Rattle.tsa_core.proofs.MappedLists.{map_at}
 use Rattle.tsa_core.proofs.ProgramKinds.{programs_well_kinded}
 use Rattle.tsa_core.proofs.ScopesBelong.{Each, scopes_belong}
 use Rattle.tsa_core.proofs.SignaturesFit.{SoundBody, body_sound}
-use Rattle.tsa_core.proofs.TypedTerms.{some_same}
 use Rattle.tsa_core.proofs.UsesOfCells.{points_load_cells, points_load_just}
 use Rattle.tsa_judge.specs.Units as profile
 use Rattle.tsa_judge.specs.Units.{items_premises, paths_limits, tries_limits, unit_of}
@@ -53,15 +52,8 @@ use Rattle.tsa_accepted.proofs.terms.PathsNamed.{guards_named}
 use Rattle.tsa_accepted.proofs.terms.PointsAsked.{AskedAt, items_asked}
 use Rattle.tsa_accepted.proofs.terms.SmallScopes.{HasSmall, body_small, small_in}
 use Rattle.tsa_accepted.proofs.terms.TermsAt.{TermsAt, idle_terms, terms}
-use Rattle.tsa_accepted.proofs.called.NamedAttributes.{all_at}
+use Rattle.tsa_accepted.proofs.called.NamedAttributes.{all_at, each_at}
 use Rattle.tsa_base.proofs.Truths.{never}
-
--- what holds of all points holds of one
-pub each_at : (P : Known → Type 0) (ks : List Known) (n : ℕ) (k : Known) → Each P ks → slice_get ks n ≡ Some k → P k
-each_at P [] zero k h at = absurd cc
-each_at P [] (suc n) k h at = absurd cc
-each_at P (x ∷ ks) zero k h at = subst P (some_same at) h.0
-each_at P (x ∷ ks) (suc n) k h at = each_at P ks n k h.1 at
 
 module _ (items : List UnitItem) (l : Layout) (in_profile : IsInProfile items l) (d : Declared) (b : Bodied) (n : ℕ)
     (declared : slice_get (declared_functions (outset items) items) n ≡ Some d) (bodied : bodied_function d.head.name.text (outset items) items ≡ Some b)
