@@ -1,5 +1,5 @@
 //! What is known behind the head of a function, and inside it: its parameters are its first locals (C11 6.2.1p4, 6.9.1).
-ghost use Rattle.std.specs.Prelude.{◌≡◌, ◌+◌, None, Bool, false, take, length, is_some, IfOk, OnOk};
+ghost use Rattle.std.specs.Prelude.{◌≡◌, None, Bool, false, take, length, is_some, IfOk, OnOk};
 ghost use Rattle.tsa_function.specs.Functions.{outside_of, IsInside};
 ghost use Rattle.tsa_tree.specs.declarations.Shapes.{param_shape, param_shapes, head_shape};
 ghost use Rattle.tsa_tree.specs.declarations.Syntax.{Head};
@@ -9,7 +9,7 @@ ghost use Rattle.tsa_tree.specs.types.Scopes.{Scope as Known, found, with_names,
 
 use tsa_base::NoMemory;
 use tsa_layout::declared_thing;
-use tsa_scope::{FunctionTypes, Scope};
+use tsa_scope::{FunctionTypes, Scope, next_number};
 use tsa_tree::item::{FnTree, Param};
 use tsa_tree::kind::ThingType;
 use tsa_tree::meaning::{Entry, Meaning};
@@ -64,13 +64,6 @@ pub fn know_head<'a>(scope: &mut Scope<'a>, head: &FnTree<'a>) -> Result<(), NoM
         }
     }
     Ok(())
-}
-
-/// The number after one.
-fn next_number(number: u32) -> Result<u32, NoMemory>
-    ensures { IfOk result (λ n. n ≡ number + 1) }
-{
-    number.checked_add(1).ok_or(NoMemory)
 }
 
 /// How many parameters there are.

@@ -44,7 +44,7 @@ impl Found {
 }
 
 /// What a number is worth; one without a suffix that is no `int` is unsigned (C11 6.4.4.1).
-fn number_value(value: u32, unsigned: bool) -> Number
+pub fn number_value(value: u32, unsigned: bool) -> Number
     ensures { result ≡ spec_number_value value unsigned }
 {
     if unsigned || value >= 0x8000_0000 {

@@ -47,7 +47,7 @@ pub fn name_verdict(span: Span, entry: Option<Entry>) -> Result<Found, Failure>
 }
 
 /// A prefix operator on what may be a number.
-fn worked_prefix(op: UnaryOp, inner: Result<Number, Trap>) -> Result<Number, Trap>
+pub fn worked_prefix(op: UnaryOp, inner: Result<Number, Trap>) -> Result<Number, Trap>
     ensures { result ≡ go_on inner (spec_operate_prefix op) }
 {
     operate_prefix(op, inner?)
@@ -91,7 +91,7 @@ fn as_truth(value: Result<Number, Trap>) -> Result<Number, Trap>
 }
 
 /// A binary operator on what may be numbers: `&&` and `||` stop early (C11 6.5.13p4, 6.5.14p4).
-fn worked_binary(
+pub fn worked_binary(
     op: BinaryOp,
     left: Result<Number, Trap>,
     right: Result<Number, Trap>,

@@ -26,7 +26,7 @@ fn note_tag<'a>(tags: &mut Names<'a, Tag>, name: Option<Name<'a>>, tag: Tag) -> 
 }
 
 /// The number after another.
-fn next_number(number: u32) -> Result<u32, NoMemory>
+pub fn next_number(number: u32) -> Result<u32, NoMemory>
     ensures { IfOk result (λ n. n ≡ number + 1) }
 {
     number.checked_add(1).ok_or(NoMemory)

@@ -8,7 +8,7 @@ mod names;
 mod scope;
 mod symbols;
 
-pub use beginning::outset;
+pub use beginning::{next_number, outset};
 pub use cases::Cases;
 pub use names::Names;
 pub use scope::{FunctionTypes, Scope};

@@ -12,7 +12,7 @@ use crate::worth::{Worth, joined_worth, prefix_worth};
 use tsa_operand::{
     binary_type, element_type, is_integer_kind, is_pointer_kind, prefix_type, value,
 };
-use tsa_resolve::{entry_type, member_type, number_type, owner, result_type};
+use tsa_resolve::{entry_type, member_type, number_type, number_value, owner, result_type};
 use tsa_scope::Scope;
 use tsa_tree::expr::{BinaryOp, Expr, ExprKind, UnaryOp};
 use tsa_tree::kind::{ExpressionType, Kind, ThingType};
@@ -46,17 +46,6 @@ fn unknown() -> Gist
     Gist {
         expression: value(Kind::Null),
         worth: Worth::Null,
-    }
-}
-
-/// What a number is worth; one without a suffix that is no `int` is unsigned (C11 6.4.4.1).
-fn number_value(value: u32, unsigned: bool) -> Number
-    ensures { result ≡ spec_number_value value unsigned }
-{
-    if unsigned || value >= 0x8000_0000 {
-        Number::Unsigned(value)
-    } else {
-        Number::Int(value as i32)
     }
 }
 

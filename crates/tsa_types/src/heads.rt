@@ -1,5 +1,5 @@
 //! Heads of functions (C11 6.7.6.3, 6.9.1): their parameters are known one after the other, and then in the attributes and the body.
-ghost use Rattle.std.specs.Prelude.{◌≡◌, ◌++◌, ◌+◌, length, option_map, is_some, IfOk, OnOk};
+ghost use Rattle.std.specs.Prelude.{◌≡◌, ◌++◌, length, option_map, is_some, IfOk, OnOk};
 ghost use Rattle.tsa_resolve.specs.Judged.{Judges};
 ghost use Rattle.tsa_tree.specs.declarations.Shapes.{param_shape, param_shapes, head_shape};
 ghost use Rattle.tsa_tree.specs.expressions.Shapes.{name_shape};
@@ -13,7 +13,7 @@ use crate::functions::declare_function;
 use tsa_base::NoMemory;
 use tsa_data::judge_type;
 use tsa_resolve::{TypeRefusal, View, judged};
-use tsa_scope::{Scope, Symbols};
+use tsa_scope::{Scope, Symbols, next_number};
 use tsa_tree::expr::Name;
 use tsa_tree::item::{FnTree, Param};
 use tsa_tree::kind::Declaring;
@@ -25,13 +25,6 @@ use tsa_tree::premise::Bearer;
 struct LocalNumber {
     function: u32,
     number: u32,
-}
-
-/// The number after one.
-fn next_number(number: u32) -> Result<u32, NoMemory>
-    ensures { IfOk result (λ n. n ≡ number + 1) }
-{
-    number.checked_add(1).ok_or(NoMemory)
 }
 
 /// How many parameters there are.
