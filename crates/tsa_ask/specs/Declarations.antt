@@ -77,6 +77,8 @@ unfoldable pub guard_premises : View → List Attribute → List Premise
 guard_premises v [] = []
 guard_premises v (a ∷ rest) = attribute_arguments v a.kind [] a.args ++ guard_premises v rest
 
+-- An attribute fits a function's body. Only one without a body gives back a lock in whatever mode; a try has an `int` for a result, and all its
+-- attributes name the same value.
 abbrev pub is_int : Kind → Bool
 is_int type.Int = true
 is_int _ = false

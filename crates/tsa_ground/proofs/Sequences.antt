@@ -62,6 +62,7 @@ module _ (x f : Option Failure) (r : Result ⊤ ProfileRefusal) (found : f ≡ x
 pub judges_err : (x y : Option Failure) (e : ProfileRefusal) → x ≡ y → Judges x (Err e) → Judges y (Err e)
 judges_err x y e is h = subst (λ o. Judges o (Err e)) is h
 
+-- of one premise alone one fails where it fails
 pub alone_fails : (code : ProfileCode) (span : Span) (fails : Bool) → fails ≡ true → Some (record { code = code; span = span }) ≡ first (premise code span fails ∷ [])
 unfolding first
 alone_fails code span fails h = rw h refl

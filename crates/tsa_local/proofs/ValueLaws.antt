@@ -26,6 +26,7 @@ pub not_close_brace : (s : Sign) → s ≢ sign.CloseBrace → nat_eq (mark s) 1
 not_close_brace sign.CloseBrace h = absurd (h refl)
 not_close_brace _ h = refl
 
+-- a list in the arena, as it was kept
 pub shape-list : (items : Bor (List Init)) (span : Span) → init_shape (init_list items span) ≡ list (init_shapes items.now) span
 shape-list items span =
     let row = row_of (init_list items span) in

@@ -27,6 +27,7 @@ use Rattle.tsa_profile.proofs.StartsTyped.{AllowedItem, AllowedAll}
 use Rattle.tsa_use.proofs.Failures.{first_append}
 use Rattle.tsa_use.proofs.NoneFails.{neither_fails}
 
+-- no premise of two lists fails
 pub none_of_both : (xs ys : List Premise) → first (xs ++ ys) ≡ None → (first xs ≡ None) × (first ys ≡ None)
 none_of_both xs ys h = neither_fails (first xs) (first ys) (sym (first_append xs ys) ∙ h)
 

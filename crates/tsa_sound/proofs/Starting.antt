@@ -46,6 +46,7 @@ use Rattle.tsa_sound.proofs.Sums.{first_in, free_hold, no_hold, rest_in}
 use Rattle.tsa_sound.proofs.Transfer.{found}
 use Rattle.tsa_sound.proofs.LocalsSet.{neither}
 
+-- what holds of no element of a list
 none_of : {A : Type 0} (p : A → Bool) (xs : List A) → list_any p xs ≡ false → (a : A) → Contains xs a → p a ≡ false
 none_of p [] e a (k, l, is) = absurd (omega (arith, l))
 none_of p (x ∷ xs) e a (zero, l, is) = ap p (sym is) ∙ (neither (p x) (list_any p xs) e).0

@@ -72,6 +72,7 @@ local_small here d h = by (is_taken d.name.text here)
     by false =
         further_small (with_name d.name.text (local_entry here d) here) 1 (with_local here d.name.text here.locals (local_entry here d).thing h)
 
+-- what is known behind items
 alike_small : (here there : Scope) → Alike here there → Plain there → HasSmall here
 alike_small here there alike plain = record {
   smalls = λ name.
