@@ -28,10 +28,9 @@ use Rattle.tsa_layout.specs.Parts as laid
 use Rattle.tsa_item.specs.Items.{worth_written, worth, enumerators_behind, behind_enumeration, known_global}
 use Rattle.tsa_points.proofs.KindTests.{neither}
 use Rattle.tsa_points.proofs.NoFailure.{none_of_both, none_of_first, constant_told, keeps_typed, HasType}
-use Rattle.tsa_points.proofs.UnitScopes.{declared_told, struct_told, global_told}
+use Rattle.tsa_points.proofs.UnitScopes.{declared_told, struct_told, global_told, named_struct}
 use Rattle.tsa_function.specs.Members.{with_members}
 use Rattle.tsa_function.specs.Laws.{MembersComeOneByOne, MembersMakeTheStruct}
-use Rattle.tsa_core.proofs.UnitScopes.{named_struct}
 
 -- NAMES
 
