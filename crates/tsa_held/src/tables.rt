@@ -39,6 +39,67 @@ impl Drop for UnitTables<'_, '_> {
     }
 }
 
+/// The items of a unit in the profile.
+fn items_of<'a>(unit: &Fit<'a>) -> &'a [Item<'a>]
+    ensures { result ≡ unit.now.typed.unit.now.items }
+{
+    unit.unit().items
+}
+
+/// The tables by their parts.
+fn tables_of<'w, 'a>(
+    items: &'a [Item<'a>],
+    layout: Layout<'w>,
+    bodies: Bodies<'a>,
+    kinds: Vec<Option<LockKind<'a>>>,
+) -> UnitTables<'w, 'a>
+    requires typed { first_failing (item_shapes items.now) ≡ None }
+    requires laid { layout ≡ (program_of (item_shapes items.now)).layout }
+    requires bodied { bodies.items ≡ items }
+    requires locks { kinds_of kinds.items ≡ (program_of (item_shapes items.now)).locks }
+    ensures { result.items ≡ items.entry }
+{
+    UnitTables {
+        items,
+        layout,
+        bodies,
+        kinds,
+    }
+}
+
+/// The tables, where there was memory for the bodies.
+fn tables_with<'w, 'a>(
+    items: &'a [Item<'a>],
+    layout: Layout<'w>,
+    kinds: Vec<Option<LockKind<'a>>>,
+    bodies: Result<Bodies<'a>, NoMemory>,
+) -> Result<UnitTables<'w, 'a>, NoMemory>
+    requires typed { first_failing (item_shapes items.now) ≡ None }
+    requires laid { layout ≡ (program_of (item_shapes items.now)).layout }
+    requires locks { kinds_of kinds.items ≡ (program_of (item_shapes items.now)).locks }
+    requires bodied { IfOk bodies (λ bodies. bodies.items ≡ items) }
+    ensures { IfOk result (λ tables. tables.items ≡ items.entry) }
+{
+    match bodies {
+        Ok(bodies) => Ok(tables_of(items, layout, bodies, kinds)),
+        Err(refusal) => Err(refusal),
+    }
+}
+
+/// The tables of typed items by their layout.
+fn tables_in<'w, 'a>(
+    alloc: Global,
+    items: &'a [Item<'a>],
+    layout: Layout<'w>,
+) -> Result<UnitTables<'w, 'a>, NoMemory>
+    requires typed { first_failing (item_shapes items.now) ≡ None }
+    requires laid { layout ≡ (program_of (item_shapes items.now)).layout }
+    ensures { IfOk result (λ tables. tables.items ≡ items.entry) }
+{
+    let kinds = lock_kinds(alloc, items)?;
+    tables_with(items, layout, kinds, Bodies::new(alloc, items))
+}
+
 impl<'w, 'a> UnitTables<'w, 'a> {
     /// The tables of a unit in the profile. The places are those of the unit.
     pub fn new(
@@ -49,15 +110,7 @@ impl<'w, 'a> UnitTables<'w, 'a> {
         requires placed { placed_in (item_shapes unit.now.typed.unit.now.items.now) ≡ Ok places.now }
         ensures { IfOk result (λ tables. tables.items ≡ unit.now.typed.unit.now.items) }
     {
-        let items = unit.unit().items;
-        let bodies = Bodies::new(alloc, items)?;
-        let kinds = lock_kinds(alloc, items)?;
-        Ok(UnitTables {
-            items,
-            layout: places.layout(),
-            bodies,
-            kinds,
-        })
+        tables_in(alloc, items_of(unit), places.layout())
     }
 
     /// A pass along the bodies of the unit by its tables.
