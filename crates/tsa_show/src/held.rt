@@ -1,11 +1,12 @@
 //! The lines of the held sets of a unit.
-ghost use Rattle.std.specs.Prelude.{◌≡◌, ◌≤◌, ◌<◌, ◌++◌, ℕ, [], List, length, OnOk, OnErr, IsErrOf};
+ghost use Rattle.std.specs.Prelude.{◌≡◌, ◌≤◌, ◌<◌, ◌++◌, ℕ, [], List, Ok, length, OnOk, OnErr, IsErrOf};
 ghost use Rattle.std.specs.Io.KnownBytes.{Appends};
 ghost use Rattle.tsa_base.specs.Causes.{Rose};
 ghost use Rattle.tsa_base.specs.Transfer.{AppendsFront};
 ghost use Rattle.tsa_bodies.specs.Bodies.{BodyText, IsToldBody};
 ghost use Rattle.tsa_bodies.specs.Coursed.{course_of};
 ghost use Rattle.tsa_bodies.specs.Courses.{course_outset};
+ghost use Rattle.tsa_core.specs.Units.{placed_in};
 ghost use Rattle.tsa_profile.specs.Units.{unit_of};
 ghost use Rattle.tsa_show.specs.Held.{Account, IsAccountHeld, IsBodyHeld, IsHeld, IsPathLine, IsPointText, paths_in};
 ghost use Rattle.tsa_show.specs.Pages.{IsPageOf};
@@ -16,7 +17,7 @@ use crate::refusal::WriteRefusal;
 use crate::tries::try_names;
 use std::alloc::Global;
 use tsa_base::{LineStarts, NoMemory, PushTrouble, Sink, write_all};
-use tsa_bodies::{Course, Teller, ToldBody, UnitTables};
+use tsa_bodies::{Course, Fit, Places, Teller, ToldBody, UnitTables};
 use tsa_lines::{Held, push_held};
 use tsa_report::{Ready, push_place};
 
@@ -155,6 +156,60 @@ fn write_bodies<'s, 'a, O: Sink>(
     Ok(())
 }
 
+/// Writes the lines of the held sets of the bodies that a teller tells, item by item.
+fn write_told<'s, O: Sink>(
+    desk: Desk<'s>,
+    teller: &Teller<'_, '_>,
+    out: &mut O,
+) -> Result<(), WriteRefusal>
+    requires { HaveTheirPoints teller.now.pass.ground.items.now }
+    ensures all { OnOk result ((lines : List ℕ) × (IsHeld desk.entry.starts.now (item_shapes teller.now.pass.ground.items.now) lines × Appends (O.taken out.old) (O.taken out.new) lines)) }
+    ensures front { OnErr result ((lines : List ℕ) → IsHeld desk.entry.starts.now (item_shapes teller.now.pass.ground.items.now) lines → AppendsFront (O.taken out.old) (O.taken out.new) lines) }
+    ensures fault { IsErrOf result WriteRefusal.SinkFailed → Rose (O.faults out.old) (O.faults out.new) }
+    ensures later { O.faults out.old ≤ O.faults out.new }
+{
+    let mut course = Course::new(desk.alloc, &teller.pass.ground)?;
+    write_bodies(desk, teller, &mut course, out)
+}
+
+/// Writes the lines of the held sets of a unit in the profile by its tables.
+fn write_by<'s, 'a, O: Sink>(
+    desk: Desk<'s>,
+    fit: &Fit<'a>,
+    tables: &UnitTables<'_, 'a>,
+    out: &mut O,
+) -> Result<(), WriteRefusal>
+    requires same { fit.now.typed.unit.now.items ≡ tables.now.items }
+    requires points { HaveTheirPoints fit.now.typed.unit.now.items.now }
+    ensures all { OnOk result ((lines : List ℕ) × (IsHeld desk.entry.starts.now (item_shapes fit.now.typed.unit.now.items.now) lines × Appends (O.taken out.old) (O.taken out.new) lines)) }
+    ensures front { OnErr result ((lines : List ℕ) → IsHeld desk.entry.starts.now (item_shapes fit.now.typed.unit.now.items.now) lines → AppendsFront (O.taken out.old) (O.taken out.new) lines) }
+    ensures fault { IsErrOf result WriteRefusal.SinkFailed → Rose (O.faults out.old) (O.faults out.new) }
+    ensures later { O.faults out.old ≤ O.faults out.new }
+{
+    let teller = Teller {
+        pass: tables.pass(fit),
+    };
+    write_told(desk, &teller, out)
+}
+
+/// Writes the lines of the held sets of a unit in the profile. The places are those of the unit.
+fn write_of<'s, O: Sink>(
+    desk: Desk<'s>,
+    fit: &Fit<'_>,
+    places: &Places,
+    out: &mut O,
+) -> Result<(), WriteRefusal>
+    requires placed { placed_in (item_shapes fit.now.typed.unit.now.items.now) ≡ Ok places.now }
+    requires points { HaveTheirPoints fit.now.typed.unit.now.items.now }
+    ensures all { OnOk result ((lines : List ℕ) × (IsHeld desk.entry.starts.now (item_shapes fit.now.typed.unit.now.items.now) lines × Appends (O.taken out.old) (O.taken out.new) lines)) }
+    ensures front { OnErr result ((lines : List ℕ) → IsHeld desk.entry.starts.now (item_shapes fit.now.typed.unit.now.items.now) lines → AppendsFront (O.taken out.old) (O.taken out.new) lines) }
+    ensures fault { IsErrOf result WriteRefusal.SinkFailed → Rose (O.faults out.old) (O.faults out.new) }
+    ensures later { O.faults out.old ≤ O.faults out.new }
+{
+    let tables = UnitTables::new(desk.alloc, fit, places)?;
+    write_by(desk, fit, &tables, out)
+}
+
 /// Writes the lines of the held sets of a unit in the profile, body by body as they are worked out. After a refusal a first part of them is written.
 pub fn write_held<O: Sink>(
     alloc: Global,
@@ -169,14 +224,9 @@ pub fn write_held<O: Sink>(
     ensures later { O.faults out.old ≤ O.faults out.new }
 {
     let starts = LineStarts::new(alloc, bytes)?;
-    let tables = UnitTables::new(alloc, &ready.fit, &ready.places)?;
-    let teller = Teller {
-        pass: tables.pass(&ready.fit),
-    };
-    let mut course = Course::new(alloc, &teller.pass.ground)?;
     let desk = Desk {
         alloc,
         starts: &starts,
     };
-    write_bodies(desk, &teller, &mut course, out)
+    write_of(desk, &ready.fit, &ready.places, out)
 }
