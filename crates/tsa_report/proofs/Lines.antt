@@ -1,5 +1,6 @@
 -- The lines of the warnings of some bodies, and of one body more.
 use Rattle.std.proofs.Common.{◌≡◌, ◌∙◌, ℕ, ◌+◌, List, [], ◌∷◌, ◌++◌, refl, sym, ap, ap₂, subst, arith, append_assoc, append-nil}
+use Rattle.std.specs.Prelude.{Result, Ok, Err, OnOk}
 use Rattle.tsa_tree.specs.units.Syntax.{UnitItem}
 use Rattle.tsa_bodies.specs.Bodies.{BodyText}
 use Rattle.tsa_report.specs.Warned.{AreWarned, IsBodyWarned, Warned, both, no_lines}
@@ -37,3 +38,12 @@ module _ (bytes : List ℕ) (items : List UnitItem) where
 -- the lines of a body behind those of others
 pub added : (text more new : List ℕ) (count most sum : ℕ) → new ≡ text ++ more → sum ≡ count + most → lines new sum ≡ both (lines text count) (lines more most)
 added text more new count most sum is_new is_sum = ap₂ lines is_new is_sum
+
+-- what holds of a result that is well holds with more
+pub where_well : {T E : Type 0} (result : Result T E) (P Q : Type 0) → (P → Q) → OnOk result P → OnOk result Q
+where_well (Ok x) P Q to h = to h
+where_well (Err e) P Q to h = tt
+
+pub always_well : {T E : Type 0} (result : Result T E) (P : Type 0) → P → OnOk result P
+always_well (Ok x) P h = h
+always_well (Err e) P h = tt

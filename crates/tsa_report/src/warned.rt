@@ -1,25 +1,27 @@
 //! The lines of the warnings of a unit.
-ghost use Rattle.std.specs.Prelude.{◌≡◌, ◌+◌, ◌++◌, [], List, IfOk, OnOk};
+ghost use Rattle.std.specs.Prelude.{◌≡◌, ◌+◌, ◌∷◌, ◌++◌, [], List, Ok, IfOk, OnOk};
 ghost use Rattle.std.specs.List.{flat_map};
-ghost use Rattle.tsa_bodies.specs.Bodies.{BodyText, IsToldBody, names_of};
+ghost use Rattle.tsa_bodies.specs.Bodies.{BodyText, IsToldBody, Tells, body_by, names_of};
 ghost use Rattle.tsa_bodies.specs.Coursed.{course_of};
-ghost use Rattle.tsa_bodies.specs.Courses.{course_outset};
+ghost use Rattle.tsa_bodies.specs.Courses.{IsInFrontOf, course_behind, course_outset};
 ghost use Rattle.tsa_bodies.specs.Paths.{paths_of};
 ghost use Rattle.tsa_core.specs.Programs.{program_of};
+ghost use Rattle.tsa_core.specs.Units.{placed_in};
 ghost use Rattle.tsa_profile.specs.Units.{unit_of};
 ghost use Rattle.tsa_report.specs.Lined.{warned_of};
 ghost use Rattle.tsa_report.specs.Lines.{warning_line};
-ghost use Rattle.tsa_report.specs.Warned.{IsBodyWarned, IsWarned, Warned as Lines, both};
+ghost use Rattle.tsa_report.specs.Warned.{AreWarned, IsBodyWarned, IsWarned, Warned as Lines, both};
 ghost use Rattle.tsa_texts.specs.Orders.{texts_of};
-ghost use Rattle.tsa_tree.specs.units.Shapes.{HaveTheirPoints, item_shapes};
+ghost use Rattle.tsa_tree.specs.units.Shapes.{HaveTheirPoints, item_shape, item_shapes};
 ghost use Rattle.tsa_tree.specs.units.Syntax.{UnitItem};
 
 use crate::body::push_place;
 use crate::unit::Ready;
 use std::alloc::Global;
 use tsa_base::{LineStarts, NoMemory};
-use tsa_bodies::{Course, Teller, ToldBody, UnitTables};
+use tsa_bodies::{Course, Fit, Places, Teller, ToldBody, UnitTables};
 use tsa_lines::{Subject, push_warning};
+use tsa_tree::item::Item;
 use tsa_warn::{RuleFailure, warnings_of};
 
 /// The lines of warnings, and how many they are.
@@ -92,6 +94,43 @@ impl UnitLines {
         Ok(())
     }
 
+    /// Adds the lines of the warnings of a body that is told, where one is.
+    fn add_told(
+        &mut self,
+        alloc: Global,
+        starts: &LineStarts<'_>,
+        told: &Option<ToldBody<'_>>,
+    ) -> Result<(), NoMemory>
+        ensures { OnOk result ((items : List UnitItem) (done bodies : List BodyText) → Tells items bodies told.now
+            → AreWarned starts.now items done (warned_of self.old) → AreWarned starts.now items (done ++ bodies) (warned_of self.new)) }
+    {
+        if let Some(body) = told {
+            self.add_body(alloc, starts, body)?;
+        }
+        Ok(())
+    }
+
+    /// Adds the lines of the body that an item has, where it has one. The item is the first of those that are left.
+    fn add_item<'a>(
+        &mut self,
+        alloc: Global,
+        starts: &LineStarts<'_>,
+        teller: &Teller<'_, 'a>,
+        course: &mut Course<'a>,
+        item: &'a Item<'a>,
+    ) -> Result<(), NoMemory>
+        requires ahead { (rest : List UnitItem) × IsInFrontOf (item_shapes teller.now.pass.ground.items.now) (item_shape item.now ∷ rest) (course_of course.old) }
+        requires points { HaveTheirPoints (item.now ∷ []) }
+        ensures behind { OnOk result (course_of course.new ≡ course_behind (unit_of [] (item_shapes teller.now.pass.ground.items.now)) (course_of course.old) (item_shape item.now)) }
+        ensures lines { OnOk result ((done : List BodyText) → AreWarned starts.now (item_shapes teller.now.pass.ground.items.now) done (warned_of self.old)
+            → AreWarned starts.now (item_shapes teller.now.pass.ground.items.now) (done ++ body_by (course_of course.old).known.here (item_shape item.now)) (warned_of self.new)) }
+    {
+        match &teller.item(course, item) {
+            Ok(told) => self.add_told(alloc, starts, told),
+            Err(refusal) => Err(*refusal),
+        }
+    }
+
     /// Adds the lines of all bodies of a unit, item by item, where none are there yet. The course is that in front of the first item.
     fn add_bodies<'a>(
         &mut self,
@@ -105,11 +144,52 @@ impl UnitLines {
     {
         let alloc = *self.text.allocator();
         'each: for item in teller.pass.ground.items {
-            if let Some(body) = teller.item(course, item)? {
-                self.add_body(alloc, starts, &body)?;
-            }
+            self.add_item(alloc, starts, teller, course, item)?;
         }
         Ok(())
+    }
+
+    /// Adds the lines of all bodies that a teller tells, where none are there yet.
+    fn add_all(&mut self, starts: &LineStarts<'_>, teller: &Teller<'_, '_>) -> Result<(), NoMemory>
+        requires { HaveTheirPoints teller.now.pass.ground.items.now }
+        ensures { OnOk result (warned_of self.old ≡ record { text = []; count = 0 } → IsWarned starts.now (item_shapes teller.now.pass.ground.items.now) (warned_of self.new)) }
+    {
+        let mut course = Course::new(*self.text.allocator(), &teller.pass.ground)?;
+        self.add_bodies(starts, teller, &mut course)
+    }
+
+    /// Adds the lines of a unit in the profile by its tables, where none are there yet.
+    fn add_by<'a>(
+        &mut self,
+        starts: &LineStarts<'_>,
+        fit: &Fit<'a>,
+        tables: &UnitTables<'_, 'a>,
+    ) -> Result<(), NoMemory>
+        requires same { fit.now.typed.unit.now.items ≡ tables.now.items }
+        requires points { HaveTheirPoints fit.now.typed.unit.now.items.now }
+        ensures { OnOk result (warned_of self.old ≡ record { text = []; count = 0 } → IsWarned starts.now (item_shapes fit.now.typed.unit.now.items.now) (warned_of self.new)) }
+    {
+        let teller = Teller {
+            pass: tables.pass(fit),
+        };
+        self.add_all(starts, &teller)
+    }
+
+    /// Adds the lines of a unit in the profile, where none are there yet. The places are those of the unit.
+    fn add_unit(
+        &mut self,
+        starts: &LineStarts<'_>,
+        fit: &Fit<'_>,
+        places: &Places,
+    ) -> Result<(), NoMemory>
+        requires placed { placed_in (item_shapes fit.now.typed.unit.now.items.now) ≡ Ok places.now }
+        requires points { HaveTheirPoints fit.now.typed.unit.now.items.now }
+        ensures { OnOk result (warned_of self.old ≡ record { text = []; count = 0 } → IsWarned starts.now (item_shapes fit.now.typed.unit.now.items.now) (warned_of self.new)) }
+    {
+        match &UnitTables::new(*self.text.allocator(), fit, places) {
+            Ok(tables) => self.add_by(starts, fit, tables),
+            Err(refusal) => Err(*refusal),
+        }
     }
 }
 
@@ -119,15 +199,10 @@ pub fn unit_lines(alloc: Global, ready: &Ready<'_>, bytes: &[u8]) -> Result<Unit
     ensures { IfOk result (λ lines. IsWarned bytes.now (item_shapes ready.now.fit.typed.unit.now.items.now) (warned_of lines)) }
 {
     let starts = LineStarts::new(alloc, bytes)?;
-    let tables = UnitTables::new(alloc, &ready.fit, &ready.places)?;
-    let teller = Teller {
-        pass: tables.pass(&ready.fit),
-    };
-    let mut course = Course::new(alloc, &teller.pass.ground)?;
     let mut lines = UnitLines {
         text: Vec::new(alloc),
         count: 0,
     };
-    lines.add_bodies(&starts, &teller, &mut course)?;
+    lines.add_unit(&starts, &ready.fit, &ready.places)?;
     Ok(lines)
 }
