@@ -110,19 +110,37 @@ impl Write for Broken {
 
 const NEVER: u32 = 1000;
 
+// The status of a run between standard ends that fail.
+fn put_standard(
+    out: &mut Vec<u8>,
+    alloc: Global,
+    read_fails: u32,
+    write_fails: u32,
+) -> Result<(), Fail> {
+    let mut source = ReaderSource::new(Broken::new(read_fails));
+    let mut sink = WriterSink::new(Broken::new(write_fails));
+    let status = tool(alloc, &check_words(alloc)?, &mut source, &mut sink);
+    put_number(out, u32::from(status))
+}
+
+// Whether a push of one byte succeeds.
+fn put_push(out: &mut Vec<u8>, sink: &mut WriterSink<Broken>) -> Result<(), Fail> {
+    match sink.push(b"a") {
+        Ok(_) => put(out, b"taken "),
+        Err(_) => put(out, b"failed "),
+    }
+}
+
 #[test]
 fn standard_ends_that_fail_in_mid_stream_end_the_run(rt: HostRuntime) -> Result<(), Fail> {
-    let words = check_words(rt.alloc())?;
-    for (read_fails, write_fails, status) in [(3, NEVER, 4), (NEVER, 2, 5), (NEVER, NEVER, 0)] {
-        let mut source = ReaderSource::new(Broken::new(read_fails));
-        let mut sink = WriterSink::new(Broken::new(write_fails));
-        assert_eq!(rt; tool(rt.alloc(), &words, &mut source, &mut sink), status);
-    }
+    let mut out = Vec::new(rt.alloc());
+    put_standard(&mut out, rt.alloc(), 3, NEVER)?;
+    put_standard(&mut out, rt.alloc(), NEVER, 2)?;
+    put_standard(&mut out, rt.alloc(), NEVER, NEVER)?;
     let mut sink = WriterSink::new(Broken::new(0));
-    assert_eq!(rt;
-        (sink.push(b"a").is_ok(), sink.push(b"a").is_ok()),
-        (false, true)
-    );
+    put_push(&mut out, &mut sink)?;
+    put_push(&mut out, &mut sink)?;
+    assert_eq!(rt; out.as_slice(), b"4 5 0 failed taken ".as_slice());
     Ok(())
 }
 
@@ -164,18 +182,27 @@ fn put_copy(out: &mut Vec<u8>, alloc: Global) -> Result<(), Fail> {
     put(out, sink.taken())
 }
 
+// What is read of sources that fail, or don't.
+fn put_reads(out: &mut Vec<u8>, alloc: Global) -> Result<(), Fail> {
+    put_read(out, alloc, 1, &[])?;
+    put_read(out, alloc, 2, &[9])?;
+    put_read(out, alloc, 2, &[0])?;
+    put_read(out, alloc, 1, &[3])
+}
+
+// What sinks that fail, or don't, take.
+fn put_writes(out: &mut Vec<u8>, alloc: Global) -> Result<(), Fail> {
+    put_written(out, alloc, 2, &[])?;
+    put_written(out, alloc, 2, &[1])?;
+    put_written(out, alloc, 9, &[0])?;
+    put_copy(out, alloc)
+}
+
 #[test]
 fn bytes_are_read_and_written_whole_or_up_to_a_fault(rt: HostRuntime) -> Result<(), Fail> {
-    let alloc = rt.alloc();
-    let mut out = Vec::new(alloc);
-    put_read(&mut out, alloc, 1, &[])?;
-    put_read(&mut out, alloc, 2, &[9])?;
-    put_read(&mut out, alloc, 2, &[0])?;
-    put_read(&mut out, alloc, 1, &[3])?;
-    put_written(&mut out, alloc, 2, &[])?;
-    put_written(&mut out, alloc, 2, &[1])?;
-    put_written(&mut out, alloc, 9, &[0])?;
-    put_copy(&mut out, alloc)?;
+    let mut out = Vec::new(rt.alloc());
+    put_reads(&mut out, rt.alloc())?;
+    put_writes(&mut out, rt.alloc())?;
     let expected = b"abc|abc|fault|fault|abcde|fault ab|fault |xabc";
     assert_eq!(rt; out.as_slice(), expected.as_slice());
     Ok(())

@@ -1,7 +1,7 @@
 //! What the locals of a body are named, and its graph: its blocks in order.
 
-use crate::texts::{put, put_number, tokens_of};
-use bumpalo::Bump;
+use crate::texts::{put, put_number};
+use crate::units::{Row, Shown, others};
 use std::alloc::Global;
 use std::test::Fail;
 use tsa_base::NoMemory;
@@ -9,10 +9,9 @@ use tsa_graph::{Block, Edge, Graph, Outcome, graph_of_body};
 use tsa_names::body_names;
 use tsa_path::Named;
 use tsa_scope::{Scope, outset};
-use tsa_tree::item::{FnTree, UnitTree};
+use tsa_tree::Parsed;
+use tsa_tree::item::FnTree;
 use tsa_tree::kind::Kind;
-use tsa_tree::stmt::Stmt;
-use tsa_unit::parse;
 
 // How a point is left, by a letter.
 fn put_outcome(out: &mut Vec<u8>, outcome: Outcome) -> Result<(), Fail> {
@@ -52,7 +51,8 @@ fn put_block(out: &mut Vec<u8>, block: &Block) -> Result<(), Fail> {
 }
 
 // Its blocks.
-fn put_graph(out: &mut Vec<u8>, graph: &Graph) -> Result<(), Fail> {
+fn put_blocks(out: &mut Vec<u8>, graph: Result<Graph, NoMemory>) -> Result<(), Fail> {
+    let graph = graph?;
     'each: for block in &graph.blocks {
         put_block(out, block)?;
     }
@@ -69,94 +69,108 @@ fn put_named(out: &mut Vec<u8>, named: Named<'_>) -> Result<(), Fail> {
     }
 }
 
-// The names of the locals of a function, of which it declares one at most, a pointer to the first struct.
-fn put_names(out: &mut Vec<u8>, scope: &Scope<'_>, function: &FnTree<'_>) -> Result<(), Fail> {
-    let kind = Kind::Pointer {
-        target: 0,
-        to_const: false,
-    };
-    'each: for named in &body_names(scope, function, function.params, &[kind])? {
+// Some names.
+fn put_names(out: &mut Vec<u8>, names: Result<Vec<Named<'_>>, NoMemory>) -> Result<(), Fail> {
+    let names = names?;
+    'each: for named in &names {
         put_named(out, *named)?;
     }
     Ok(())
 }
 
-// What is shown of the graph of a body of so many points.
-fn put_body(
-    out: &mut Vec<u8>,
-    scope: &Scope<'_>,
-    body: &[Stmt<'_>],
-    points: usize,
-) -> Result<(), Fail> {
-    let count = u32::try_from(points).ok().ok_or(NoMemory)?;
-    let graph = graph_of_body(scope, body, count)?;
-    put_graph(out, &graph)
+// The one local of a body, where it declares one: a pointer to the first struct.
+const KINDS: &[Kind] = &[Kind::Pointer {
+    target: 0,
+    to_const: false,
+}];
+
+// What the locals of a function are named.
+fn names_in<'a>(scope: &Scope<'a>, function: &FnTree<'a>) -> Result<Vec<Named<'a>>, NoMemory> {
+    body_names(scope, function, function.params, KINDS)
 }
 
-// The same of a function, behind what its locals are named.
-fn put_function(out: &mut Vec<u8>, scope: &Scope<'_>, function: &FnTree<'_>) -> Result<(), Fail> {
-    put_names(out, scope, function)?;
+// A number that fits.
+fn number(count: usize) -> u32 {
+    u32::try_from(count).unwrap_or(u32::MAX)
+}
+
+// The graph of the body of a function.
+fn graph_in<'a>(scope: &Scope<'a>, function: &FnTree<'a>) -> Result<Graph, NoMemory> {
     match function.body {
-        Some(body) => put_body(out, scope, body, function.points.len()),
+        Some(body) => graph_of_body(scope, body, number(function.points.len())),
+        None => Err(NoMemory),
+    }
+}
+
+// What the locals of a function are named, and its graph.
+fn put_function<'a>(
+    out: &mut Vec<u8>,
+    scope: &Scope<'a>,
+    function: &FnTree<'a>,
+) -> Result<(), Fail> {
+    let names = names_in(scope, function);
+    let graph = graph_in(scope, function);
+    put_names(out, names)?;
+    put_blocks(out, graph)
+}
+
+// The same where there is such a function, in a scope.
+fn put_scoped<'a>(
+    out: &mut Vec<u8>,
+    scope: Result<Scope<'a>, NoMemory>,
+    function: Option<&FnTree<'a>>,
+) -> Result<(), Fail> {
+    match function {
+        Some(function) => {
+            let scope = scope?;
+            put_function(out, &scope, function)
+        }
         None => Ok(()),
     }
 }
 
-// The same of a unit's only function.
-fn put_unit(out: &mut Vec<u8>, unit: &UnitTree<'_>) -> Result<(), Fail> {
-    let scope = outset(*out.allocator(), unit.items)?;
-    match unit.function(0) {
-        Some(function) => put_function(out, &scope, function),
-        None => Ok(()),
-    }
+// The scope before a unit's items.
+fn scope_of<'a>(alloc: Global, parsed: &Parsed<'a>) -> Result<Scope<'a>, NoMemory> {
+    outset(alloc, parsed.unit().items)
 }
 
-// What is shown of the graph of a text's only function.
-fn show_graph(alloc: Global, text: &[u8]) -> Result<Vec<u8>, Fail> {
-    let mut out = Vec::new(alloc);
-    let bump = Bump::new(alloc);
-    let tokens = tokens_of(alloc, text)?;
-    let parsed = parse(alloc, &bump, &tokens)?;
-    put_unit(&mut out, parsed.unit())?;
-    Ok(out)
+// The first function of a unit.
+fn first_of<'a>(parsed: &Parsed<'a>) -> Option<&'a FnTree<'a>> {
+    parsed.unit().function(0)
 }
 
-#[test]
-fn four_points_in_a_row_are_one_block(rt: HostRuntime) -> Result<(), Fail> {
-    let out = show_graph(rt.alloc(), b"void f(int a) { a = 1; a = 2; a = 3; }")?;
-    assert_eq!(rt; out.as_slice(), b"a (> 0 1 2 3 nnn)".as_slice());
-    Ok(())
+/// The same of a unit's only function.
+pub fn put_graph<'a>(out: &mut Vec<u8>, parsed: &Parsed<'a>) -> Result<(), Fail> {
+    let alloc = *out.allocator();
+    let function = first_of(parsed);
+    let scope = scope_of(alloc, parsed);
+    put_scoped(out, scope, function)
 }
 
-#[test]
-fn a_loop_is_entered_and_left(rt: HostRuntime) -> Result<(), Fail> {
-    let out = show_graph(
-        rt.alloc(),
+// Four points in a row are one block; a loop is entered and left; a round that nothing reaches is a block; and jumps lead
+// where they say.
+const GRAPHS: [Row; 4] = [
+    (
+        b"void f(int a) { a = 1; a = 2; a = 3; }",
+        b"a (> 0 1 2 3 nnn)",
+    ),
+    (
         b"struct m { int s; }; void f(int a, struct m *b) { while (a) a = 1; { } { } struct m *c = b; }",
-    )?;
-    assert_eq!(rt;
-        out.as_slice(),
-        b"a b 0 c 0 (1 n > 0 )(0 y > 1 )(0 o > 2 3 n)".as_slice()
-    );
-    Ok(())
-}
-
-#[test]
-fn an_unreached_round_is_a_block(rt: HostRuntime) -> Result<(), Fail> {
-    let out = show_graph(rt.alloc(), b"void f(int a) { return; l: a = 1; goto l; }")?;
-    assert_eq!(rt; out.as_slice(), b"a (> 0 )(> 3 )(2 n > 1 2 n)".as_slice());
-    Ok(())
-}
-
-#[test]
-fn jumps_lead_where_they_say(rt: HostRuntime) -> Result<(), Fail> {
-    let out = show_graph(
-        rt.alloc(),
+        b"a b 0 c 0 (1 n > 0 )(0 y > 1 )(0 o > 2 3 n)",
+    ),
+    (
+        b"void f(int a) { return; l: a = 1; goto l; }",
+        b"a (> 0 )(> 3 )(2 n > 1 2 n)",
+    ),
+    (
         b"void f(int a, int b) { for (; a; a--) { if (b) continue; b = 1; } do switch (a) { case 1: b = 2; case 2: break; default: { } } while (b); }",
-    )?;
-    assert_eq!(rt;
-        out.as_slice(),
-        b"a b (1 n > 0 )(3 n 4 n > 1 )(0 y > 2 )(2 y > 3 )(2 o > 4 )(0 o 8 y > 5 )(5 c1  > 6 )(5 c2  6 n > 7 )(5 r 7 n > 8 )(8 o > 9 )".as_slice()
-    );
+        b"a b (1 n > 0 )(3 n 4 n > 1 )(0 y > 2 )(2 y > 3 )(2 o > 4 )(0 o 8 y > 5 )(5 c1  > 6 )(5 c2  6 n > 7 )(5 r 7 n > 8 )(8 o > 9 )",
+    ),
+];
+
+#[test]
+fn bodies_have_their_blocks(rt: HostRuntime) -> Result<(), Fail> {
+    let others = others(rt.alloc(), Shown::Graph, &GRAPHS)?;
+    assert_eq!(rt; others.as_slice(), b"".as_slice());
     Ok(())
 }

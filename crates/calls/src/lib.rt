@@ -21,3 +21,5 @@ mod places;
 mod profile;
 #[cfg(test)]
 mod texts;
+#[cfg(test)]
+mod units;

@@ -5,6 +5,7 @@ ghost use Rattle.tsa_path.specs.Labels.{label};
 use crate::texts::{put, put_number};
 use std::alloc::Global;
 use std::test::Fail;
+use tsa_base::NoMemory;
 use tsa_path::{
     Named, Path, PathNames, PathStep, PathTable, Root, constant_path, path_text, substitute,
 };
@@ -94,6 +95,27 @@ fn put_numbered(out: &mut Vec<u8>, table: &mut PathTable, path: Path) -> Result<
     }
 }
 
+// The text of a path.
+fn put_path(out: &mut Vec<u8>, path: &Path) -> Result<(), Fail> {
+    put(out, &path_text(*out.allocator(), &CALLER, path)?)?;
+    put(out, b": ")
+}
+
+// A path as a caller has it, with its number, or that it has none.
+fn put_after(
+    out: &mut Vec<u8>,
+    table: &mut PathTable,
+    path: Result<Option<Path>, NoMemory>,
+) -> Result<(), Fail> {
+    match path? {
+        Some(path) => {
+            put_path(out, &path)?;
+            put_numbered(out, table, path)
+        }
+        None => put(out, b"none "),
+    }
+}
+
 // The callee's paths as a caller has them that gives such arguments, each with its number.
 fn put_call(
     out: &mut Vec<u8>,
@@ -102,14 +124,7 @@ fn put_call(
     args: &[Option<Path>],
 ) -> Result<(), Fail> {
     for path in &callee_paths(alloc)? {
-        match substitute(alloc, path, args)? {
-            Some(path) => {
-                put(out, &path_text(alloc, &CALLER, &path)?)?;
-                put(out, b": ")?;
-                put_numbered(out, table, path)?;
-            }
-            None => put(out, b"none ")?,
-        }
+        put_after(out, table, substitute(alloc, path, args))?;
     }
     Ok(())
 }

@@ -1,15 +1,12 @@
 //! The places of a unit: their texts, what they are, their guards and what they hold at the start.
 ghost use Rattle.std.specs.Prelude.{◌<◌, length};
-ghost use Rattle.tsa_tree.specs.tokens.Texts.{AreOfText};
-ghost use Rattle.tsa_tree.specs.tokens.Signs.{lexemes};
 
-use crate::texts::{put, put_number, tokens_of};
-use bumpalo::Bump;
+use crate::texts::{put, put_number};
+use crate::units::{Row, Shown, others};
 use std::alloc::Global;
 use std::test::Fail;
-use tsa_base::{Token, Value};
+use tsa_base::Value;
 use tsa_place::{Guard, PlaceKind, Places};
-use tsa_unit::parse;
 
 // A word, where something is so.
 fn put_if(out: &mut Vec<u8>, so: bool, word: &[u8]) -> Result<(), Fail> {
@@ -86,36 +83,17 @@ fn put_place(out: &mut Vec<u8>, alloc: Global, places: &Places, place: u32) -> R
     put(out, b"; ")
 }
 
-// The places of the unit that tokens are.
-fn put_unit<'a>(
-    out: &mut Vec<u8>,
-    alloc: Global,
-    bump: &'a Bump,
-    tokens: &[Token<'a>],
-) -> Result<(), Fail>
-    requires { AreOfText (lexemes tokens.now) }
-{
-    let parsed = parse(alloc, bump, tokens)?;
-    let Ok(places) = Places::new(alloc, parsed.unit()) else {
-        return put(out, b"too many");
-    };
-    for place in 0..places.count() {
-        put_place(out, alloc, &places, place)?;
+/// Some places.
+pub fn put_places(out: &mut Vec<u8>, places: &Places) -> Result<(), Fail> {
+    let alloc = *out.allocator();
+    'each: for place in 0..places.count() {
+        put_place(out, alloc, places, place)?;
     }
     Ok(())
 }
 
-// The places of a text that is a unit.
-fn show_places(alloc: Global, text: &[u8]) -> Result<Vec<u8>, Fail> {
-    let bump = Bump::new(alloc);
-    let tokens = tokens_of(alloc, text)?;
-    let mut out = Vec::new(alloc);
-    put_unit(&mut out, alloc, &bump, &tokens)?;
-    Ok(out)
-}
-
 // Units with their places.
-const PLACES: [(&[u8], &[u8]); 3] = [
+const PLACES: [Row; 3] = [
     (
         b"struct CAPABILITY(\"m\") l { int s; }; struct a { struct l mu; int balance GUARDED_BY(mu); }; struct a bank[2];",
         b"bank[0] object addressable; bank[0].mu object lock addressable; bank[0].mu.s cell int 0 ; bank[0].balance cell by bank[0].mu int 0 ; bank[1] object addressable; bank[1].mu object lock addressable; bank[1].mu.s cell int 0 ; bank[1].balance cell by bank[1].mu int 0 ; ",
@@ -129,8 +107,7 @@ const PLACES: [(&[u8], &[u8]); 3] = [
 
 #[test]
 fn places_are_as_their_declarations_have_them(rt: HostRuntime) -> Result<(), Fail> {
-    for (text, expected) in PLACES {
-        assert_eq!(rt; show_places(rt.alloc(), text)?.as_slice(), expected);
-    }
+    let others = others(rt.alloc(), Shown::Places, &PLACES)?;
+    assert_eq!(rt; others.as_slice(), b"".as_slice());
     Ok(())
 }

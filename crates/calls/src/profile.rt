@@ -1,40 +1,49 @@
 //! What a unit in the profile tells: how many paths its functions have, and the values of arguments.
 ghost use Rattle.std.specs.Prelude.{◌≡◌, Ok};
 ghost use Rattle.tsa_place.specs.Units.{placed_in};
-ghost use Rattle.tsa_tree.specs.tokens.Signs.{lexemes};
-ghost use Rattle.tsa_tree.specs.tokens.Texts.{AreOfText};
 ghost use Rattle.tsa_tree.specs.units.Shapes.{item_shapes};
 
 use crate::places::put_value;
 use crate::texts::{put, put_number, tokens_of};
+use crate::units::{Row, Shown, others};
 use bumpalo::Bump;
-use std::alloc::Global;
 use std::test::Fail;
-use tsa_base::Token;
+use tsa_base::{NoMemory, Value};
+use tsa_expr::{SyntaxRefusal, read_expr};
 use tsa_place::Places;
-use tsa_profile::{Fit, fit};
-use tsa_tree::decl::Init;
+use tsa_profile::Fit;
 use tsa_tree::expr::Expr;
-use tsa_tree::item::Item;
-use tsa_types::type_check;
-use tsa_unit::parse;
-
-// A unit in the profile: f has the path of its own attribute, and that of its calls and of its write.
-const UNIT: &[u8] = b"struct CAPABILITY(\"m\") m { int s; };
-struct m a[2];
-void lock(struct m *x) ACQUIRE(x);
-void unlock(struct m *x) RELEASE(x);
-int g GUARDED_BY(a[1]);
-struct m *q = &a[1];
-int n = -7;
-void f(int k) REQUIRES(a[0]) { lock(&a[1]); g = k; unlock(&a[1]); }
-";
 
 // How many paths a function has.
-fn put_paths(out: &mut Vec<u8>, fit: &Fit<'_>, function: u32) -> Result<(), Fail> {
+fn count(fit: &Fit<'_>, function: u32) -> Option<u32> {
     match fit.paths(function) {
-        Some(table) => put_number(out, table.len()),
+        Some(table) => Some(table.len()),
+        None => None,
+    }
+}
+
+// How many paths the functions have.
+fn counts_of(fit: &Fit<'_>) -> [Option<u32>; 4] {
+    [count(fit, 0), count(fit, 1), count(fit, 2), count(fit, 3)]
+}
+
+// A number of paths.
+fn put_count(out: &mut Vec<u8>, count: Option<u32>) -> Result<(), Fail> {
+    match count {
+        Some(count) => put_number(out, count),
         None => put(out, b"none "),
+    }
+}
+
+// A value that was worked out.
+fn put_worth(
+    out: &mut Vec<u8>,
+    places: &Places,
+    value: Result<Option<Value>, NoMemory>,
+) -> Result<(), Fail> {
+    match value? {
+        Some(value) => put_value(out, *out.allocator(), places, value),
+        None => put(out, b" none "),
     }
 }
 
@@ -48,71 +57,69 @@ fn put_argument(
 ) -> Result<(), Fail>
     requires placed { placed_in (item_shapes fit.now.typed.unit.now.items.now) ≡ Ok places.now }
 {
-    let alloc = *out.allocator();
-    let (function, number) = parameter;
-    match fit.argument(alloc, places, function, number, expr)? {
-        Some(value) => put_value(out, alloc, places, value),
-        None => put(out, b" none "),
-    }
+    let value = fit.argument(*out.allocator(), places, parameter.0, parameter.1, expr);
+    put_worth(out, places, value)
 }
 
-// The values that the initialiser of a global has for the parameters of lock and f, and for one that isn't there.
-fn put_item(out: &mut Vec<u8>, fit: &Fit<'_>, places: &Places, item: &Item<'_>) -> Result<(), Fail>
+// The values that an expression has for the parameters of lock and f, and for one that isn't there.
+fn put_values(
+    out: &mut Vec<u8>,
+    fit: &Fit<'_>,
+    places: &Places,
+    found: Result<(Expr<'_>, u32), SyntaxRefusal>,
+) -> Result<(), Fail>
     requires placed { placed_in (item_shapes fit.now.typed.unit.now.items.now) ≡ Ok places.now }
 {
-    let Item::Global(decl) = item else {
-        return Ok(());
-    };
-    let Some(Init::Value(expr)) = &decl.init else {
-        return Ok(());
-    };
-    put_argument(out, fit, places, (0, 0), expr)?;
-    put_argument(out, fit, places, (2, 0), expr)?;
-    put_argument(out, fit, places, (2, 1), expr)
+    let (expr, _) = found?;
+    put_argument(out, fit, places, (0, 0), &expr)?;
+    put_argument(out, fit, places, (2, 0), &expr)?;
+    put_argument(out, fit, places, (2, 1), &expr)
 }
 
-// What a unit in the profile tells.
-fn put_fit(out: &mut Vec<u8>, fit: &Fit<'_>, places: &Places) -> Result<(), Fail>
+// The same of the expression that a text is.
+fn put_text(out: &mut Vec<u8>, fit: &Fit<'_>, places: &Places, text: &[u8]) -> Result<(), Fail>
     requires placed { placed_in (item_shapes fit.now.typed.unit.now.items.now) ≡ Ok places.now }
 {
-    for function in 0..4 {
-        put_paths(out, fit, function)?;
-    }
-    for item in fit.unit().items {
-        put_item(out, fit, places, item)?;
+    let bump = Bump::new(*out.allocator());
+    let tokens = tokens_of(*out.allocator(), text)?;
+    put_values(out, fit, places, read_expr(&bump, &tokens, 0, 0))
+}
+
+// Some numbers of paths.
+fn put_counts(out: &mut Vec<u8>, counts: &[Option<u32>]) -> Result<(), Fail> {
+    'each: for count in counts {
+        put_count(out, *count)?;
     }
     Ok(())
 }
 
-// What is told of the unit that tokens are.
-fn put_unit<'a>(
-    out: &mut Vec<u8>,
-    alloc: Global,
-    bump: &'a Bump,
-    tokens: &[Token<'a>],
-) -> Result<(), Fail>
-    requires { AreOfText (lexemes tokens.now) }
+/// What a unit in the profile tells: of its functions, and of two expressions.
+pub fn put_profile(out: &mut Vec<u8>, fit: &Fit<'_>, places: &Places) -> Result<(), Fail>
+    requires placed { placed_in (item_shapes fit.now.typed.unit.now.items.now) ≡ Ok places.now }
 {
-    let Ok(typed) = type_check(alloc, parse(alloc, bump, tokens)?) else {
-        return put(out, b"not typed");
-    };
-    let Ok(places) = Places::new(alloc, typed.unit()) else {
-        return put(out, b"too many");
-    };
-    match fit(alloc, typed, &places) {
-        Ok(fit) => put_fit(out, &fit, &places),
-        Err(_) => put(out, b"not in the profile"),
-    }
+    let counts = counts_of(fit);
+    put_counts(out, &counts)?;
+    put_text(out, fit, places, b"&a[1]")?;
+    put_text(out, fit, places, b"-7")
 }
+
+// A unit in the profile: f has the path of its own attribute, and that of its calls and of its write.
+const UNITS: [Row; 1] = [(
+    b"struct CAPABILITY(\"m\") m { int s; };
+struct m a[2];
+void lock(struct m *x) ACQUIRE(x);
+void unlock(struct m *x) RELEASE(x);
+int g GUARDED_BY(a[1]);
+struct m *q = &a[1];
+int n = -7;
+void f(int k) REQUIRES(a[0]) { lock(&a[1]); g = k; unlock(&a[1]); }
+",
+    b"none none 2 none  to a[1] none  none  none  minus int 7  none ",
+)];
 
 #[test]
 fn paths_are_counted_and_arguments_have_their_values(rt: HostRuntime) -> Result<(), Fail> {
-    let alloc = rt.alloc();
-    let bump = Bump::new(alloc);
-    let tokens = tokens_of(alloc, UNIT)?;
-    let mut out = Vec::new(alloc);
-    put_unit(&mut out, alloc, &bump, &tokens)?;
-    let expected: &[u8] = b"none none 2 none  to a[1] none  none  none  minus int 7  none ";
-    assert_eq!(rt; out.as_slice(), expected);
+    let others = others(rt.alloc(), Shown::Profile, &UNITS)?;
+    assert_eq!(rt; others.as_slice(), b"".as_slice());
     Ok(())
 }

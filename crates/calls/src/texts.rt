@@ -1,9 +1,10 @@
-//! Texts with their tokens, as the other tests of this crate read them.
+//! Texts with their tokens, as the other tests of this crate read them, and what writes what a test shows.
 ghost use Rattle.std.specs.Prelude.{◌≤◌, vec_len, IfOk};
 ghost use Rattle.tsa_base.specs.declared.limits.TheConstants.{INPUT_LIMIT as LONGEST};
 ghost use Rattle.tsa_tree.specs.tokens.Signs.{lexemes};
 ghost use Rattle.tsa_tree.specs.tokens.Texts.{AreOfText};
 
+use crate::units::{Row, Shown, others};
 use std::alloc::Global;
 use std::test::Fail;
 use tsa_base::{INPUT_LIMIT, Span, Token, TokenKind};
@@ -54,21 +55,26 @@ fn kind_text(kind: TokenKind) -> &'static [u8] {
     }
 }
 
-// Each token of a text: its kind, the bytes of its span, and the value of a number.
-fn show_tokens(alloc: Global, text: &[u8]) -> Result<Vec<u8>, Fail> {
-    let mut out = Vec::new(alloc);
-    for token in &tokens_of(alloc, text)? {
-        put(&mut out, kind_text(token.kind))?;
-        put_span(&mut out, text, token.span)?;
-        if let TokenKind::Number { value, .. } = token.kind {
-            put_number(&mut out, value)?;
-        }
+// A token of a text: its kind, the bytes of its span, and the value of a number.
+fn put_token(out: &mut Vec<u8>, text: &[u8], token: Token<'_>) -> Result<(), Fail> {
+    put(out, kind_text(token.kind))?;
+    put_span(out, text, token.span)?;
+    match token.kind {
+        TokenKind::Number { value, .. } => put_number(out, value),
+        _ => Ok(()),
     }
-    Ok(out)
+}
+
+/// Each token of a text.
+pub fn put_tokens(out: &mut Vec<u8>, text: &[u8], tokens: &[Token<'_>]) -> Result<(), Fail> {
+    'each: for token in tokens {
+        put_token(out, text, *token)?;
+    }
+    Ok(())
 }
 
 // Texts with their tokens.
-const TOKENS: [(&[u8], &[u8]); 17] = [
+const TOKENS: [Row; 17] = [
     (b"", b""),
     (b"int x;", b"w'int' w'x' ';' "),
     (b"a 017u\"b\"->", b"w'a' u'017u' 15 t'\"b\"' '->' "),
@@ -102,8 +108,7 @@ const TOKENS: [(&[u8], &[u8]); 17] = [
 
 #[test]
 fn a_text_has_its_tokens(rt: HostRuntime) -> Result<(), Fail> {
-    for (text, expected) in &TOKENS {
-        assert_eq!(rt; show_tokens(rt.alloc(), text)?.as_slice(), *expected);
-    }
+    let others = others(rt.alloc(), Shown::Tokens, &TOKENS)?;
+    assert_eq!(rt; others.as_slice(), b"".as_slice());
     Ok(())
 }
