@@ -3,6 +3,7 @@ ghost use Rattle.std.specs.Prelude.{◌≡◌, ◌++◌, ◌∷◌, [], length, 
 ghost use Rattle.tsa_leaf.specs.Pointed.{IsPointed, IsAlone};
 
 use bumpalo::Bump;
+use std::alloc::Allocator;
 use tsa_base::Span;
 use tsa_expr::SyntaxRefusal;
 use tsa_local::kept_in;
@@ -33,11 +34,31 @@ pub fn mark<'a>(
     ensures kept { OnOk result (points.new.items ≡ points.old.items ++ record { action = action.entry; span = span } ∷ []) }
     ensures memory { OnErr result (result ≡ Err SyntaxRefusal.NoMemory) }
 {
-    let Ok(number) = u32::try_from(points.len()) else {
+    number_of(points, Point { action, span })
+}
+
+/// One more at the end of a list, and its number there: more of them than a `u32` counts are want of memory.
+fn number_of<T: Copy, A: Allocator>(list: &mut Vec<T, A>, item: T) -> Result<u32, SyntaxRefusal>
+    ensures number { IfOk result (λ number. number ≡ length list.old.items) }
+    ensures kept { OnOk result (list.new.items ≡ list.old.items ++ item ∷ []) }
+    ensures memory { OnErr result (result ≡ Err SyntaxRefusal.NoMemory) }
+{
+    let Ok(number) = u32::try_from(list.len()) else {
         return Err(SyntaxRefusal::NoMemory);
     };
-    points.push(Point { action, span })?;
+    list.push(item)?;
     Ok(number)
+}
+
+/// The statement of a point that has a number.
+fn numbered<'a>(deed: &Deed<'a>, number: u32, span: Span) -> Stmt<'a>
+    ensures is { result ≡ record { kind = deed.now.kind; point = Some number; span = span } }
+{
+    Stmt {
+        kind: deed.kind,
+        point: Some(number),
+        span,
+    }
 }
 
 /// A statement of one point.
@@ -53,12 +74,7 @@ pub fn pointed<'a>(
     ensures memory { OnErr result (result ≡ Err SyntaxRefusal.NoMemory) }
 {
     let number = mark(points, deed.action, span)?;
-    let point = Some(number);
-    Ok(Stmt {
-        kind: deed.kind,
-        point,
-        span,
-    })
+    Ok(numbered(deed, number, span))
 }
 
 /// A statement of one point, up to before `next`.
@@ -75,12 +91,7 @@ pub fn alone<'a>(
     ensures memory { OnErr result (result ≡ Err SyntaxRefusal.NoMemory) }
 {
     let number = mark(points, deed.action, span)?;
-    let point = Some(number);
-    let stmt = Stmt {
-        kind: deed.kind,
-        point,
-        span,
-    };
+    let stmt = numbered(deed, number, span);
     Ok(Read { stmt, next })
 }
 
