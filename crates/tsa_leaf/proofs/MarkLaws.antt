@@ -30,11 +30,28 @@ use Rattle.tsa_local.proofs.ListLaws.{map-push}
 use Rattle.tsa_attr.proofs.Joining.{append-nil, append-append}
 use Rattle.tsa_leaf.specs.Outcomes.{joined, statements_after}
 use Rattle.tsa_leaf.proofs.ListRows.{joined-nothing, joined-joined, locals_fail, locals_endless, locals_go}
+use Rattle.tsa_leaf.proofs.PointLaws.{alone_points}
 use Rattle.tsa_leaf.specs.Pointed.{IsPointed, IsAlone, ArePointed}
 
 -- a local has one point
 pub local_alone : (d : Bor Decl) → IsAlone (Local d.now) (Declare d) d.now.span
 local_alone d = (refl, λ n. (refl, refl))
+
+pub local_points : (old new : List Point) (d : Bor Decl) → new ≡ old ++ record { action = Declare d; span = d.now.span } ∷ []
+    → IsPointed old new (record { kind = Local d.now; point = Some (length old); span = d.now.span })
+local_points old new d q = alone_points old new (Local d.now) (Declare d) d.now.span (length old) (local_alone d) refl q
+
+pub local_listed : (front back : List Stmt) (d : Decl) (s : Stmt) (n m : ℕ) → back ≡ front ++ s ∷ []
+    → s ≡ record { kind = Local d; point = Some n; span = d.span } → n ≡ m
+    → back ≡ front ++ record { kind = Local d; point = Some m; span = d.span } ∷ []
+local_listed front back d s n m q h e =
+    q ∙ ap (λ s. front ++ s ∷ []) h ∙ ap (λ n. front ++ record { kind = Local d; point = Some n; span = d.span } ∷ []) e
+
+pub local_kept : (old new : List Point) (d : Bor Decl) (s t : Stmt) (n : ℕ) → t ≡ s
+    → s ≡ record { kind = Local d.now; point = Some n; span = d.now.span } → n ≡ length old
+    → new ≡ old ++ record { action = Declare d; span = d.now.span } ∷ [] → IsPointed old new t
+local_kept old new d s t n e h k q =
+    subst (λ s. IsPointed old new s) (sym (e ∙ h)) (alone_points old new (Local d.now) (Declare d) d.now.span n (local_alone d) k q)
 
 -- the statements of a block, one more
 pub shapes_push : (xs : List Stmt) (s : Stmt) → stmt_shapes (xs ++ s ∷ []) ≡ joined (stmt_shapes xs) (more (stmt_shape s.kind s.span) none)
@@ -109,7 +126,7 @@ loop_tested old new word x y h e =
 
 pub ruleset loops = (loop_untested, loop_tested)
 
-pub ruleset locals = (local_alone)
+pub ruleset locals = (local_points, local_listed, local_kept)
 
 pub ruleset declared = (pushed)
 

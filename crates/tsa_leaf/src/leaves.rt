@@ -1,5 +1,5 @@
 //! Statements that hold no other one are read (C11 6.8.3, 6.8.6).
-ghost use Rattle.std.specs.Prelude.{◌≡◌, ◌+◌, ◌≤◌, ◌<◌, length, IfOk, OnErr, Err};
+ghost use Rattle.std.specs.Prelude.{◌≡◌, ◌+◌, ◌≤◌, ◌<◌, length, Some, None, IfOk, OnErr, Err};
 ghost use Rattle.tsa_base.specs.declared.token.Span.{Span as span_type};
 ghost use Rattle.tsa_tree.specs.tokens.Signs.{sign_at as spec_sign};
 ghost use Rattle.tsa_tree.specs.statements.Syntax.{simple as simple_statement_of, empty as nothing_done};
@@ -14,9 +14,9 @@ use crate::points::{Deed, Read, alone};
 use crate::simple::{SimpleKind, read_simple};
 use bumpalo::Bump;
 use tsa_base::Span;
-use tsa_expr::{Reader, SyntaxRefusal};
+use tsa_expr::{Reader, Reading, SyntaxRefusal};
 use tsa_local::{kept_in, name, semicolon};
-use tsa_tree::expr::Expr;
+use tsa_tree::expr::{BinaryOp, Expr};
 use tsa_tree::sign::Sign;
 use tsa_tree::stmt::{Action, Point, StmtKind};
 
@@ -40,6 +40,37 @@ fn evaluation<'a>(
     alone(points, &deed, span, next)
 }
 
+/// The statement that an assignment is, of one point that is marked, up to before `next`.
+fn assignment<'a>(
+    bump: &'a Bump,
+    left: &Expr<'a>,
+    op: Option<BinaryOp>,
+    right: &Expr<'a>,
+    span: Span,
+    next: u32,
+    points: &mut Vec<Point<'a>>,
+) -> Result<Read<'a>, SyntaxRefusal>
+    ensures is { IfOk result (λ r. (stmt_shape r.stmt.kind r.stmt.span ≡ simple_statement_of (kind_shape (SimpleKind.Assign left.now op right.now) span)) × (r.next ≡ next)) }
+    ensures pointed { IfOk result (λ r. IsPointed points.old.items points.new.items r.stmt) }
+    ensures memory { OnErr result (result ≡ Err SyntaxRefusal.NoMemory) }
+{
+    let kept = kept_in(bump, *left)?;
+    let value = kept_in(bump, *right)?;
+    let deed = Deed {
+        kind: StmtKind::Assign {
+            left: *left,
+            op,
+            right: *right,
+        },
+        action: Action::Assign {
+            left: kept,
+            op,
+            right: value,
+        },
+    };
+    alone(points, &deed, span, next)
+}
+
 /// The statement that a simple one is, of one point that is marked, up to before `next`.
 pub fn simply<'a>(
     bump: &'a Bump,
@@ -55,21 +86,7 @@ pub fn simply<'a>(
     match simple {
         SimpleKind::Eval(tree) => evaluation(bump, tree, span, next, points),
         SimpleKind::Assign { left, op, right } => {
-            let kept = kept_in(bump, *left)?;
-            let value = kept_in(bump, *right)?;
-            let deed = Deed {
-                kind: StmtKind::Assign {
-                    left: *left,
-                    op: *op,
-                    right: *right,
-                },
-                action: Action::Assign {
-                    left: kept,
-                    op: *op,
-                    right: value,
-                },
-            };
-            alone(points, &deed, span, next)
+            assignment(bump, left, *op, right, span, next, points)
         }
     }
 }
@@ -186,6 +203,43 @@ pub fn goto<'a>(
     closed_statement(reader, start, start + 2, &deed, points)
 }
 
+/// `return` without a value, and its `;`.
+fn plain_return<'a>(
+    reader: Reader<'_, '_>,
+    start: u32,
+    points: &mut Vec<Point<'a>>,
+) -> Result<Read<'a>, SyntaxRefusal>
+    requires within { start < length reader.tokens.now }
+    ensures gives { Gives seen_statement result (closed_at (input reader.entry) (named reader.entry) (stmt_shape (StmtKind.Return None)) start (start + 1)) }
+    ensures pointed { IfOk result (λ r. IsPointed points.old.items points.new.items r.stmt) }
+    ensures ends { IfOk result (λ r. (start < r.next) × (r.next ≤ length reader.entry.tokens.now)) }
+{
+    let deed = Deed {
+        kind: StmtKind::Return(None),
+        action: Action::Return(None),
+    };
+    closed_statement(reader, start, start + 1, &deed, points)
+}
+
+/// `return` with a value that was read, and its `;`.
+fn value_return<'a>(
+    reader: Reader<'a, '_>,
+    start: u32,
+    value: &Reading<'a>,
+    points: &mut Vec<Point<'a>>,
+) -> Result<Read<'a>, SyntaxRefusal>
+    ensures gives { Gives seen_statement result (closed_at (input reader.entry) (named reader.entry) (stmt_shape (StmtKind.Return (Some value.now.tree))) start value.now.next) }
+    ensures pointed { IfOk result (λ r. IsPointed points.old.items points.new.items r.stmt) }
+    ensures ends { IfOk result (λ r. (value.now.next < r.next) × (r.next ≤ length reader.entry.tokens.now)) }
+{
+    let kept = kept_in(reader.bump, value.tree)?;
+    let deed = Deed {
+        kind: StmtKind::Return(Some(value.tree)),
+        action: Action::Return(Some(kept)),
+    };
+    closed_statement(reader, start, value.next, &deed, points)
+}
+
 /// `return` with its value, where it has one, and its `;`.
 #[tactic(auto, using(crate::proofs::LeafLaws::returns))]
 pub fn return_statement<'a>(
@@ -200,17 +254,8 @@ pub fn return_statement<'a>(
     ensures ends { IfOk result (λ r. (start < r.next) × (r.next ≤ length reader.entry.tokens.now)) }
 {
     if let Sign::Semicolon = reader.sign(start + 1) {
-        let deed = Deed {
-            kind: StmtKind::Return(None),
-            action: Action::Return(None),
-        };
-        return closed_statement(reader, start, start + 1, &deed, points);
+        return plain_return(reader, start, points);
     }
     let value = reader.expression(start + 1, depth, 0)?;
-    let kept = kept_in(reader.bump, value.tree)?;
-    let deed = Deed {
-        kind: StmtKind::Return(Some(value.tree)),
-        action: Action::Return(Some(kept)),
-    };
-    closed_statement(reader, start, value.next, &deed, points)
+    value_return(reader, start, &value, points)
 }

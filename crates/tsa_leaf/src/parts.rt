@@ -21,7 +21,7 @@ use crate::signs::begins_type;
 use crate::simple::read_simple;
 use bumpalo::Bump;
 use tsa_expr::{Reader, SyntaxRefusal};
-use tsa_local::{keep, kept_in, read_locals, semicolon};
+use tsa_local::{kept_in, read_locals, semicolon};
 use tsa_tree::decl::Decl;
 use tsa_tree::sign::Sign;
 use tsa_tree::stmt::{Point, Stmt};
@@ -162,8 +162,7 @@ pub fn declare<'a>(
     ensures memory { OnErr result (result ≡ Err SyntaxRefusal.NoMemory) }
 {
     'locals: for decl in decls {
-        let stmt = local(points, decl)?;
-        keep(list, stmt)?;
+        local(decl, points, list)?;
     }
     Ok(())
 }

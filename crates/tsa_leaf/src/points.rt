@@ -6,7 +6,7 @@ use bumpalo::Bump;
 use std::alloc::Allocator;
 use tsa_base::Span;
 use tsa_expr::SyntaxRefusal;
-use tsa_local::kept_in;
+use tsa_local::{keep, kept_in};
 use tsa_tree::decl::Decl;
 use tsa_tree::stmt::{Action, Point, Stmt, StmtKind};
 
@@ -61,22 +61,6 @@ fn numbered<'a>(deed: &Deed<'a>, number: u32, span: Span) -> Stmt<'a>
     }
 }
 
-/// A statement of one point.
-#[tactic(auto, using(crate::proofs::PointLaws::alone))]
-pub fn pointed<'a>(
-    points: &mut Vec<Point<'a>>,
-    deed: &Deed<'a>,
-    span: Span,
-) -> Result<Stmt<'a>, SyntaxRefusal>
-    requires single { IsAlone deed.now.kind deed.now.action span }
-    ensures is { IfOk result (λ stmt. (stmt.kind ≡ deed.now.kind) × (stmt.span ≡ span)) }
-    ensures pointed { IfOk result (λ stmt. IsPointed points.old.items points.new.items stmt) }
-    ensures memory { OnErr result (result ≡ Err SyntaxRefusal.NoMemory) }
-{
-    let number = mark(points, deed.action, span)?;
-    Ok(numbered(deed, number, span))
-}
-
 /// A statement of one point, up to before `next`.
 #[tactic(auto, using(crate::proofs::PointLaws::alone))]
 pub fn alone<'a>(
@@ -95,36 +79,35 @@ pub fn alone<'a>(
     Ok(Read { stmt, next })
 }
 
-/// The statement that a local is.
-#[tactic(auto, using(crate::proofs::MarkLaws::locals))]
-pub fn local<'a>(points: &mut Vec<Point<'a>>, decl: &'a Decl<'a>) -> Result<Stmt<'a>, SyntaxRefusal>
-    ensures is { IfOk result (λ stmt. (stmt.kind ≡ StmtKind.Local decl.entry.now) × (stmt.span ≡ decl.entry.now.span)) }
-    ensures pointed { IfOk result (λ stmt. IsPointed points.old.items points.new.items stmt) }
-    ensures memory { OnErr result (result ≡ Err SyntaxRefusal.NoMemory) }
+/// The statement that a local is, whose point has a number.
+fn local_of<'a>(decl: &Decl<'a>, number: u32) -> Stmt<'a>
+    ensures is { result ≡ record { kind = StmtKind.Local decl.now; point = Some number; span = decl.now.span } }
 {
-    let deed = Deed {
+    Stmt {
         kind: StmtKind::Local(*decl),
-        action: Action::Declare(decl),
-    };
-    pointed(points, &deed, decl.span)
-}
-
-/// A value, kept in the arena where there is one.
-fn outcome_in<'a, T: Copy>(
-    bump: &'a Bump,
-    value: Result<T, SyntaxRefusal>,
-) -> Result<&'a T, SyntaxRefusal>
-    requires memory { OnErr value (value ≡ Err SyntaxRefusal.NoMemory) }
-    ensures is { IfOk result (λ kept. value ≡ Ok kept.now) }
-    ensures memory { OnErr result (result ≡ Err SyntaxRefusal.NoMemory) }
-{
-    match value {
-        Ok(item) => kept_in(bump, item),
-        Err(refusal) => Err(refusal),
+        point: Some(number),
+        span: decl.span,
     }
 }
 
+/// The statement that a local is, after the others of a block.
+#[tactic(auto, using(crate::proofs::MarkLaws::locals))]
+pub fn local<'a>(
+    decl: &'a Decl<'a>,
+    points: &mut Vec<Point<'a>>,
+    list: &mut Vec<Stmt<'a>>,
+) -> Result<(), SyntaxRefusal>
+    ensures listed { OnOk result (list.new.items ≡ list.old.items ++ record { kind = StmtKind.Local decl.entry.now; point = Some (length points.old.items); span = decl.entry.now.span } ∷ []) }
+    ensures pointed { OnOk result (IsPointed points.old.items points.new.items (record { kind = StmtKind.Local decl.entry.now; point = Some (length points.old.items); span = decl.entry.now.span })) }
+    ensures memory { OnErr result (result ≡ Err SyntaxRefusal.NoMemory) }
+{
+    let number = mark(points, Action::Declare(decl), decl.span)?;
+    keep(list, local_of(decl, number))?;
+    Ok(())
+}
+
 /// The statement that a local is, kept in the arena.
+#[tactic(auto, using(crate::proofs::MarkLaws::locals))]
 pub fn local_in<'a>(
     bump: &'a Bump,
     decl: &'a Decl<'a>,
@@ -134,5 +117,6 @@ pub fn local_in<'a>(
     ensures pointed { IfOk result (λ stmt. IsPointed points.old.items points.new.items stmt.now) }
     ensures memory { OnErr result (result ≡ Err SyntaxRefusal.NoMemory) }
 {
-    outcome_in(bump, local(points, decl))
+    let number = mark(points, Action::Declare(decl), decl.span)?;
+    kept_in(bump, local_of(decl, number))
 }

@@ -7,7 +7,7 @@ pub returns : goal.returns
 returns c = record {
   gives =
       return_answers _ _ _ _ _ _ _ (subst (λ s. s ≢ sign.Semicolon) c.sign.ensures.is c.in_default.not-Semicolon) c.in_ok-value.ensures.gives
-      c.closed_statement-2.ensures.gives;
+      c.value_return.ensures.gives;
   pointed = search rules;
   ends = search rules;
 }

@@ -1,4 +1,4 @@
-use Rattle.std.proofs.Common.{◌∙◌, sym, subst}
+use Rattle.std.proofs.Common.{◌∙◌, sym, subst, refl}
 use Rattle.tsa_leaf.specs.Pointed.{ArePointed}
 use Rattle.tsa_leaf.proofs.MarkLaws.{locals_one, locals_none, pushed}
 use Rattle.tsa_leaf.proofs.parts.declare.Goals as goal
@@ -6,8 +6,8 @@ use Rattle.tsa_leaf.proofs.parts.declare.Goals as goal
 -- src/parts.rt:218:5
 pub locals-preserved : goal.locals-preserved
 locals-preserved c = record {
-  listed = c.locals.invariant.listed ∙ locals_one _ _ _ _ _ _ c.locals-test.true c.in_ok-stmt.ensures.is c.in_ok-keep.ensures.gives;
-  pointed = λ start h. subst (ArePointed start c.local.new.points.items) (sym c.in_ok-keep.ensures.gives) (pushed start _ _ _ _ (c.locals.invariant.pointed start h) c.in_ok-stmt.ensures.pointed);
+  listed = c.locals.invariant.listed ∙ locals_one _ _ _ _ _ _ c.locals-test.true (refl, refl) c.in_ok-local.ensures.listed;
+  pointed = λ start h. subst (ArePointed start c.local.new.points.items) (sym c.in_ok-local.ensures.listed) (pushed start _ _ _ _ (c.locals.invariant.pointed start h) c.in_ok-local.ensures.pointed);
 }
 
 -- src/parts.rt:206:1
