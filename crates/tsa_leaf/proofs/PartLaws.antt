@@ -31,6 +31,7 @@ use Rattle.tsa_local.proofs.TokenLaws.{not_semicolon}
 use Rattle.tsa_leaf.specs.Outcomes.{simple_at, simply_at, step_at}
 use Rattle.tsa_leaf.specs.Pointed.{IsPointed, IsBegun, IsStepped}
 use Rattle.tsa_leaf.specs.Seen.{simple_shape}
+use Rattle.tsa_leaf.proofs.PointLaws.{simple_kept, simple_seen}
 use Rattle.tsa_leaf.specs.declared.simple.Simple as read_simple
 use Rattle.tsa_attr.proofs.Joining.{append-nil}
 use Rattle.tsa_leaf.proofs.ListRows.{init_absent, init_simple, init_local, lone}
@@ -224,7 +225,7 @@ local_begun old new s d i p = go s.now.kind s.now.point s.now.span i p
 pub local_seen : (s : Stmt) (d : Decl) → (s.kind ≡ Local d) × (s.span ≡ d.span) → init_of s.kind s.span ≡ local_init (decl_shape d)
 local_seen s d i = ap (λ kind. init_of kind s.span) i.0
 
-pub ruleset simples = (simply_fails, simply_goes)
+pub ruleset simples = (simply_fails, simply_goes, simple_kept, simple_seen)
 
 pub ruleset for_locals = (local_fails, local_endless, local_goes, nothing_begun, local_begun)
 

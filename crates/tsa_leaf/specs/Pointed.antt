@@ -9,6 +9,9 @@ use Rattle.tsa_tree.specs.declared.stmt.Stmt.{Stmt}
 use Rattle.tsa_tree.specs.declared.stmt.StmtKind.{StmtKind}
 use Rattle.tsa_tree.specs.points.Syntax.{points_of, points_of_all, points_of_init, points_of_step}
 use Rattle.tsa_tree.specs.statements.Shapes.{stmt_shape, stmt_shapes, point_shape, action_shape, IsNumbered, AreNumbered, MayBeFirst, MayBeThird}
+use Rattle.tsa_tree.specs.declared.stmt.StmtKind.TheVariants as kinds
+use Rattle.tsa_leaf.specs.declared.simple.SimpleKind.{SimpleKind}
+use Rattle.tsa_leaf.specs.declared.simple.SimpleKind.TheVariants.{Eval, Assign}
 use Rattle.tsa_leaf.specs.Seen.{init_seen, step_seen}
 
 abbrev pub IsPointed : (old new : List Point) → Stmt → Type 0
@@ -20,6 +23,11 @@ abbrev pub IsAlone : StmtKind → Action → Span → Type 0
 IsAlone kind action span =
     (points_of (stmt_shape kind span) ≡ record { deed = action_shape action; span = span } ∷ [])
     × ((n : ℕ) → IsNumbered kind (Some n) span n)
+
+-- the statement that a simple one is, whose point has a number
+abbrev pub simple_with : SimpleKind → (number : ℕ) → Span → Stmt
+simple_with (Eval x) number span = record { kind = kinds.Eval x; point = Some number; span = span }
+simple_with (Assign left op right) number span = record { kind = kinds.Assign left op right; point = Some number; span = span }
 
 -- the same for the statements of a block
 abbrev pub ArePointed : (old new : List Point) → List Stmt → Type 0

@@ -7,72 +7,75 @@ ghost use Rattle.tsa_tree.specs.statements.Shapes.{stmt_shape};
 ghost use Rattle.tsa_expr.specs.Source.{input, named};
 ghost use Rattle.tsa_expr.specs.Gives.{Gives};
 ghost use Rattle.tsa_leaf.specs.Outcomes.{simple_statement_at, closed_at, goto_at, return_at};
-ghost use Rattle.tsa_leaf.specs.Pointed.{IsAlone, IsPointed};
+ghost use Rattle.tsa_leaf.specs.Pointed.{IsAlone, IsPointed, simple_with as spec_with};
 ghost use Rattle.tsa_leaf.specs.Seen.{kind_shape, seen_statement};
 
-use crate::points::{Deed, Read, alone};
+use crate::points::{Deed, Read, alone, mark};
 use crate::simple::{SimpleKind, read_simple};
 use bumpalo::Bump;
 use tsa_base::Span;
 use tsa_expr::{Reader, Reading, SyntaxRefusal};
 use tsa_local::{kept_in, name, semicolon};
-use tsa_tree::expr::{BinaryOp, Expr};
 use tsa_tree::sign::Sign;
-use tsa_tree::stmt::{Action, Point, StmtKind};
+use tsa_tree::stmt::{Action, Point, Stmt, StmtKind};
 
-/// The statement that an expression is, of one point that is marked, up to before `next`.
-fn evaluation<'a>(
+/// Marks the point of a simple statement, and gives its number.
+#[tactic(auto, using(crate::proofs::PointLaws::simples))]
+pub fn mark_simple<'a>(
     bump: &'a Bump,
-    tree: &Expr<'a>,
+    simple: &SimpleKind<'a>,
     span: Span,
-    next: u32,
     points: &mut Vec<Point<'a>>,
-) -> Result<Read<'a>, SyntaxRefusal>
-    ensures is { IfOk result (λ r. (stmt_shape r.stmt.kind r.stmt.span ≡ simple_statement_of (kind_shape (SimpleKind.Eval tree.now) span)) × (r.next ≡ next)) }
-    ensures pointed { IfOk result (λ r. IsPointed points.old.items points.new.items r.stmt) }
+) -> Result<u32, SyntaxRefusal>
+    ensures pointed { IfOk result (λ number. IsPointed points.old.items points.new.items (spec_with simple.now number span)) }
     ensures memory { OnErr result (result ≡ Err SyntaxRefusal.NoMemory) }
 {
-    let kept = kept_in(bump, *tree)?;
-    let deed = Deed {
-        kind: StmtKind::Eval(*tree),
-        action: Action::Eval(kept),
-    };
-    alone(points, &deed, span, next)
+    match simple {
+        SimpleKind::Eval(tree) => {
+            let kept = kept_in(bump, *tree)?;
+            let number = mark(points, Action::Eval(kept), span)?;
+            Ok(number)
+        }
+        SimpleKind::Assign { left, op, right } => {
+            let kept = kept_in(bump, *left)?;
+            let value = kept_in(bump, *right)?;
+            let action = Action::Assign {
+                left: kept,
+                op: *op,
+                right: value,
+            };
+            let number = mark(points, action, span)?;
+            Ok(number)
+        }
+    }
 }
 
-/// The statement that an assignment is, of one point that is marked, up to before `next`.
-fn assignment<'a>(
-    bump: &'a Bump,
-    left: &Expr<'a>,
-    op: Option<BinaryOp>,
-    right: &Expr<'a>,
-    span: Span,
-    next: u32,
-    points: &mut Vec<Point<'a>>,
-) -> Result<Read<'a>, SyntaxRefusal>
-    ensures is { IfOk result (λ r. (stmt_shape r.stmt.kind r.stmt.span ≡ simple_statement_of (kind_shape (SimpleKind.Assign left.now op right.now) span)) × (r.next ≡ next)) }
-    ensures pointed { IfOk result (λ r. IsPointed points.old.items points.new.items r.stmt) }
-    ensures memory { OnErr result (result ≡ Err SyntaxRefusal.NoMemory) }
+/// The statement that a simple one is, whose point has a number.
+pub fn simple_with<'a>(simple: &SimpleKind<'a>, number: u32, span: Span) -> Stmt<'a>
+    ensures is { result ≡ spec_with simple.now number span }
 {
-    let kept = kept_in(bump, *left)?;
-    let value = kept_in(bump, *right)?;
-    let deed = Deed {
-        kind: StmtKind::Assign {
-            left: *left,
-            op,
-            right: *right,
+    let point = Some(number);
+    match simple {
+        SimpleKind::Eval(tree) => Stmt {
+            kind: StmtKind::Eval(*tree),
+            point,
+            span,
         },
-        action: Action::Assign {
-            left: kept,
-            op,
-            right: value,
+        SimpleKind::Assign { left, op, right } => Stmt {
+            kind: StmtKind::Assign {
+                left: *left,
+                op: *op,
+                right: *right,
+            },
+            point,
+            span,
         },
-    };
-    alone(points, &deed, span, next)
+    }
 }
 
 /// The statement that a simple one is, of one point that is marked, up to before `next`.
-pub fn simply<'a>(
+#[tactic(auto, using(crate::proofs::PointLaws::simply))]
+fn simply<'a>(
     bump: &'a Bump,
     simple: &SimpleKind<'a>,
     span: Span,
@@ -83,12 +86,9 @@ pub fn simply<'a>(
     ensures pointed { IfOk result (λ r. IsPointed points.old.items points.new.items r.stmt) }
     ensures memory { OnErr result (result ≡ Err SyntaxRefusal.NoMemory) }
 {
-    match simple {
-        SimpleKind::Eval(tree) => evaluation(bump, tree, span, next, points),
-        SimpleKind::Assign { left, op, right } => {
-            assignment(bump, left, *op, right, span, next, points)
-        }
-    }
+    let number = mark_simple(bump, simple, span, points)?;
+    let stmt = simple_with(simple, number, span);
+    Ok(Read { stmt, next })
 }
 
 /// A simple statement that begins with this sign, with its `;`.

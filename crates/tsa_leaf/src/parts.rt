@@ -15,7 +15,7 @@ ghost use Rattle.tsa_leaf.specs.Pointed.{ArePointed, IsBegun, IsPointed, IsStepp
 ghost use Rattle.tsa_leaf.specs.Seen.{seen_body, seen_init, seen_step};
 
 use crate::conditions::close;
-use crate::leaves::simply;
+use crate::leaves::{mark_simple, simple_with};
 use crate::points::{local, local_in};
 use crate::signs::begins_type;
 use crate::simple::read_simple;
@@ -55,8 +55,9 @@ fn simple_part<'a>(
     ensures ends { IfOk result (λ r. (at < r.next) × (r.next ≤ length reader.entry.tokens.now)) }
 {
     let simple = read_simple(reader, at, depth, sign)?;
-    let read = simply(reader.bump, &simple.kind, simple.span, simple.next, points)?;
-    in_body(reader.bump, read.stmt, read.next)
+    let number = mark_simple(reader.bump, &simple.kind, simple.span, points)?;
+    let stmt = simple_with(&simple.kind, number, simple.span);
+    in_body(reader.bump, stmt, simple.next)
 }
 
 /// A statement, kept in the arena.
