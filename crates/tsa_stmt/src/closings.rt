@@ -1,7 +1,6 @@
 //! Statements are made of what stands before their bodies, the bodies, and what stands after them.
 ghost use Rattle.std.specs.Prelude.{◌≡◌, ◌≤◌, ◌<◌, List, length, IfOk};
 ghost use Rattle.tsa_tree.specs.declared.stmt.Point.{Point as point_type};
-ghost use Rattle.tsa_base.specs.declared.token.Span.{Span as span_type};
 ghost use Rattle.tsa_tree.specs.expressions.Shapes.{shape};
 ghost use Rattle.tsa_tree.specs.tokens.Signs.{span_at as spec_span, span_over as spec_over};
 ghost use Rattle.tsa_tree.specs.statements.Syntax.{block};
@@ -9,10 +8,11 @@ ghost use Rattle.tsa_tree.specs.statements.Shapes.{stmt_shape, stmt_shapes};
 ghost use Rattle.tsa_expr.specs.Source.{input, named};
 ghost use Rattle.tsa_expr.specs.Gives.{Gives};
 ghost use Rattle.tsa_header.specs.Heads.{IsMarked, IsOpened, ended as spec_ended};
-ghost use Rattle.tsa_stmt.specs.Closings.{do_end_at, ended_with, if_with};
+ghost use Rattle.tsa_stmt.specs.Closings.{do_end_at, ended_with as spec_with, if_with};
 ghost use Rattle.tsa_leaf.specs.Pointed.{ArePointed, IsPointed, ArmsPointed};
 ghost use Rattle.tsa_leaf.specs.Seen.{seen_statement};
 
+use tsa_base::Span;
 use tsa_expr::{Reader, SyntaxRefusal};
 use tsa_header::{Head, Marked, marked_test};
 use tsa_leaf::{Body, Read, while_word};
@@ -27,30 +27,51 @@ pub struct Arms<'a> {
     pub next: u32,
 }
 
-/// What a statement is, and the number of its point, by what stands before its body.
-fn kind_of<'a>(head: Head<'a>, body: &'a Stmt<'a>) -> (StmtKind<'a>, Option<u32>)
-    ensures { (span : span_type) → record { kind = result.0; point = result.1; span = span } ≡ ended_with head.entry body.entry span }
+/// A statement by what stands before its body, and the body.
+fn ended_with<'a>(head: Head<'a>, body: &'a Stmt<'a>, span: Span) -> Stmt<'a>
+    ensures { result ≡ spec_with head.entry body.entry span }
 {
     match head {
-        Head::While { test, number } => (StmtKind::While { test, body }, Some(number)),
-        Head::Switch { value, number } => (StmtKind::Switch { value, body }, Some(number)),
+        Head::While { test, number } => Stmt {
+            kind: StmtKind::While { test, body },
+            point: Some(number),
+            span,
+        },
+        Head::Switch { value, number } => Stmt {
+            kind: StmtKind::Switch { value, body },
+            point: Some(number),
+            span,
+        },
         Head::For {
             init,
             test,
             number,
             step,
-        } => {
-            let kind = StmtKind::For {
+        } => Stmt {
+            kind: StmtKind::For {
                 init,
                 test,
                 step,
                 body,
-            };
-            (kind, Some(number))
-        }
-        Head::Case(value) => (StmtKind::Case { value, body }, None),
-        Head::Otherwise => (StmtKind::Otherwise { body }, None),
-        Head::Label(name) => (StmtKind::Label { name, body }, None),
+            },
+            point: Some(number),
+            span,
+        },
+        Head::Case(value) => Stmt {
+            kind: StmtKind::Case { value, body },
+            point: None,
+            span,
+        },
+        Head::Otherwise => Stmt {
+            kind: StmtKind::Otherwise { body },
+            point: None,
+            span,
+        },
+        Head::Label(name) => Stmt {
+            kind: StmtKind::Label { name, body },
+            point: None,
+            span,
+        },
     }
 }
 
@@ -66,10 +87,9 @@ pub fn headed_with_body<'a>(
     ensures next_is { result.next ≡ body.entry.next }
     ensures pointed { (first middle last : List point_type) → IsOpened (spec_span (input reader.entry) start) first middle head.entry → IsPointed middle last body.entry.stmt.now → IsPointed first last result.stmt }
 {
-    let (kind, point) = kind_of(head, body.stmt);
     let span = reader.over(start, body.next);
     Read {
-        stmt: Stmt { kind, point, span },
+        stmt: ended_with(head, body.stmt, span),
         next: body.next,
     }
 }

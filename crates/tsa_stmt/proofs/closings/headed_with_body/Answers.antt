@@ -8,10 +8,10 @@ use Rattle.tsa_stmt.proofs.closings.headed_with_body.Goals as goal
 pub returns-clause-is : goal.returns-clause-is
 returns-clause-is c =
     ap (λ x. (x, c.args.body.next))
-    (ended_shaped c.args.head c.args.body.stmt c.over-span.result _ (c.kind_of-point.ensures c.over-span.result)
+    (ended_shaped c.args.head c.args.body.stmt c.over-span.result _ c.ended_with.ensures
     ∙ ap (ended c.args.head _) c.over-span.ensures)
 
 pub returns-clause-pointed : goal.returns-clause-pointed
 returns-clause-pointed c = λ first middle last o k.
     ended_pointed first middle last c.args.head c.args.body.stmt (span_at (input c.args.reader) c.args.start) c.over-span.result _
-    (over_from _ _ _ c.over-span.result c.over-span.ensures) (c.kind_of-point.ensures c.over-span.result) o k
+    (over_from _ _ _ c.over-span.result c.over-span.ensures) c.ended_with.ensures o k
