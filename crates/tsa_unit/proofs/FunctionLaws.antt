@@ -96,14 +96,14 @@ module _ (ts : List Lexeme) (aliases : Aliases) where
       → Fails e (after (item_shapes old) (going_items ts (function_end ts aliases true h m) m))
   bodiless_after old h m n e s o f = fails_then e _ _ (body_fails h m n e s o f)
 
-  pub body_kept : (before longer : List Item) (f whole : FnTree) (m n : ℕ) (body : Bor (List Stmt)) (e : ℕ) (old : List Point) (span : Span)
+  pub body_kept : (before lent longer : List Item) (f whole : FnTree) (m n : ℕ) (body : Bor (List Stmt)) (e : ℕ) (old : List Point) (span : Span)
       → sign_at ts aliases m ≢ sign.Semicolon → opening_brace ts aliases 0 m ≡ Ok (tt, n)
       → read ts some_statements (statements aliases 1) n ≡ Ok (stmt_shapes body.now, e)
       → span ≡ span_at ts (e - 1) → head_shape whole ≡ head_shape f → whole.body ≡ Some body
-      → whole.points.now ≡ old ++ record { action = End; span = span } ∷ [] → longer ≡ before ++ item.Function whole ∷ []
+      → whole.points.now ≡ old ++ record { action = End; span = span } ∷ [] → lent ≡ before → longer ≡ lent ++ item.Function whole ∷ []
       → after (item_shapes before) (going_items ts (function_end ts aliases true (head_shape f) m) m) ≡ Ok (item_shapes longer, e)
-  body_kept before longer f whole m n body e old span s o r q h b p k =
-      kept before longer whole _ _ (body_goes f whole m n body e old span s o r q h b p) k
+  body_kept before lent longer f whole m n body e old span s o r q h b p l k =
+      kept before longer whole _ _ (body_goes f whole m n body e old span s o r q h b p) (k ∙ ap (λ xs. xs ++ item.Function whole ∷ []) l)
 
   -- an item with a function that its head begins
   pub item_gives : (list : List UnitItem) (found : Outcome (List UnitItem)) (h : Head) (k : ℕ) (view : ℕ → List UnitItem × ℕ) (x : Result ℕ SyntaxRefusal)
@@ -134,10 +134,11 @@ pub prototype_behind : (old new : List Item) (f : FnTree) → (f.body ≡ None) 
     → HaveTheirPoints old → HaveTheirPoints new
 prototype_behind old new f b q k = function_pointed old new f (prototype_pointed f b) q k
 
-pub body_behind : (before longer : List Item) (whole : FnTree) (body : Bor (List Stmt)) (start old : List Point) (span : Span) → ArePointed start old body.now
-    → start ≡ [] → whole.body ≡ Some body → whole.points.now ≡ old ++ record { action = End; span = span } ∷ [] → longer ≡ before ++ item.Function whole ∷ []
+pub body_behind : (before lent longer : List Item) (whole : FnTree) (body : Bor (List Stmt)) (start old : List Point) (span : Span) → ArePointed start old body.now
+    → start ≡ [] → whole.body ≡ Some body → whole.points.now ≡ old ++ record { action = End; span = span } ∷ [] → lent ≡ before → longer ≡ lent ++ item.Function whole ∷ []
     → HaveTheirPoints before → HaveTheirPoints longer
-body_behind before longer whole body start old span h e b p q k = function_pointed before longer whole (body_pointed whole body start old span h e b p) q k
+body_behind before lent longer whole body start old span h e b p l q k =
+    function_pointed before longer whole (body_pointed whole body start old span h e b p) (q ∙ ap (λ xs. xs ++ item.Function whole ∷ []) l) k
 
 pub ruleset items = (item_gives)
 

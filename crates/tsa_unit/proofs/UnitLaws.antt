@@ -1,5 +1,5 @@
 -- Items of a unit, one after another, where the names of types that each one gives are known after it.
-use Rattle.std.proofs.Common.{ℕ, ◌+◌, ◌<◌, ◌≤◌, ◌≡◌, ◌∙◌, ap, sym, refl, Bool, true, false, List, [], ◌∷◌, ◌++◌, length, drop, Ok, Err, nat_le, arith}
+use Rattle.std.proofs.Common.{ℕ, ◌+◌, ◌<◌, ◌≤◌, ◌≡◌, ◌∙◌, ap, sym, subst, refl, Bool, true, false, List, [], ◌∷◌, ◌++◌, length, drop, Ok, Err, nat_le, arith}
 use Rattle.std.proofs.lemmas.Bool.{le-leb, lt-leb}
 use Rattle.std.proofs.lemmas.List.{length-map, length-append}
 use Rattle.tsa_base.specs.Tokens.{Lexeme, lexeme}
@@ -12,7 +12,7 @@ use Rattle.tsa_tree.specs.Rows.{some_items, item, items, is_past}
 use Rattle.tsa_tree.specs.tokens.Signs.{Aliases, lexemes}
 use Rattle.tsa_tree.specs.units.Answers.{read_unit}
 use Rattle.tsa_tree.specs.units.Syntax.{UnitItem, names_of}
-use Rattle.tsa_tree.specs.units.Shapes.{item_shape, item_shapes}
+use Rattle.tsa_tree.specs.units.Shapes.{item_shape, item_shapes, HaveTheirPoints}
 use Rattle.tsa_tree.proofs.RowsRead.{read_steps}
 use Rattle.tsa_expr.specs.declared.refusal.SyntaxCode.TheVariants as code
 use Rattle.tsa_expr.specs.declared.refusal.SyntaxRefusal.{SyntaxRefusal}
@@ -106,12 +106,16 @@ module _ (tokens : List Token) where
       h ∙ ap (after (item_shapes list)) (none_at ts aliases m (past tokens m ge)) ∙ after-none (item_shapes list) m
       ∙ ap (λ e. Ok (item_shapes list, e)) ends
 
-  pub item_fails : (list : List Item) (aliases : Aliases) (m : ℕ) (e : SyntaxRefusal) → m < length tokens
+  those_fail : (list : List Item) (aliases : Aliases) (m : ℕ) (e : SyntaxRefusal) → m < length tokens
       → Fails e (after (item_shapes list) (read ts some_items (item aliases true) m)) → Fails e (on_from ts list aliases m)
-  item_fails list aliases m e lt f =
+  those_fail list aliases m e lt f =
       fails_same e _ _ (ap (after (item_shapes list)) (some_at ts aliases m (not_past tokens m lt))
       ∙ after-over (item_shapes list) (read ts some_items (item aliases true) m) _)
       (fails_then e _ _ (fails_behind (item_shapes list) e (read ts some_items (item aliases true) m) f))
+
+  pub item_fails : (list lent : List Item) (aliases : Aliases) (m : ℕ) (e : SyntaxRefusal) → m < length tokens → lent ≡ list
+      → Fails e (after (item_shapes lent) (read ts some_items (item aliases true) m)) → Fails e (on_from ts list aliases m)
+  item_fails list lent aliases m e lt l f = subst (λ list. Fails e (on_from ts list aliases m)) l (those_fail lent aliases m e lt f)
 
   next_items : (list whole : List Item) (aliases : Aliases) (m n : ℕ) → m < length tokens
       → (xs : List UnitItem) → read ts some_items (item aliases true) m ≡ Ok (xs, n) → item_shapes whole ≡ item_shapes list ++ xs
@@ -122,23 +126,34 @@ module _ (tokens : List Token) where
       ∙ ap (λ l. after l (items_at ts (aliases ++ names_of xs) n)) (sym w)
       ∙ ap (λ known. on_from ts whole known n) (sym (names_of_read ts aliases xs m n k))
 
-  pub item_goes : (list whole : List Item) (aliases known : Aliases) (m n : ℕ) → m < length tokens
+  those_go : (list whole : List Item) (aliases known : Aliases) (m n : ℕ) → m < length tokens
       → after (item_shapes list) (read ts some_items (item aliases true) m) ≡ Ok (item_shapes whole, n)
       → known ≡ with_names aliases (names_of (item_shapes (drop (length list) whole)))
       → on_from ts list aliases m ≡ on_from ts whole known n
-  item_goes list whole aliases known m n lt h k =
+  those_go list whole aliases known m n lt h k =
       let parts = split (item_shapes list) (item_shapes whole) n _ h in
       next_items list whole aliases m n lt parts.0 parts.1 parts.2
       ∙ ap (λ xs. on_from ts whole (with_names aliases (names_of xs)) n) (sym (those_behind list whole parts.0 parts.2))
       ∙ ap (λ known. on_from ts whole known n) (sym k)
 
-pub grown : (list whole : List Item) (r : Outcome (List UnitItem)) (n : ℕ) → after (item_shapes list) r ≡ Ok (item_shapes whole, n)
-    → length list ≤ length whole
-grown list whole r n h =
+  pub item_goes : (list lent whole : List Item) (aliases known : Aliases) (m n front : ℕ) → m < length tokens → lent ≡ list → front ≡ length lent
+      → after (item_shapes lent) (read ts some_items (item aliases true) m) ≡ Ok (item_shapes whole, n)
+      → known ≡ with_names aliases (names_of (item_shapes (drop front whole)))
+      → on_from ts list aliases m ≡ on_from ts whole known n
+  item_goes list lent whole aliases known m n front lt l f h k =
+      ap (λ list. on_from ts list aliases m) (sym l)
+      ∙ those_go lent whole aliases known m n lt h (k ∙ ap (λ front. with_names aliases (names_of (item_shapes (drop front whole)))) f)
+
+pub grown : (list whole : List Item) (r : Outcome (List UnitItem)) (n front : ℕ) → after (item_shapes list) r ≡ Ok (item_shapes whole, n)
+    → front ≡ length list → front ≤ length whole
+grown list whole r n front h f =
     let parts = split (item_shapes list) (item_shapes whole) n r h in
     let long : length (item_shapes whole) ≡ length (item_shapes list) + length parts.0 = ap length parts.2 ∙ length-append (item_shapes list) parts.0 in
-    omega (arith, long, length-map list item_shape, length-map whole item_shape)
+    omega (arith, f, long, length-map list item_shape, length-map whole item_shape)
+
+pub pointed_on : (list lent new : List Item) → lent ≡ list → (HaveTheirPoints lent → HaveTheirPoints new) → HaveTheirPoints list → HaveTheirPoints new
+pointed_on list lent new l f h = f (subst (λ xs. HaveTheirPoints xs) (sym l) h)
 
 pub ruleset whole = (none_before, all_read)
 
-pub ruleset steps = (item_fails, item_goes, grown)
+pub ruleset steps = (item_fails, item_goes, grown, pointed_on)

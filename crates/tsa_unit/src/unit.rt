@@ -103,6 +103,14 @@ fn read_items<'a>(
     Ok(list)
 }
 
+/// How many stand in a list, which is lent whole: a shared reference of a list of items costs the check ten seconds.
+fn length_of<T: Copy>(list: &mut Vec<T>) -> usize
+    ensures is { result ≡ length list.new.items }
+    ensures same { list.new.items ≡ list.old.items }
+{
+    list.len()
+}
+
 /// One item, and the names of types that it gives are known after it.
 #[tactic(auto, using(crate::proofs::UnitLaws::steps))]
 fn next_item<'a>(
@@ -117,7 +125,7 @@ fn next_item<'a>(
     ensures pointed { IfOk result (λ next. HaveTheirPoints list.old.items → HaveTheirPoints list.new.items) }
     ensures ends { IfOk result (λ next. (at < next) × (next ≤ length text.entry.tokens.now)) }
 {
-    let before = list.len();
+    let before = length_of(list);
     let next = item(bump, text, at, Some(&*aliases), list)?;
     learn_from(aliases, list, before)?;
     Ok(next)
