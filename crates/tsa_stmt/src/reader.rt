@@ -1,6 +1,6 @@
 //! Statements are read (C11 6.8). The recursion is as deep as constructs may be nested: the statements of a block are read by
 //! a loop. A point is kept where its place is passed, so that points stand in order of the text.
-ghost use Rattle.std.specs.Prelude.{◌≡◌, ◌+◌, ◌≤◌, ◌<◌, List, length, true, IfOk};
+ghost use Rattle.std.specs.Prelude.{◌≡◌, ◌+◌, ◌≤◌, ◌<◌, List, length, true, Err, IfOk, OnErr};
 ghost use Rattle.tsa_base.specs.declared.limits.TheConstants.{NESTING_LIMIT};
 ghost use Rattle.tsa_tree.specs.declared.stmt.Point.{Point as point_type};
 ghost use Rattle.tsa_tree.specs.Reads.{read};
@@ -19,8 +19,9 @@ ghost use Rattle.tsa_leaf.specs.Pointed.{ArePointed, IsPointed};
 ghost use Rattle.tsa_leaf.specs.Seen.{seen_body, seen_statement};
 
 use crate::closings::{Arms, block_of, do_with_test, headed_with_body, if_with_arms};
+use std::alloc::Global;
 use tsa_base::NESTING_LIMIT;
-use tsa_expr::{SyntaxCode, SyntaxRefusal, refuse};
+use tsa_expr::{Reader, SyntaxCode, SyntaxRefusal, refuse};
 use tsa_header::{Head, Headed, Marked, TextReader, leaf_statement, marked_test};
 use tsa_leaf::{
     Body, Read, begins_statement, begins_type, closes_block, empty, in_body, is_else_at, locals,
@@ -44,6 +45,25 @@ fn keep_statement<'a>(
         }
         Err(refusal) => Err(refusal),
     }
+}
+
+/// The allocator of a list, which is lent whole: a shared reference of a list of points costs the check ten seconds.
+fn allocator_of<T: Copy>(list: &mut Vec<T>) -> Global
+    ensures same { list.new.items ≡ list.old.items }
+{
+    *list.allocator()
+}
+
+/// A list, kept in the arena, and the token after it. The list is taken whole, as it is lent whole above.
+fn in_arena_whole<'a, T: Copy>(
+    reader: Reader<'a, '_>,
+    items: Vec<T>,
+    next: u32,
+) -> Result<(&'a [T], u32), SyntaxRefusal>
+    ensures is { IfOk result (λ found. (found.0.now ≡ items.items) × (found.1 ≡ next)) }
+    ensures memory { OnErr result (result ≡ Err SyntaxRefusal.NoMemory) }
+{
+    in_arena_before(reader.bump, &items, next)
 }
 
 /// The statement that begins at a token with this sign, where `depth` constructs are open.
@@ -279,12 +299,12 @@ pub fn statements<'a>(
     ensures pointed { IfOk result (λ found. ArePointed points.old.items points.new.items found.0.now) }
     ensures ends { IfOk result (λ found. (at < found.1) × (found.1 ≤ length source.entry.reader.tokens.now)) }
 {
-    let mut list = Vec::new(*points.allocator());
+    let mut list = Vec::new(allocator_of(points));
     let mut next = at;
     'statements: loop {
         let sign = source.reader.sign(next);
         if closes_block(sign) {
-            return in_arena_before(source.reader.bump, &list, next + 1);
+            return in_arena_whole(source.reader, list, next + 1);
         }
         next = if begins_type(sign) {
             locals(source.reader, next, depth, points, &mut list)?

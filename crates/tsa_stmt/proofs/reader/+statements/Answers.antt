@@ -1,4 +1,5 @@
-use Rattle.std.proofs.Common.{rules, ◌∙◌}
+use Rattle.std.proofs.Common.{rules, ◌∙◌, subst, sym}
+use Rattle.tsa_leaf.specs.Pointed.{ArePointed}
 use Rattle.tsa_expr.specs.Source.{input, named}
 use Rattle.tsa_stmt.proofs.StatementLaws.{list_begins, list_goes, none_pointed, one_pointed}
 use Rattle.tsa_stmt.proofs.reader.+statements.Goals as goal
@@ -7,7 +8,9 @@ pub statements-statements-init : goal.statements-statements-init
 statements-statements-init t c = record {
   inside = search rules;
   gives = list_begins (input c.args.source.reader) (named c.args.source.reader) c.new-list.result.items c.args.depth c.args.at c.new-list.ensures.items;
-  pointed = none_pointed c.args.points.now.items c.new-list.result.items c.new-list.ensures.items;
+  pointed =
+      subst (λ new. ArePointed c.args.points.now.items new c.new-list.result.items) (sym c.allocator_of.ensures.same)
+      (none_pointed c.args.points.now.items c.new-list.result.items c.new-list.ensures.items);
 }
 
 pub statements-statements-preserved : goal.statements-statements-preserved
