@@ -16,7 +16,8 @@ use tsa_place::Places;
 use tsa_profile::Fit;
 use tsa_rules::Statuses;
 use tsa_texts::PathTexts;
-use tsa_warn::{RuleFailure, warnings_of};
+use tsa_failures::RuleFailure;
+use tsa_warn::warnings_of;
 
 // What the unit's functions see of it.
 const NAMES: Caller = Caller {

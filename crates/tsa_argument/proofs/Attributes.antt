@@ -7,12 +7,12 @@ use Rattle.tsa_tree.specs.expressions.Syntax.{Identifier, Expression, Arguments,
 use Rattle.tsa_tree.specs.types.Scopes.{Scope}
 use Rattle.tsa_layout.specs.Calls.{Layout}
 use Rattle.tsa_core.specs.Programs.{Attr}
-use Rattle.tsa_ask.specs.Failure.{Failure}
-use Rattle.tsa_ask.specs.ProfileCode.TheVariants.{PF1, PF8}
-use Rattle.tsa_ask.specs.Standing.TheVariants.{Inside}
-use Rattle.tsa_ask.specs.Premises.{Premise, premise, first}
-use Rattle.tsa_ask.specs.Expressions.{compares_a_try, constant, is_other, is_try_call, own, parts}
-use Rattle.tsa_ask.proofs.NoneFails.{none_of_both, none_of_first, none_of_two}
+use Rattle.tsa_seen.specs.declared.premise.Failure.{Failure}
+use Rattle.tsa_seen.specs.declared.premise.ProfileCode.TheVariants.{PF1, PF8}
+use Rattle.tsa_seen.specs.declared.standing.Standing.TheVariants.{Inside}
+use Rattle.tsa_seen.specs.Premises.{Premise, premise, first}
+use Rattle.tsa_node.specs.Expressions.{compares_a_try, constant, is_other, is_try_call, own, parts}
+use Rattle.tsa_use.proofs.NoneFails.{none_of_both, none_of_first, none_of_two}
 use Rattle.tsa_ask.proofs.EachItem.{value_asked}
 use Rattle.tsa_argument.specs.Arguments.{view_with, is_in_profile}
 

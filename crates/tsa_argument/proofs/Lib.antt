@@ -5,4 +5,3 @@ pub mod EndingScopes
 pub mod Items
 pub mod Parameters
 pub mod Worked
-pub use Rattle.tsa_ask.proofs.NoneFails

@@ -1,11 +1,11 @@
 -- The examples, worked out.
 use Rattle.std.proofs.Common.{refl}
 use Rattle.tsa_core.proofs.Worked.{worked}
-use Rattle.tsa_ask.specs.Premises as profile
+use Rattle.tsa_seen.specs.Premises as profile
 use Rattle.tsa_tree.specs.types.Premises as types
 use Rattle.tsa_tree.specs.types.Initialisers.{cell_premises, initialiser_premises}
 use Rattle.tsa_tree.specs.types.Expressions.{premises_of}
-use Rattle.tsa_ask.specs.Expressions.{parts, arguments}
+use Rattle.tsa_node.specs.Expressions.{parts, arguments}
 use Rattle.tsa_ask.specs.Declarations.{init_premises}
 use Rattle.tsa_argument.specs.Arguments.{behind_items}
 use Rattle.tsa_argument.specs.Examples.{ArgumentsAreAsWritten}

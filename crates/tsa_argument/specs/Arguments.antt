@@ -14,8 +14,8 @@ use Rattle.tsa_layout.specs.Calls.{Layout}
 use Rattle.tsa_layout.specs.Parts.{no_stable}
 use Rattle.tsa_fill.specs.Units.{values_in}
 use Rattle.tsa_core.specs.Programs.{Attr, program_with}
-use Rattle.tsa_ask.specs.Premises as profile
-use Rattle.tsa_ask.specs.Expressions.{View}
+use Rattle.tsa_seen.specs.Premises as profile
+use Rattle.tsa_node.specs.Expressions.{View}
 use Rattle.tsa_ask.specs.Declarations.{given_init}
 use Rattle.tsa_argument.specs.declared.unit.Parameter.{Parameter}
 

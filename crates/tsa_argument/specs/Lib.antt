@@ -1,4 +1,3 @@
 pub mod Arguments
 pub mod Examples
 pub mod Laws
-pub use Rattle.tsa_ask.specs.Declarations

@@ -7,7 +7,8 @@ ghost use Rattle.tsa_tree.specs.declarations.Syntax.{value};
 ghost use Rattle.tsa_tree.specs.expressions.Shapes.{shape};
 
 use crate::typing::is_typed;
-use tsa_ask::{Body, init_failure};
+use tsa_node::Body;
+use tsa_ask::init_failure;
 use tsa_base::{NoMemory, Value};
 use tsa_item::or_zero;
 use tsa_layout::Layout;

@@ -10,5 +10,4 @@ mod unit;
 pub use laws::{
     arguments_are_as_written, declared_globals_hold_it, parameters_are_those_of_the_core,
 };
-pub use tsa_ask::{Failure, NamedLock, NamedLocks, ProfileCode, named_locks};
 pub use unit::{Parameter, Unit};

@@ -11,7 +11,7 @@ use Rattle.tsa_way.specs.Ways.{Way}
 use Rattle.tsa_seen.specs.declared.premise.Failure.{Failure}
 use Rattle.tsa_seen.specs.declared.premise.ProfileCode.TheVariants.{PF1, PF2, PF9}
 use Rattle.tsa_seen.specs.declared.standing.Standing.TheVariants.{Inside}
-use Rattle.tsa_use.specs.Expressions.{View, own, parts}
+use Rattle.tsa_node.specs.Expressions.{View, own, parts}
 use Rattle.tsa_seen.specs.Premises.{Premise, or_else, first}
 use Rattle.tsa_ask.specs.Declarations.{argument, attribute_arguments, is_among, is_call, is_named_once, is_order, way, ways_behind, with_way}
 use Rattle.tsa_ask.proofs.Firsts.{calls, goes_on, lacks, nothing_fails, repeats, stands, stops}

@@ -8,7 +8,7 @@ use Rattle.tsa_tree.specs.types.Runnable.{is_generic}
 use Rattle.tsa_way.specs.Ways.{Way}
 use Rattle.tsa_seen.specs.declared.premise.Failure.{Failure}
 use Rattle.tsa_seen.specs.declared.premise.ProfileCode.TheVariants.{PF7}
-use Rattle.tsa_use.specs.Expressions.{View}
+use Rattle.tsa_node.specs.Expressions.{View}
 use Rattle.tsa_seen.specs.Locks.{is_try}
 use Rattle.tsa_seen.specs.Premises.{Premise, premise, or_else, first}
 use Rattle.tsa_ask.specs.declared.tries.Tries.{Tries}

@@ -8,7 +8,7 @@ use Rattle.tsa_tree.specs.declared.decl.Init.{Init}
 use Rattle.tsa_tree.specs.expressions.Syntax.{Expression}
 use Rattle.tsa_seen.specs.declared.premise.Failure.{Failure}
 use Rattle.tsa_seen.specs.declared.standing.Standing.TheVariants.{Inside}
-use Rattle.tsa_use.specs.Expressions.{View, own, parts}
+use Rattle.tsa_node.specs.Expressions.{View, own, parts}
 use Rattle.tsa_seen.specs.Premises.{first}
 use Rattle.tsa_ask.specs.Declarations.{init_premises, item_premises}
 use Rattle.tsa_ask.proofs.Firsts.{goes_on, nothing_fails, stops}

@@ -1,7 +1,7 @@
 -- The locks that an attribute names, one after the other.
 use Rattle.std.proofs.Common.{◌≡◌, ◌∙◌, ℕ, Bool, suc, ◌+◌, arith, List, [], ◌∷◌, ◌++◌, drop, ap, sym}
 use Rattle.std.proofs.lemmas.List.{append_assoc, append-nil}
-use Rattle.tsa_use.specs.Programs.{Attr, attr_args, attrs_of, succeeds}
+use Rattle.tsa_core.specs.Programs.{Attr, attr_args, attrs_of, succeeds}
 use Rattle.tsa_tree.specs.attributes.Syntax.{Attribute, attr_shape, attr_shapes}
 use Rattle.tsa_tree.specs.declared.attr.Attr as tree
 use Rattle.tsa_tree.specs.declared.expr.Expr.{Expr}

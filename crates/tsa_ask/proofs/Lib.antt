@@ -4,6 +4,3 @@ pub mod EachAttribute
 pub mod EachItem
 pub mod HeadParts
 pub mod EachLock
-pub use Rattle.tsa_use.proofs.Failures
-pub use Rattle.tsa_use.proofs.Spans
-pub use Rattle.tsa_use.proofs.NoneFails

@@ -14,11 +14,11 @@ use Rattle.tsa_tree.specs.types.Runnable.{is_small, is_lock_function, is_environ
 use Rattle.tsa_tree.specs.types.Scopes.{Scope, found}
 use Rattle.tsa_way.specs.LockPaths.{lock_way}
 use Rattle.tsa_way.specs.Ways.{Way}
-use Rattle.tsa_seen.specs.PathTables.{is_known}
+use Rattle.tsa_path.specs.PathTables.{is_known}
 use Rattle.tsa_seen.specs.declared.premise.ProfileCode.TheVariants.{PF1, PF2, PF4, PF6, PF7, PF9}
 use Rattle.tsa_seen.specs.Premises.{Premise, premise}
 use Rattle.tsa_seen.specs.declared.standing.Standing.TheVariants.{Inside}
-use Rattle.tsa_use.specs.Expressions.{View, own, parts}
+use Rattle.tsa_node.specs.Expressions.{View, own, parts}
 use Rattle.tsa_seen.specs.Locks.{is_try}
 
 abbrev pub way : View → Expression → Option Way

@@ -1,10 +1,2 @@
 pub mod Declarations
 pub mod Tries
-pub use Rattle.tsa_use.specs.Accesses
-pub use Rattle.tsa_use.specs.Expressions
-pub use Rattle.tsa_use.specs.Arguments
-pub use Rattle.tsa_use.specs.Told
-pub use Rattle.tsa_seen.specs.declared.premise.Failure
-pub use Rattle.tsa_seen.specs.declared.premise.ProfileCode
-pub use Rattle.tsa_seen.specs.declared.standing.Standing
-pub use Rattle.tsa_seen.specs.Premises

@@ -4,15 +4,18 @@ ghost use Rattle.tsa_ask.specs.Declarations.{argument as spec_argument, attribut
 ghost use Rattle.tsa_tree.specs.expressions.Shapes.{shape, shapes};
 ghost use Rattle.tsa_seen.specs.declared.premise.ProfileCode.TheVariants.{PF9};
 ghost use Rattle.tsa_seen.specs.declared.standing.Standing.TheVariants.{Inside};
-ghost use Rattle.tsa_use.specs.Expressions.{own};
+ghost use Rattle.tsa_node.specs.Expressions.{own};
 ghost use Rattle.tsa_seen.specs.Premises.{first, or_else};
-ghost use Rattle.tsa_use.specs.Told.{view_of};
+ghost use Rattle.tsa_node.specs.Told.{view_of};
 
 use tsa_base::NoMemory;
-use tsa_seen::{Path, PathSet};
+use tsa_way::Path;
+use tsa_path::PathSet;
 use tsa_tree::attr::AttrKind;
 use tsa_tree::expr::{Expr, ExprKind};
-use tsa_use::{Body, Failure, ProfileCode, own_failure, place_failure};
+use tsa_node::Body;
+use tsa_seen::{Failure, ProfileCode};
+use tsa_use::{own_failure, place_failure};
 
 /// Whether attributes of a kind tell the order of locks, which need have no path there.
 fn is_order(kind: AttrKind) -> bool

@@ -5,16 +5,17 @@ ghost use Rattle.tsa_ask.specs.Tries.{misfits_beside, tries_among, with_attribut
 ghost use Rattle.tsa_tree.specs.attributes.Syntax.{attr_shape, attr_shapes};
 ghost use Rattle.tsa_seen.specs.declared.premise.ProfileCode.TheVariants.{PF7};
 ghost use Rattle.tsa_seen.specs.Premises.{first, premise};
-ghost use Rattle.tsa_use.specs.Told.{view_of};
+ghost use Rattle.tsa_node.specs.Told.{view_of};
 
 use crate::argument::arguments;
 use crate::tries::Tries;
 use std::alloc::Global;
 use tsa_base::NoMemory;
-use tsa_seen::PathSet;
+use tsa_path::PathSet;
 use tsa_tree::attr::Attr;
 use tsa_tree::kind::Kind;
-use tsa_use::{Body, Failure, ProfileCode};
+use tsa_node::Body;
+use tsa_seen::{Failure, ProfileCode};
 
 /// What fails first at an attribute of a member or of a global.
 fn guard_failure(body: Body<'_, '_>, attr: &Attr<'_>) -> Result<Option<Failure>, NoMemory>

@@ -13,7 +13,7 @@ use tsa_tree::attr::{Attr, AttrKind};
 use tsa_tree::expr::{Expr, ExprKind, Name, UnaryOp};
 use tsa_tree::item::{FnTree, Param};
 use tsa_tree::kind::{Kind, ThingType};
-use tsa_use::declared_thing;
+use tsa_layout::declared_thing;
 
 /// Whether a kind is that of a number or of a pointer.
 fn is_scalar_kind(kind: Kind) -> bool

@@ -11,7 +11,8 @@ use crate::functions::{is_environment, is_lock_function, is_small};
 use tsa_base::NoMemory;
 use tsa_scope::Scope;
 use tsa_tree::item::{FnTree, Param};
-use tsa_use::{Failure, ProfileCode, declared_thing};
+use tsa_seen::{Failure, ProfileCode};
+use tsa_layout::declared_thing;
 
 /// What fails first at parameters: each is a number or a pointer.
 fn params_failure(scope: &Scope<'_>, params: &[Param<'_>]) -> Result<Option<Failure>, NoMemory>

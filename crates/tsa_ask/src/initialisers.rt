@@ -3,11 +3,13 @@ ghost use Rattle.std.specs.Prelude.{◌≡◌, option_map, IfOk};
 ghost use Rattle.tsa_ask.specs.Declarations.{given_init, init_premises, item_premises};
 ghost use Rattle.tsa_tree.specs.declarations.Shapes.{init_shape, init_shapes};
 ghost use Rattle.tsa_seen.specs.Premises.{first};
-ghost use Rattle.tsa_use.specs.Told.{view_of};
+ghost use Rattle.tsa_node.specs.Told.{view_of};
 
 use tsa_base::NoMemory;
 use tsa_tree::decl::Init;
-use tsa_use::{Body, Failure, place_failure};
+use tsa_node::Body;
+use tsa_seen::Failure;
+use tsa_use::place_failure;
 
 /// What fails first in an initialiser. The recursion is as deep as the tree is high.
 #[cycle(initialising)]

@@ -14,4 +14,3 @@ pub use functions::is_small;
 pub use heads::Heading;
 pub use initialisers::{given_failure, init_failure};
 pub use locks::named_locks;
-pub use tsa_use::{Body, Failure, NamedLock, NamedLocks, ProfileCode, is_truth, reads, writes};

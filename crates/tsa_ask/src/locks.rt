@@ -1,6 +1,6 @@
 //! The locks that the attributes of a function name.
 ghost use Rattle.std.specs.Prelude.{◌≡◌, ◌++◌, IfOk, OnOk};
-ghost use Rattle.tsa_use.specs.Programs.{attr_args, attrs_of, succeeds as spec_succeeds};
+ghost use Rattle.tsa_core.specs.Programs.{attr_args, attrs_of, succeeds as spec_succeeds};
 ghost use Rattle.tsa_tree.specs.attributes.Syntax.{attr_shape, attr_shapes};
 ghost use Rattle.tsa_tree.specs.expressions.Shapes.{shape};
 ghost use Rattle.tsa_way.specs.LockPaths.{lock_way, stable_in};
@@ -8,7 +8,7 @@ ghost use Rattle.tsa_way.specs.LockPaths.{lock_way, stable_in};
 use tsa_base::NoMemory;
 use tsa_tree::attr::Attr;
 use tsa_tree::expr::Expr;
-use tsa_use::{NamedLock, NamedLocks};
+use tsa_seen::{NamedLock, NamedLocks};
 use tsa_way::Sight;
 
 /// The result for which a try takes its locks; of no other attribute that counts.

@@ -2,11 +2,11 @@
 use Rattle.std.proofs.Common.{◌≡◌, ◌∙◌, ℕ, zero, suc, ◌+◌, ◌<◌, ◌≤◌, arith, nat_lt, ◌⊎◌, inl, inr, List, length, get_or, All, Contains, Some, slice_get, refl, sym, ap, ap₂, subst}
 use Rattle.std.proofs.lemmas.List.Elements.{All-contains, All-from_get_or, All-get_or, All-same}
 use Rattle.std.proofs.lemmas.Option.{slice_get_within, get_or_from_slice_get, same_Some}
-use Rattle.tsa_graph.specs.Control as control
-use Rattle.tsa_graph.specs.Control.{edge}
-use Rattle.tsa_graph.specs.Outcome.{Outcome}
-use Rattle.tsa_graph.specs.Outcome.TheVariants.{Next}
-use Rattle.tsa_graph.specs.Links.{outcome_of}
+use Rattle.tsa_core.specs.Control as control
+use Rattle.tsa_core.specs.Control.{edge}
+use Rattle.tsa_links.specs.declared.link.Outcome.{Outcome}
+use Rattle.tsa_links.specs.declared.link.Outcome.TheVariants.{Next}
+use Rattle.tsa_links.specs.Links.{outcome_of}
 use Rattle.tsa_graph.specs.declared.blocks.Block as graph
 use Rattle.tsa_graph.specs.declared.blocks.Graph.{Graph}
 use Rattle.tsa_graph.specs.declared.entries.Edge as entry

@@ -2,7 +2,7 @@
 use Rattle.std.proofs.Common.{◌≡◌, ◌∙◌, ℕ, zero, suc, ◌<◌, arith, Bool, true, false, true≢false, nat_eq, ◌⊎◌, inl, inr, List, [], ◌∷◌, map, length, get_or, All, Contains, Some, slice_get, if◌then◌else◌, refl, sym, ap, subst}
 use Rattle.std.proofs.lemmas.List.Elements.{All-get_or, Contains-get_or}
 use Rattle.std.proofs.lemmas.Option.{slice_get_within, slice_get-get_or, get_or_from_slice_get}
-use Rattle.tsa_graph.specs.Control.{Edge}
+use Rattle.tsa_core.specs.Control.{Edge}
 use Rattle.tsa_graph.specs.Edges.{edges_from, edges_into}
 use Rattle.tsa_graph.proofs.WaysMade.{equal}
 

@@ -1,11 +1,11 @@
 -- Runs of a graph by the places of their points.
 use Rattle.std.proofs.Common.{◌≡◌, ℕ, zero, suc, ◌+◌, ◌<◌, arith, List, [], ◌∷◌, length, get_or, Contains, Some, slice_get, refl, sym, subst}
 use Rattle.std.proofs.lemmas.Option.{none-some, same_Some}
-use Rattle.tsa_graph.specs.Control as control
-use Rattle.tsa_graph.specs.Control.{edge}
-use Rattle.tsa_graph.specs.Outcome.{Outcome}
-use Rattle.tsa_graph.specs.Outcome.TheVariants.{Next}
-use Rattle.tsa_graph.specs.Links.{outcome_of}
+use Rattle.tsa_core.specs.Control as control
+use Rattle.tsa_core.specs.Control.{edge}
+use Rattle.tsa_links.specs.declared.link.Outcome.{Outcome}
+use Rattle.tsa_links.specs.declared.link.Outcome.TheVariants.{Next}
+use Rattle.tsa_links.specs.Links.{outcome_of}
 use Rattle.tsa_graph.specs.declared.blocks.Block.{Block}
 use Rattle.tsa_graph.specs.Edges.{IsStep}
 use Rattle.tsa_graph.specs.Graphs.{IsRun, IsBlock, AreBlocks}

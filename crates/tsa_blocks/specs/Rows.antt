@@ -1,9 +1,9 @@
 -- The blocks of a body in a row: points that follow each other alone, how each block is left, and where each point stands.
 use Rattle.std.specs.Prelude.{ℕ, ◌+◌, ◌≡◌, ◌<◌, ◌≤◌, List, All, Contains, length, Some, slice_get, slice_index_or}
-use Rattle.tsa_graph.specs.Control as control
-use Rattle.tsa_graph.specs.Control.{Edge, edge}
-use Rattle.tsa_graph.specs.Outcome.TheVariants.{Next}
-use Rattle.tsa_graph.specs.Links.{outcome_of}
+use Rattle.tsa_core.specs.Control as control
+use Rattle.tsa_core.specs.Control.{Edge, edge}
+use Rattle.tsa_links.specs.declared.link.Outcome.TheVariants.{Next}
+use Rattle.tsa_links.specs.Links.{outcome_of}
 use Rattle.tsa_blocks.specs.declared.blocks.Block.{Block}
 use Rattle.tsa_blocks.specs.declared.blocks.Blocks.{Blocks}
 use Rattle.tsa_blocks.specs.declared.blocks.Exit.{Exit}

@@ -1,7 +1,7 @@
 //! Blocks with their exits, and the places of points.
 ghost use Rattle.tsa_blocks.specs.Formed.{AreFormed};
 
-use tsa_graph::Outcome;
+use tsa_links::Outcome;
 
 /// An edge from the last point of a block to the first point of one, by the number of that block.
 #[derive(Clone, Copy)]

@@ -3,7 +3,7 @@ ghost use Rattle.std.specs.Prelude.{◌≡◌, List, length, IfOk};
 ghost use Rattle.tsa_blocks.specs.Between.{AreBetween};
 ghost use Rattle.tsa_blocks.specs.Joining.{IsJoined, AreJoined};
 ghost use Rattle.tsa_blocks.specs.Rows.{AreBlocksOf};
-ghost use Rattle.tsa_graph.specs.Control.{Edge};
+ghost use Rattle.tsa_core.specs.Control.{Edge};
 ghost use Rattle.tsa_graph.specs.Graphs.{IsGraph};
 
 use crate::blocks::{Block, Blocks, Exit};

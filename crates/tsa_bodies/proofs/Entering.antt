@@ -15,10 +15,10 @@ use Rattle.tsa_tree.specs.units.Syntax.{UnitItem, body_item}
 use Rattle.tsa_way.specs.Ways.{Way}
 use Rattle.tsa_core.specs.Programs.{Declared, Function, declared_by, declared_functions, first_head, function_of, program_of}
 use Rattle.tsa_core.proofs.MappedLists.{map_at}
-use Rattle.tsa_judge.specs.Ways.{unless_many}
-use Rattle.tsa_seen.specs.PathTables.{path_limit}
+use Rattle.tsa_deed.specs.Ways.{unless_many}
+use Rattle.tsa_path.specs.PathTables.{path_limit}
 use Rattle.tsa_profile.specs.Paths.{paths_if, paths_of}
-use Rattle.tsa_profile.specs.Units.{attributes_behind, attributes_by, paths_at, points_in, unit_of}
+use Rattle.tsa_ground.specs.Units.{attributes_behind, attributes_by, paths_at, points_in, unit_of}
 use Rattle.tsa_profile.proofs.FunctionPaths.{body_paths}
 use Rattle.tsa_profile.proofs.PathTables.{own_body}
 use Rattle.tsa_site.specs.Entering.{IsEntered, IsOf}

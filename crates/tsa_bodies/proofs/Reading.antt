@@ -7,7 +7,7 @@ use Rattle.tsa_tree.specs.units.Syntax.{UnitItem}
 use Rattle.tsa_tree.proofs.types.UnitNodes.{premises_tell_it}
 use Rattle.tsa_core.specs.Programs.{Declared, declared_by}
 use Rattle.tsa_seen.specs.Premises.{first}
-use Rattle.tsa_profile.specs.Units.{Unit, attributes_behind, attributes_by, paths_limits, unit_of}
+use Rattle.tsa_ground.specs.Units.{Unit, attributes_behind, attributes_by, paths_limits, unit_of}
 use Rattle.tsa_profile.proofs.FunctionScopes.{Bodies}
 use Rattle.tsa_profile.proofs.PathTables.{Reads, bodies_behind, none_came_yet, reads_on}
 use Rattle.tsa_bodies.specs.Courses.{Course, IsInFrontOf, course_along, course_behind, course_outset, params_by}

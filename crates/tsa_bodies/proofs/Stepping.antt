@@ -11,8 +11,8 @@ use Rattle.tsa_tree.specs.units.Shapes.{HasItsPoints, end_of, function_shape, it
 use Rattle.tsa_tree.specs.units.Syntax.{UnitItem}
 use Rattle.tsa_core.specs.Programs.{declared_by}
 use Rattle.tsa_core.proofs.NoFailure.{none_of_both}
-use Rattle.tsa_judge.specs.Units.{refusal_with}
-use Rattle.tsa_profile.specs.Units.{unit_of}
+use Rattle.tsa_ground.specs.Units.{refusal_with}
+use Rattle.tsa_ground.specs.Units.{unit_of}
 use Rattle.tsa_site.specs.Entering.{Enters}
 use Rattle.tsa_site.specs.Knowing.{Knowledge}
 use Rattle.tsa_site.specs.declared.inside.Inside.{Inside}

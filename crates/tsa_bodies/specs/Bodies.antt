@@ -15,7 +15,7 @@ use Rattle.tsa_rules.specs.Points.{points_of}
 use Rattle.tsa_path.specs.PathTexts.{Names}
 use Rattle.tsa_texts.specs.Orders.{texts_of}
 use Rattle.tsa_flow.specs.Flows.{IsFlowOf}
-use Rattle.tsa_site.specs.Paths.{paths_of}
+use Rattle.tsa_profile.specs.Paths.{paths_of}
 use Rattle.tsa_bodies.specs.declared.told.ToldBody.{ToldBody}
 
 -- a body: the number and the name of its function, and its points with where they stand

@@ -4,7 +4,7 @@ use Rattle.tsa_tree.specs.declarations.Syntax.{Parameter}
 use Rattle.tsa_tree.specs.units.Syntax.{UnitItem}
 use Rattle.tsa_core.specs.Programs.{Declared, declared_by}
 use Rattle.tsa_site.specs.Knowing.{Knowledge, behind, outset_of}
-use Rattle.tsa_site.specs.Units.{Unit, unit_of}
+use Rattle.tsa_ground.specs.Units.{Unit, unit_of}
 
 pub record Course : Type 0 where
   pub known : Knowledge

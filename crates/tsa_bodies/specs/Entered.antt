@@ -14,9 +14,9 @@ use Rattle.tsa_names.specs.DeclaredNames.{declared_texts, labels_with}
 use Rattle.tsa_flow.specs.declared.function.FunctionFlow.{FunctionFlow}
 use Rattle.tsa_site.specs.Entering.{IsOf}
 use Rattle.tsa_site.specs.Laws.{StandsFor}
-use Rattle.tsa_site.specs.Paths.{paths_if, paths_of}
+use Rattle.tsa_profile.specs.Paths.{paths_if, paths_of}
 use Rattle.tsa_site.specs.Sites.{Site, within}
-use Rattle.tsa_site.specs.Units.{unit_of}
+use Rattle.tsa_ground.specs.Units.{unit_of}
 use Rattle.tsa_site.specs.declared.inside.Inside.{Inside}
 use Rattle.tsa_bodies.specs.Bodies.{BodyText, body_text}
 use Rattle.tsa_bodies.specs.Courses.{Course, first_params}

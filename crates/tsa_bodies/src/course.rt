@@ -2,13 +2,14 @@
 ghost use Rattle.std.specs.Prelude.{◌≡◌, option_map, slice_get, IfOk, OnOk};
 ghost use Rattle.tsa_bodies.specs.Coursed.{course_of};
 ghost use Rattle.tsa_bodies.specs.Courses.{course_outset, with_first};
-ghost use Rattle.tsa_site.specs.Judging.{unit_at};
+ghost use Rattle.tsa_ground.specs.Judging.{unit_at};
 ghost use Rattle.tsa_tree.specs.declarations.Shapes.{param_shapes};
 ghost use Rattle.tsa_tree.specs.units.Shapes.{function_shape};
 
 use std::alloc::Global;
 use tsa_base::NoMemory;
-use tsa_held::{Ground, Knowledge, outset};
+use tsa_ground::Ground;
+use tsa_site::{Knowledge, outset};
 use tsa_tree::item::{FnTree, Param};
 
 /// What is known in front of an item of a unit, and the parameters of each function that is declared, by its number, as they are declared first.

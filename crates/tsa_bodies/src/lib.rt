@@ -6,6 +6,3 @@ mod told;
 
 pub use course::Course;
 pub use told::{Teller, ToldBody};
-pub use tsa_flow::RuleView;
-pub use tsa_held::{Fit, Places, UnitTables};
-pub use tsa_rules::Role;

@@ -15,7 +15,7 @@ use Rattle.tsa_core.specs.Programs.{Function, program_of}
 use Rattle.tsa_core.proofs.TextPoints.{points_are_those}
 use Rattle.tsa_graph.specs.declared.blocks.Graph.{Graph}
 use Rattle.tsa_graph.specs.Graphs.{IsGraph}
-use Rattle.tsa_site.specs.Points.{edges_of, points_of}
+use Rattle.tsa_rules.specs.Points.{edges_of, points_of}
 use Rattle.tsa_site.specs.declared.find.BodySite.{BodySite}
 use Rattle.tsa_site.specs.declared.inside.Inside.{Inside}
 use Rattle.tsa_site.specs.Entering.{IsOf}
@@ -23,7 +23,7 @@ use Rattle.tsa_site.specs.Finding.{IsFound}
 use Rattle.tsa_site.specs.Knowing.{Knowledge}
 use Rattle.tsa_site.specs.Laws.{StandsFor, body_at, result_at}
 use Rattle.tsa_site.specs.Sites.{Site, site_of, within}
-use Rattle.tsa_site.specs.Units.{unit_of}
+use Rattle.tsa_ground.specs.Units.{unit_of}
 use Rattle.tsa_site.proofs.SiteLaws.{sites_are_of_the_program}
 use Rattle.tsa_control.specs.Controls.{IsControlOf, IsGraphIn}
 

@@ -3,7 +3,7 @@ use Rattle.std.specs.Prelude.{◌≡◌, ◌<◌, true, false, All, length, Opti
 use Rattle.tsa_core.specs.Programs.{Function}
 use Rattle.tsa_graph.specs.declared.blocks.Graph.{Graph}
 use Rattle.tsa_graph.specs.Graphs.{IsGraph}
-use Rattle.tsa_site.specs.Points.{edges_of, points_of}
+use Rattle.tsa_rules.specs.Points.{edges_of, points_of}
 
 -- the graph of a function with a body: its edges go between its points
 pub record IsControlOf (f : Function) (g : Graph) : Type 0 where

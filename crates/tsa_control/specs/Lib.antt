@@ -1,10 +1,1 @@
 pub mod Controls
-pub use Rattle.tsa_graph.specs.Graphs
-pub use Rattle.tsa_site.specs.Entering
-pub use Rattle.tsa_site.specs.Expressions
-pub use Rattle.tsa_site.specs.Finding
-pub use Rattle.tsa_site.specs.Knowing
-pub use Rattle.tsa_site.specs.Laws
-pub use Rattle.tsa_site.specs.Paths
-pub use Rattle.tsa_site.specs.Sites
-pub use Rattle.tsa_site.specs.Units

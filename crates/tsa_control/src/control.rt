@@ -3,7 +3,7 @@ ghost use Rattle.std.specs.Prelude.{◌≡◌, ◌+◌, Ok, slice_get, IfOk};
 ghost use Rattle.tsa_control.specs.Controls.{IsGraphIn};
 ghost use Rattle.tsa_core.specs.Control.{body_edges, count_all};
 ghost use Rattle.tsa_core.specs.Programs.{program_of};
-ghost use Rattle.tsa_core.specs.Units.{placed_in};
+ghost use Rattle.tsa_place.specs.Units.{placed_in};
 ghost use Rattle.tsa_graph.specs.Graphs.{IsGraph};
 ghost use Rattle.tsa_tree.specs.statements.Shapes.{stmt_shapes};
 ghost use Rattle.tsa_tree.specs.units.Shapes.{item_shapes};
@@ -11,7 +11,9 @@ ghost use Rattle.tsa_tree.specs.units.Shapes.{item_shapes};
 use std::alloc::Global;
 use tsa_base::NoMemory;
 use tsa_graph::{Graph, graph_of_body};
-use tsa_site::{Inside, Knowledge, Places, Typed, site_in};
+use tsa_site::{Inside, Knowledge, site_in};
+use tsa_place::Places;
+use tsa_types::Typed;
 
 /// The control of a body that is entered, as a graph with longest blocks.
 pub fn control_of<'a>(known: &Knowledge<'a>, inside: &Inside<'a>) -> Result<Graph, NoMemory>

@@ -4,7 +4,3 @@
 mod control;
 
 pub use control::{control_of, graph_of};
-pub use tsa_graph::Graph;
-pub use tsa_site::{
-    BodySite, Fit, Inside, Knowledge, NamedLock, NamedLocks, Places, Typed, site_in,
-};

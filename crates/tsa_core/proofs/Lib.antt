@@ -46,8 +46,3 @@ pub mod PointLoads
 pub mod JustLoads
 pub mod UsesOfCells
 pub mod IntRange
-pub use Rattle.tsa_lead.proofs.Asking
-pub use Rattle.tsa_lead.proofs.Laid
-pub use Rattle.tsa_lead.proofs.Pieces
-pub use Rattle.tsa_lead.proofs.Rows
-pub use Rattle.tsa_lead.proofs.Standing

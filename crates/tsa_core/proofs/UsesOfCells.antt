@@ -3,7 +3,7 @@ use Rattle.std.proofs.Common.{◌≡◌, ℕ, Bool, true, false, List, [], ◌�
 use Rattle.tsa_tree.specs.declarations.Syntax.{Initialiser, value, list}
 use Rattle.tsa_tree.specs.points.Syntax.{Deed, declares, evaluates, assigns, tests, switches, jumps, idles, returns, ends}
 use Rattle.tsa_tree.specs.types.Scopes.{Scope}
-use Rattle.tsa_lead.specs.Calls.{Layout}
+use Rattle.tsa_layout.specs.Calls.{Layout}
 use Rattle.tsa_core.proofs.BodyScopes.{BeginsIn, unit_begins}
 use Rattle.tsa_core.proofs.FactsKnown.{FactsAt, each_both, all_facts}
 use Rattle.tsa_core.proofs.JustLoads.{deed_loads_just}

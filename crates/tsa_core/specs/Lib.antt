@@ -13,15 +13,3 @@ pub mod KindLaws
 pub mod CaseLaws
 pub mod PointLoads
 pub mod Examples
-pub use Rattle.tsa_lead.specs.FillUnits
-pub use Rattle.tsa_lead.specs.Items
-pub use Rattle.tsa_lead.specs.Leading
-pub use Rattle.tsa_lead.specs.Units
-pub use Rattle.tsa_lead.specs.Spot
-pub use Rattle.tsa_lead.specs.Calls
-pub use Rattle.tsa_lead.specs.Stores
-pub use Rattle.tsa_lead.specs.Placed
-pub use Rattle.tsa_lead.specs.Layouts
-pub use Rattle.tsa_lead.specs.Holder
-pub use Rattle.tsa_lead.specs.Places
-pub use Rattle.tsa_lead.specs.Standing

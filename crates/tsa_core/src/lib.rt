@@ -11,4 +11,3 @@ pub use laws::{
     programs_are_as_written, programs_are_well_kinded, scopes_belong, terms_have_their_kinds,
     terms_have_their_types, uses_are_as_written, uses_stand_beside_points,
 };
-pub use tsa_lead::{Holder, Layout, declared_thing};

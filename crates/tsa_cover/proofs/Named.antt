@@ -7,7 +7,7 @@ use Rattle.tsa_core.specs.Bodies.{Body, Point}
 use Rattle.tsa_core.specs.Meanings.{Call}
 use Rattle.tsa_core.specs.Programs.{Attr, Function, Program}
 use Rattle.tsa_core.specs.Uses.{Access, Uses}
-use Rattle.tsa_judge.specs.Ways.{present}
+use Rattle.tsa_deed.specs.Ways.{present}
 use Rattle.tsa_path.specs.Sameness.{same_way}
 use Rattle.tsa_path.specs.Substitution.{substituted}
 use Rattle.tsa_path.proofs.Same.{way_equal}

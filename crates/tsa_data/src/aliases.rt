@@ -10,7 +10,8 @@ ghost use Rattle.tsa_tree.specs.types.Units.{item_premises, behind_item};
 ghost use Rattle.tsa_tree.specs.units.Syntax.{alias_item};
 
 use crate::declared::judge_type;
-use tsa_resolve::{Scope, Symbols, TypeRefusal, View, judged};
+use tsa_scope::{Scope, Symbols};
+use tsa_resolve::{TypeRefusal, View, judged};
 use tsa_tree::item::AliasDef;
 use tsa_tree::kind::{Declaring, ThingType};
 use tsa_tree::meaning::{Entry, Meaning};

@@ -8,7 +8,8 @@ ghost use Rattle.tsa_tree.specs.types.Scopes.{context_of};
 ghost use Rattle.tsa_tree.specs.types.Symbols.{names_in_given};
 
 use tsa_base::{NoMemory, Span};
-use tsa_resolve::{Symbols, View, Written, first_of, typed_failure};
+use tsa_scope::Symbols;
+use tsa_resolve::{View, Written, first_of, typed_failure};
 use tsa_tree::decl::CType;
 use tsa_tree::kind::Declaring;
 use tsa_tree::premise::Failure;

@@ -11,7 +11,9 @@ ghost use Rattle.tsa_data.specs.Enumerators.{worth_by, own_premises};
 
 use crate::aliases::a_type_name;
 use tsa_base::{NoMemory, Span};
-use tsa_resolve::{Found, Scope, Symbols, TypeRefusal, View, at, refused, single};
+use tsa_resolve::{Found, TypeRefusal, View, at, refused};
+use tsa_scope::{Scope, Symbols};
+use tsa_operand::single;
 use tsa_tree::expr::Name;
 use tsa_tree::item::{EnumDef, Enumerator};
 use tsa_tree::kind::Kind;

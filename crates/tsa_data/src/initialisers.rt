@@ -10,7 +10,9 @@ ghost use Rattle.tsa_data.specs.Cells.{is_fixed_pointer as spec_fixed_pointer, i
 
 use crate::parts::{part_at, parts_count};
 use tsa_base::{NoMemory, Span};
-use tsa_resolve::{Constant, Found, Scope, Symbols, View, at, first_of, goes_to, is_integer_kind};
+use tsa_resolve::{Constant, Found, View, at, first_of};
+use tsa_scope::{Scope, Symbols};
+use tsa_operand::{goes_to, is_integer_kind};
 use tsa_tree::decl::Init;
 use tsa_tree::kind::{Kind, ThingType};
 use tsa_tree::premise::{Failure, TypeCode};

@@ -15,4 +15,3 @@ pub use enumerators::{count_on, declare_enum, enumerator_entry, int_value};
 pub use globals::declare_global;
 pub use initialisers::initialiser;
 pub use structs::declare_struct;
-pub use tsa_resolve::{Scope, outset, single};

@@ -2,7 +2,8 @@
 ghost use Rattle.std.specs.Prelude.{◌≡◌, option_map, slice_get, length};
 ghost use Rattle.tsa_tree.specs.types.Initialisers.{elements, parts_of_kind, parts_of_thing, parts_of, or_no_parts};
 
-use tsa_resolve::{Scope, single};
+use tsa_scope::Scope;
+use tsa_operand::single;
 use tsa_tree::kind::{Kind, ThingType};
 
 /// How many members a kind has that is a struct.

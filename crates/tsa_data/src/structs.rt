@@ -13,9 +13,9 @@ ghost use Rattle.tsa_tree.specs.types.Symbols.{names_in_attributes, names_in_mem
 use crate::aliases::a_type_name;
 use crate::declared::judge_type;
 use tsa_base::NoMemory;
-use tsa_resolve::{
-    Names, Scope, Symbols, TypeRefusal, View, at, first_of, judged, refused, single,
-};
+use tsa_scope::{Names, Scope, Symbols};
+use tsa_resolve::{TypeRefusal, View, at, first_of, judged, refused};
+use tsa_operand::single;
 use tsa_tree::attr::Attr;
 use tsa_tree::decl::Decl;
 use tsa_tree::expr::Name;

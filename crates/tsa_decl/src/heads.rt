@@ -17,9 +17,7 @@ use bumpalo::Bump;
 use tsa_attr::read_groups;
 use tsa_base::Span;
 use tsa_expr::{Reader, SyntaxCode, SyntaxRefusal, refuse};
-use tsa_local::{
-    Declarator, Specified, Star, ctype, declarator_at, keep, listed, open, specifier, star_at,
-};
+use tsa_local::{Declarator, Specified, Star, ctype, declarator_at, keep, listed, open, specifier, star_at};
 use tsa_tree::attr::Attr;
 use tsa_tree::decl::CType;
 use tsa_tree::expr::Name;

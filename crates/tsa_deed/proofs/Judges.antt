@@ -10,7 +10,7 @@ use Rattle.tsa_steps.specs.declared.steps.Step.{Step}
 use Rattle.tsa_points.specs.Walks.{Walk, pass, points_along, points_at, walk_behind}
 use Rattle.tsa_seen.specs.declared.premise.Failure.{Failure}
 use Rattle.tsa_seen.specs.Premises.{first, or_else}
-use Rattle.tsa_ask.proofs.Failures.{first_append, or_else_none, or_else_or_else}
+use Rattle.tsa_use.proofs.Failures.{first_append, or_else_none, or_else_or_else}
 use Rattle.tsa_deed.specs.Bodies.{Around, is_try_variable, point_premises, points_premises}
 use Rattle.tsa_deed.specs.declared.judge.Found.{Found}
 use Rattle.tsa_deed.specs.Gathering.{with_ways}

@@ -7,11 +7,11 @@ use Rattle.tsa_tree.specs.points.Syntax.{Deed}
 use Rattle.tsa_tree.specs.types.Scopes.{Scope}
 use Rattle.tsa_way.specs.Ways.{Way}
 use Rattle.tsa_core.specs.Programs.{Attr}
-use Rattle.tsa_seen.specs.InternRefusal.TheVariants.{Full, NoMemory}
-use Rattle.tsa_seen.specs.PathTables.{is_full, refusal, with_path}
+use Rattle.tsa_path.specs.declared.refusal.InternRefusal.TheVariants.{Full, NoMemory}
+use Rattle.tsa_path.specs.PathTables.{is_full, refusal, with_path}
 use Rattle.tsa_points.specs.Points.{placed}
 use Rattle.tsa_seen.specs.Accesses.{Access}
-use Rattle.tsa_ask.specs.Arguments.{arguments_of}
+use Rattle.tsa_node.specs.Arguments.{arguments_of}
 use Rattle.tsa_deed.specs.Bodies.{Around}
 use Rattle.tsa_deed.specs.Gathering.{calls_ways, with_all, with_guards, with_way, with_ways}
 use Rattle.tsa_deed.specs.Told.{deed_accesses}

@@ -7,4 +7,3 @@ pub mod CoreCalls
 pub mod NodeCalls
 pub mod Firsts
 pub mod Keeps
-pub use Rattle.tsa_ask.proofs.Spans

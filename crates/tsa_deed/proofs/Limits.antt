@@ -3,8 +3,8 @@ use Rattle.std.proofs.Common.{◌≡◌, ◌∙◌, ◌+◌, ◌≤◌, arith, n
 use Rattle.std.proofs.lemmas.Bool.Decides.{nat_tests}
 use Rattle.std.proofs.lemmas.List.{length-append}
 use Rattle.tsa_way.specs.Ways.{Way}
-use Rattle.tsa_seen.specs.PathTables.{path_limit, is_full, is_known, with_path}
-use Rattle.tsa_seen.proofs.Numbers.{table_stays_within}
+use Rattle.tsa_path.specs.PathTables.{path_limit, is_full, is_known, with_path}
+use Rattle.tsa_path.proofs.Numbers.{table_stays_within}
 use Rattle.tsa_deed.specs.Gathering.{with_ways}
 use Rattle.tsa_deed.specs.Ways.{each_once, unless_many}
 

@@ -11,8 +11,8 @@ use Rattle.tsa_way.specs.Ways.{Way}
 use Rattle.tsa_core.specs.Uses.{init_uses, uses_by}
 use Rattle.tsa_core.specs.Uses as core
 use Rattle.tsa_points.specs.Points.{placed}
-use Rattle.tsa_ask.specs.Accesses.{reads, without_span, written}
-use Rattle.tsa_ask.proofs.Spans.{reads_are_those, writes_are_those}
+use Rattle.tsa_use.specs.Accesses.{reads, without_span, written}
+use Rattle.tsa_use.proofs.Spans.{reads_are_those, writes_are_those}
 use Rattle.tsa_deed.specs.Bodies.{Around}
 use Rattle.tsa_deed.specs.Gathering.{calls_ways, with_all, with_guards, with_ways}
 use Rattle.tsa_deed.specs.Told.{deed_accesses, init_accesses}

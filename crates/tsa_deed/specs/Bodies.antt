@@ -16,7 +16,7 @@ use Rattle.tsa_seen.specs.declared.premise.ProfileCode.TheVariants.{PF4, PF7}
 use Rattle.tsa_seen.specs.Premises.{Premise, premise}
 use Rattle.tsa_seen.specs.declared.standing.Standing.{Standing}
 use Rattle.tsa_seen.specs.declared.standing.Standing.TheVariants.{Whole, Begins, Test, Inside}
-use Rattle.tsa_ask.specs.Expressions.{View, constant, is_truth, is_try_call, expression}
+use Rattle.tsa_node.specs.Expressions.{View, constant, is_truth, is_try_call, expression}
 use Rattle.tsa_ask.specs.Declarations.{init_premises, is_int}
 
 -- the layout of the unit, the attributes of the functions that are declared up to there, whether the function of the body tries, and which locals never

@@ -3,9 +3,9 @@ use Rattle.std.specs.Prelude.{List, [], ◌∷◌, Option, Some, None, if◌then
 use Rattle.tsa_tree.specs.expressions.Syntax.{Expression}
 use Rattle.tsa_tree.specs.types.Scopes.{Scope}
 use Rattle.tsa_way.specs.Ways.{Way}
-use Rattle.tsa_seen.specs.PathTables.{is_full, with_path}
+use Rattle.tsa_path.specs.PathTables.{is_full, with_path}
 use Rattle.tsa_seen.specs.Accesses.{Access}
-use Rattle.tsa_ask.specs.Arguments.{arguments_of}
+use Rattle.tsa_node.specs.Arguments.{arguments_of}
 use Rattle.tsa_deed.specs.Bodies.{Around}
 use Rattle.tsa_deed.specs.Ways.{called_ways, function_called}
 

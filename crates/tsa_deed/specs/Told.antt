@@ -7,7 +7,7 @@ use Rattle.tsa_tree.specs.points.Syntax.{Deed, declares, evaluates, assigns, tes
 use Rattle.tsa_tree.specs.types.Scopes.{Scope}
 use Rattle.tsa_way.specs.LockPaths.{stable_in}
 use Rattle.tsa_seen.specs.Accesses.{Access}
-use Rattle.tsa_ask.specs.Accesses.{reads, written}
+use Rattle.tsa_use.specs.Accesses.{reads, written}
 use Rattle.tsa_deed.specs.Bodies.{Around}
 use Rattle.tsa_deed.specs.declared.points.Around.{Around as Given}
 

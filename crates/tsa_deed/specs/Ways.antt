@@ -12,11 +12,11 @@ use Rattle.tsa_core.specs.Bodies.{Known}
 use Rattle.tsa_core.specs.Meanings.{call_in}
 use Rattle.tsa_core.specs.Programs.{Attr}
 use Rattle.tsa_core.specs.Uses.{Uses, uses_of}
-use Rattle.tsa_seen.specs.PathTables.{path_limit, with_path}
-use Rattle.tsa_seen.specs.Substitution.{substituted}
+use Rattle.tsa_path.specs.PathTables.{path_limit, with_path}
+use Rattle.tsa_path.specs.Substitution.{substituted}
 use Rattle.tsa_points.specs.CoreLaws.{known_of}
 use Rattle.tsa_points.specs.Points.{PlacedPoint}
-use Rattle.tsa_ask.specs.Expressions.{attributes_at}
+use Rattle.tsa_node.specs.Expressions.{attributes_at}
 use Rattle.tsa_deed.specs.Bodies.{Around}
 
 abbrev pub present : {A : Type 0} → List (Option A) → List A

@@ -18,9 +18,11 @@ use crate::points::{Around, Spot, calling};
 use crate::premises::earlier;
 use std::alloc::Global;
 use tsa_base::NoMemory;
-use tsa_points::{Step, Walk};
+use tsa_steps::Step;
+use tsa_points::Walk;
 use tsa_scope::Scope;
-use tsa_seen::{Failure, NamedLock, PathTable};
+use tsa_seen::{Failure, NamedLock};
+use tsa_path::PathTable;
 use tsa_tree::expr::Expr;
 use tsa_tree::stmt::{Action, Point};
 

@@ -12,7 +12,3 @@ pub use calls::function_called;
 pub use judge::{Judged, attribute_paths};
 pub use laws::calls_are_of_the_core;
 pub use points::{Around, Spot, calling};
-pub use tsa_ask::{
-    Body, Heading, attributes_failure, given_failure, guards_failure, named_locks, reads, writes,
-};
-pub use tsa_seen::PathTable;

@@ -2,13 +2,14 @@
 ghost use Rattle.std.specs.Prelude.{◌≡◌, [], Some, option_and_then, IfOk, OnOk};
 ghost use Rattle.tsa_deed.specs.Gathering.{with_all, with_guards, with_one, with_way};
 ghost use Rattle.tsa_deed.specs.Ways.{named_ways, substituted_ways};
-ghost use Rattle.tsa_seen.specs.Substitution.{substituted};
+ghost use Rattle.tsa_path.specs.Substitution.{substituted};
 
 use std::alloc::Global;
 use std::marker::Model;
 use std::mem::replace;
 use tsa_base::NoMemory;
-use tsa_seen::{Access, Footprint, InternRefusal, NamedLock, PathTable, substitute};
+use tsa_seen::{Access, Footprint, NamedLock};
+use tsa_path::{InternRefusal, PathTable, substitute};
 use tsa_way::Path;
 
 /// Paths, each once, whether there was no room for one, and room for what a point reads and writes. Contracts see the list of the paths, or none where

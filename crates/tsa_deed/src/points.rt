@@ -9,11 +9,13 @@ ghost use Rattle.tsa_tree.specs.expressions.Shapes.{shape};
 ghost use Rattle.tsa_tree.specs.points.Syntax.{declares, returns};
 ghost use Rattle.tsa_tree.specs.statements.Shapes.{action_shape};
 ghost use Rattle.tsa_seen.specs.declared.standing.Standing.TheVariants.{Inside};
-ghost use Rattle.tsa_ask.specs.Expressions.{expression};
+ghost use Rattle.tsa_node.specs.Expressions.{expression};
 ghost use Rattle.tsa_seen.specs.Premises.{first};
 
 use crate::premises::{earlier, failure_if};
-use tsa_ask::{Body, init_failure, is_small, is_truth, reads, writes};
+use tsa_node::{Body, is_truth};
+use tsa_ask::{init_failure, is_small};
+use tsa_use::{reads, writes};
 use tsa_base::{NoMemory, Span};
 use tsa_layout::{Layout, declared_thing};
 use tsa_scope::Scope;

@@ -7,7 +7,7 @@ use Rattle.tsa_core.specs.Programs.{Function, Program}
 use Rattle.tsa_rules.specs.declared.rule.Rule.TheVariants.{TS09, TS10}
 use Rattle.tsa_rules.specs.Points.{points_of}
 use Rattle.tsa_rules.specs.Walks.{course_of}
-use Rattle.tsa_flow.specs.Disagreeing.{Disagree}
+use Rattle.tsa_reach.specs.Disagreeing.{Disagree}
 use Rattle.tsa_failures.specs.declared.failure.RuleFailure.{RuleFailure}
 use Rattle.tsa_failures.specs.declared.spot.Spot.{Spot}
 use Rattle.tsa_failures.specs.Adding.{Adds}

@@ -14,9 +14,9 @@ use Rattle.tsa_rules.specs.Marks.{no_mark}
 use Rattle.tsa_rules.specs.Points.{points_of}
 use Rattle.tsa_rules.specs.Walks.{Fails, on_a_walk, where_edges_meet}
 use Rattle.tsa_rules.proofs.Tests.{left_part, right_part}
-use Rattle.tsa_flow.specs.Rows.{is_place, Rows}
-use Rattle.tsa_flow.specs.RuleView.{RuleView}
-use Rattle.tsa_flow.specs.Views.{case_in, IsViewOf}
+use Rattle.tsa_marks.specs.Rows.{is_place, Rows}
+use Rattle.tsa_view.specs.declared.content.RuleView.{RuleView}
+use Rattle.tsa_view.specs.Views.{case_in, IsViewOf}
 use Rattle.tsa_failures.specs.declared.failure.RuleFailure.{RuleFailure}
 use Rattle.tsa_failures.specs.declared.spot.TheConstants.{MARK_RULES}
 use Rattle.tsa_failures.specs.Adding.{Adds}

@@ -3,4 +3,3 @@ pub mod Failures
 pub mod Spots
 pub mod Passes
 pub mod Laws
-pub use Rattle.tsa_flow.specs.Flows

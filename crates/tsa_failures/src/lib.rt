@@ -12,4 +12,3 @@ mod spot;
 pub use failure::RuleFailure;
 pub use failures::failures_of;
 pub use laws::rules_fail_at_points_of_bodies;
-pub use tsa_flow::FunctionFlow;

@@ -9,7 +9,8 @@ ghost use Rattle.tsa_way.specs.Ways.{Way};
 use crate::failure::RuleFailure;
 use crate::spot::spot_of;
 use tsa_base::NoMemory;
-use tsa_flow::{Entry, FunctionFlow};
+use tsa_marks::Entry;
+use tsa_flow::FunctionFlow;
 
 /// Notes what fails of the rules that are asked of marks at the point of a mark and for its path, where they are of the function.
 fn note_mark(

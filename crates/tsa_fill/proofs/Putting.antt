@@ -13,13 +13,13 @@ use Rattle.tsa_fill.specs.declared.filling.Left.{Left}
 use Rattle.tsa_fill.specs.declared.filling.Left.TheVariants as left
 use Rattle.tsa_fill.specs.declared.filling.Rows.{Rows}
 use Rattle.tsa_fill.specs.declared.known.Known.{Known}
-use Rattle.tsa_item.specs.Layouts.{Part, Structures, structure_at, kind_size, thing_size, size_of, members_size}
-use Rattle.tsa_item.specs.Places.{Given, Values, a_place, element_of, member_of, kind_places, elements_places, members_places, thing_places, places_inside}
-use Rattle.tsa_item.specs.Placed.{Placed}
-use Rattle.tsa_item.specs.Standing.{IsWithin, AllBelow, IsOrdered}
+use Rattle.tsa_layout.specs.Layouts.{Part, Structures, structure_at, kind_size, thing_size, size_of, members_size}
+use Rattle.tsa_layout.specs.Places.{Given, Values, a_place, element_of, member_of, kind_places, elements_places, members_places, thing_places, places_inside}
+use Rattle.tsa_layout.specs.declared.place.Placed.{Placed}
+use Rattle.tsa_layout.specs.Standing.{IsWithin, AllBelow, IsOrdered}
 use Rattle.tsa_fill.specs.Filling.{given, size_left, one_left, all_left, AreLeft, Leaves, values_by, with_one, with_left, with_thing, IsReady, Puts}
-use Rattle.tsa_item.proofs.Sizes.{inside_sized, members_sized}
-use Rattle.tsa_item.proofs.Standing.{members_below, object_is}
+use Rattle.tsa_layout.proofs.Sizes.{inside_sized, members_sized}
+use Rattle.tsa_layout.proofs.Standing.{members_below, object_is}
 
 -- a member of some that are defined
 part_within : (n : ℕ) (ms : List Part) (k : ℕ) (m : Part) → AllBelow n ms → slice_get ms k ≡ Some m → IsWithin n m.thing

@@ -4,8 +4,8 @@ use Rattle.std.proofs.lemmas.List.{length-append}
 use Rattle.tsa_fill.specs.declared.filling.Left.{Left}
 use Rattle.tsa_fill.specs.declared.filling.Rows.{Rows}
 use Rattle.tsa_fill.specs.declared.known.Known.{Known}
-use Rattle.tsa_item.specs.Layouts.{Structures}
-use Rattle.tsa_item.specs.Placed.{Placed}
+use Rattle.tsa_layout.specs.Layouts.{Structures}
+use Rattle.tsa_layout.specs.declared.place.Placed.{Placed}
 use Rattle.tsa_fill.specs.Units.{values_in}
 use Rattle.tsa_fill.specs.Filling.{all_left, values_by, with_left, Puts}
 use Rattle.tsa_fill.proofs.Leaving.{behind}

@@ -4,9 +4,9 @@ use Rattle.tsa_tree.specs.declarations.Syntax.{Initialiser}
 use Rattle.tsa_tree.specs.types.Scopes.{Scope}
 use Rattle.tsa_fill.specs.declared.refusal.PlaceRefusal.{PlaceRefusal}
 use Rattle.tsa_fill.specs.declared.refusal.PlaceRefusal.TheVariants.{TooMany, NoMemory}
-use Rattle.tsa_item.specs.Layouts.{Part}
-use Rattle.tsa_item.specs.Placed.{Placed}
-use Rattle.tsa_item.specs.Calls.{Layout}
+use Rattle.tsa_layout.specs.Layouts.{Part}
+use Rattle.tsa_layout.specs.declared.place.Placed.{Placed}
+use Rattle.tsa_layout.specs.Calls.{Layout}
 use Rattle.tsa_fill.specs.Units.{passes, with_part}
 
 -- more places behind others

@@ -2,10 +2,10 @@
 ghost use Rattle.std.specs.Prelude.{◌≡◌, ◌+◌, ◌≤◌, ◌<◌, length, Some, slice_get, option_map, IfOk, OnOk};
 ghost use Rattle.tsa_fill.specs.Answers.{Adds, with_kept, with_places};
 ghost use Rattle.tsa_fill.specs.Filling.{given};
-ghost use Rattle.tsa_item.specs.Layouts.{size_of, thing_size};
-ghost use Rattle.tsa_item.specs.Places.{places_of};
-ghost use Rattle.tsa_item.specs.Standing.{IsOrdered, IsWithin};
-ghost use Rattle.tsa_item.specs.Parts.{structure_in, behind_structure, place_limit};
+ghost use Rattle.tsa_layout.specs.Layouts.{size_of, thing_size};
+ghost use Rattle.tsa_layout.specs.Places.{places_of};
+ghost use Rattle.tsa_layout.specs.Standing.{IsOrdered, IsWithin};
+ghost use Rattle.tsa_layout.specs.Parts.{structure_in, behind_structure, place_limit};
 ghost use Rattle.tsa_fill.specs.Units.{no_places, given_by, values_in, with_structure};
 ghost use Rattle.tsa_tree.specs.declarations.Shapes.{decl_shapes, init_shape};
 ghost use Rattle.tsa_tree.specs.expressions.Shapes.{name_shape};
@@ -16,7 +16,8 @@ use crate::refusal::PlaceRefusal;
 use std::alloc::Global;
 use std::marker::Model;
 use tsa_base::NoMemory;
-use tsa_item::{Holder, Layout, Part, Placed, Scope, Structures, define_struct};
+use tsa_layout::{Holder, Layout, Part, Placed, Structures, define_struct};
+use tsa_scope::Scope;
 use tsa_tree::decl::Init;
 use tsa_tree::item::StructDef;
 use tsa_tree::kind::ThingType;
@@ -44,8 +45,8 @@ impl Drop for Globals {
 
 impl Model for Globals {
     ghost use Rattle.std.specs.Prelude.{◌≤◌, length};
-    ghost use Rattle.tsa_item.specs.Calls.{Layout};
-    ghost use Rattle.tsa_item.specs.Parts.{place_limit};
+    ghost use Rattle.tsa_layout.specs.Calls.{Layout};
+    ghost use Rattle.tsa_layout.specs.Parts.{place_limit};
 
     ghost Value = { Layout };
 

@@ -1,14 +1,17 @@
 //! What is known where the places of a global are put, with what its cells hold at the start (C11 6.7.9).
 ghost use Rattle.std.specs.Prelude.{◌≡◌, ◌≤◌, length, option_map, IfOk};
-ghost use Rattle.tsa_item.specs.Calls.{evaluated, no_locals};
+ghost use Rattle.tsa_layout.specs.Calls.{evaluated, no_locals};
 ghost use Rattle.tsa_fill.specs.Filling.{before, values_by};
-ghost use Rattle.tsa_item.specs.Parts.{place_limit};
+ghost use Rattle.tsa_layout.specs.Parts.{place_limit};
 ghost use Rattle.tsa_fill.specs.Units.{address_in, cell_value};
 ghost use Rattle.tsa_tree.specs.declarations.Shapes.{init_shape};
 ghost use Rattle.tsa_tree.specs.expressions.Shapes.{shape};
 
 use tsa_base::{NoMemory, Value};
-use tsa_item::{Layout, Part, Placed, Scope, Sight, Structures, or_zero, zero_of};
+use tsa_layout::{Layout, Part, Placed, Structures};
+use tsa_scope::Scope;
+use tsa_way::Sight;
+use tsa_item::{or_zero, zero_of};
 use tsa_tree::decl::Init;
 use tsa_tree::expr::Expr;
 use tsa_tree::kind::Kind;

@@ -8,7 +8,3 @@ mod refusal;
 
 pub use globals::Globals;
 pub use refusal::PlaceRefusal;
-pub use tsa_item::{
-    Guard, Holder, Layout, Path, PlaceKind, Placed, Scope, declared_thing, know_alias, know_enum,
-    know_global, outset,
-};

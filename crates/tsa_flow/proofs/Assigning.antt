@@ -9,8 +9,8 @@ use Rattle.tsa_rules.specs.declared.status.Status.{Status}
 use Rattle.tsa_stops.proofs.Claimed.{all_claims, never_claimed, never_tried}
 use Rattle.tsa_stops.specs.Claims.{noted}
 use Rattle.tsa_stops.specs.Lanes.{AreLanesAt}
-use Rattle.tsa_view.specs.Roles.{begin_in}
-use Rattle.tsa_view.specs.Rows.{rows_in}
+use Rattle.tsa_roles.specs.Roles.{begin_in}
+use Rattle.tsa_marks.specs.Rows.{rows_in}
 use Rattle.tsa_view.specs.declared.content.RuleView.{RuleView}
 use Rattle.tsa_view.specs.Views.{case_in, kept_from, lock_in}
 use Rattle.tsa_flow.specs.declared.table.Idle.{Idle}

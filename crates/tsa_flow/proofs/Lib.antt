@@ -4,5 +4,3 @@ pub mod Flowing
 pub mod Assigning
 pub mod Numbered
 pub mod Beginning
-pub use Rattle.tsa_view.proofs.Controlled
-pub use Rattle.tsa_view.proofs.NewView

@@ -4,11 +4,11 @@ use Rattle.tsa_way.specs.Ways.{Way}
 use Rattle.tsa_core.specs.Programs.{Function, Program}
 use Rattle.tsa_blocks.specs.Between.{AreBetween}
 use Rattle.tsa_rules.specs.Points.{edges_of, points_of}
-use Rattle.tsa_view.specs.Paths.{paths_if}
+use Rattle.tsa_profile.specs.Paths.{paths_if}
 use Rattle.tsa_view.proofs.NewView.{has_body}
-use Rattle.tsa_view.specs.Controls.{IsControlOf, IsGraphIn}
+use Rattle.tsa_control.specs.Controls.{IsControlOf, IsGraphIn}
 use Rattle.tsa_view.specs.declared.Graph.{Graph}
-use Rattle.tsa_view.specs.Graphs.{IsGraph}
+use Rattle.tsa_graph.specs.Graphs.{IsGraph}
 use Rattle.tsa_view.specs.declared.content.RuleView.{RuleView}
 use Rattle.tsa_view.specs.Views.{IsViewBy, IsViewIn, IsViewOf}
 use Rattle.tsa_flow.specs.declared.function.FunctionFlow.{FunctionFlow}

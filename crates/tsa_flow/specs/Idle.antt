@@ -1,6 +1,6 @@
 -- Paths that nothing claims or tries.
 use Rattle.std.specs.Prelude.{◌≡◌, ◌++◌, ◌∷◌, ℕ, [], List, None}
-use Rattle.tsa_view.specs.Roles.{role_in}
+use Rattle.tsa_roles.specs.Roles.{role_in}
 use Rattle.tsa_rules.specs.declared.case.Case.{Case}
 use Rattle.tsa_view.specs.declared.content.RuleView.{RuleView}
 use Rattle.tsa_flow.specs.declared.table.Idle.{Idle}

@@ -4,7 +4,7 @@ use Rattle.std.specs.List.{list_any}
 use Rattle.tsa_reach.specs.Rows.{AreRising}
 use Rattle.tsa_rules.specs.Cases.{entry_in}
 use Rattle.tsa_rules.specs.declared.status.Status.{Status}
-use Rattle.tsa_view.specs.Rows.{rows_in}
+use Rattle.tsa_marks.specs.Rows.{rows_in}
 use Rattle.tsa_view.specs.Views.{case_in, lock_in}
 use Rattle.tsa_view.specs.declared.content.RuleView.{RuleView}
 use Rattle.tsa_flow.specs.declared.table.LaneTable.{LaneTable}

@@ -2,10 +2,3 @@ pub mod Idle
 pub mod Lanes
 pub mod Flows
 pub mod Numbers
-pub use Rattle.tsa_view.specs.Rows
-pub use Rattle.tsa_reach.specs.Disagreeing
-pub use Rattle.tsa_view.specs.declared.content.RuleView
-pub use Rattle.tsa_view.specs.Views
-pub use Rattle.tsa_view.specs.Controls
-pub use Rattle.tsa_view.specs.Made
-pub use Rattle.tsa_view.specs.Paths

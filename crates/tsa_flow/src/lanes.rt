@@ -33,7 +33,7 @@ impl<'v, 'a> ViewLanes<'v, 'a> {
 impl<'v, 'a> Lanes for ViewLanes<'v, 'a> {
     ghost use Rattle.std.specs.Prelude.{length, slice_index_or};
     ghost use Rattle.tsa_rules.specs.Cases.{entry_in};
-    ghost use Rattle.tsa_view.specs.Rows.{rows_in};
+    ghost use Rattle.tsa_marks.specs.Rows.{rows_in};
     ghost use Rattle.tsa_view.specs.Views.{case_in, lock_in};
 
     ghost count = { λ lanes. length lanes.caps.now };

@@ -12,7 +12,3 @@ mod working;
 
 pub use function::FunctionFlow;
 pub use number::flow_of;
-pub use tsa_view::{
-    Entry, Facts, Graph, RuleView, Unit, control_of, effect, entry_status, exit_status, fails,
-    graph_of,
-};

@@ -2,14 +2,17 @@
 ghost use Rattle.std.specs.Prelude.{◌≡◌, Ok, slice_get, IfOk};
 ghost use Rattle.tsa_core.specs.Programs.{program_of};
 ghost use Rattle.tsa_flow.specs.Numbers.{IsFlowIn};
-ghost use Rattle.tsa_core.specs.Units.{placed_in};
+ghost use Rattle.tsa_place.specs.Units.{placed_in};
 ghost use Rattle.tsa_tree.specs.units.Shapes.{item_shapes};
 
 use crate::function::FunctionFlow;
 use std::alloc::Global;
 use tsa_base::NoMemory;
 use tsa_blocks::blocks_of;
-use tsa_view::{Fit, Places, RuleView, graph_of};
+use tsa_profile::Fit;
+use tsa_place::Places;
+use tsa_view::RuleView;
+use tsa_control::graph_of;
 
 /// What walks bring to the points of a function of a unit in the profile by its number. None exactly where it has no table of paths there, as without a
 /// body. The places are those of the unit.

@@ -4,7 +4,7 @@ ghost use Rattle.tsa_blocks.specs.Rows.{AreBlocksOf};
 ghost use Rattle.tsa_core.specs.Control.{Edge};
 ghost use Rattle.tsa_flow.specs.Flows.{ArePathFlows};
 ghost use Rattle.tsa_flow.specs.Lanes.{AreClaimed};
-ghost use Rattle.tsa_view.specs.Rows.{rows_in};
+ghost use Rattle.tsa_marks.specs.Rows.{rows_in};
 
 use crate::lanes::ViewLanes;
 use crate::paths::PathFlows;

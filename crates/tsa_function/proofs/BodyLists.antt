@@ -17,9 +17,9 @@ use Rattle.tsa_tree.specs.types.Statements.{statements_premises}
 use Rattle.tsa_tree.specs.types.Units.{outset, around_body, body_premises, item_premises, behind_item, items_premises}
 use Rattle.tsa_tree.specs.units.Shapes.{shape_with, function_shape, item_shape, item_shapes}
 use Rattle.tsa_tree.specs.units.Syntax.{UnitItem, structure_item, alias_item, enumeration_item, global_item, function_item, body_item}
-use Rattle.tsa_points.specs.Programs.{Bodied, or_body, bodied_by, bodied_function, body_in, stable_locals}
-use Rattle.tsa_points.proofs.NoFailure.{none_of_both}
-use Rattle.tsa_points.proofs.UnitScopes.{or_other, found_append, or_none}
+use Rattle.tsa_core.specs.Programs.{Bodied, or_body, bodied_by, bodied_function, body_in, stable_locals}
+use Rattle.tsa_core.proofs.NoFailure.{none_of_both}
+use Rattle.tsa_core.proofs.UnitScopes.{or_other, found_append, or_none}
 use Rattle.tsa_function.specs.Bodies.{Table, unless_known, with_first, stable_or, stable_of, with_body, with_item, bodies_behind, bodies_of}
 use Rattle.tsa_base.proofs.Truths.{never}
 

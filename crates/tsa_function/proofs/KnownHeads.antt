@@ -21,8 +21,8 @@ use Rattle.tsa_tree.specs.types.Premises.{first}
 use Rattle.tsa_tree.specs.types.Scopes.{Scope, FunctionEntry, found, with_names, with_named, with_locals, is_named_taken}
 use Rattle.tsa_tree.specs.types.Units.{behind_item}
 use Rattle.tsa_tree.specs.units.Shapes.{shape_with, function_shape}
-use Rattle.tsa_points.proofs.NoFailure.{none_of_both}
-use Rattle.tsa_points.proofs.UnitScopes.{declared_told}
+use Rattle.tsa_core.proofs.NoFailure.{none_of_both}
+use Rattle.tsa_core.proofs.UnitScopes.{declared_told}
 use Rattle.tsa_function.specs.declared.heads.Outside.{Outside}
 use Rattle.tsa_function.specs.Functions.{outside_of, IsInside}
 

@@ -26,9 +26,9 @@ use Rattle.tsa_tree.specs.types.Types.{single}
 use Rattle.tsa_layout.specs.Parts.{member_behind, members_after, unless, unless_taken, unless_named}
 use Rattle.tsa_layout.specs.Parts as laid
 use Rattle.tsa_item.specs.Items.{worth_written, worth, enumerators_behind, behind_enumeration, known_global}
-use Rattle.tsa_points.proofs.KindTests.{neither}
-use Rattle.tsa_points.proofs.NoFailure.{none_of_both, none_of_first, constant_told, keeps_typed, HasType}
-use Rattle.tsa_points.proofs.UnitScopes.{declared_told, struct_told, global_told, named_struct}
+use Rattle.tsa_core.proofs.KindTests.{neither}
+use Rattle.tsa_core.proofs.NoFailure.{none_of_both, none_of_first, constant_told, keeps_typed, HasType}
+use Rattle.tsa_core.proofs.UnitScopes.{declared_told, struct_told, global_told, named_struct}
 use Rattle.tsa_function.specs.Members.{with_members}
 use Rattle.tsa_function.specs.Laws.{MembersComeOneByOne, MembersMakeTheStruct}
 

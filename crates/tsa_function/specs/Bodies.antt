@@ -6,7 +6,7 @@ use Rattle.tsa_tree.specs.types.Heads.{inside}
 use Rattle.tsa_tree.specs.types.Scopes.{Scope, found}
 use Rattle.tsa_tree.specs.types.Units.{outset, behind_item}
 use Rattle.tsa_tree.specs.units.Syntax.{UnitItem, body_item}
-use Rattle.tsa_points.specs.Programs.{body_in}
+use Rattle.tsa_core.specs.Programs.{body_in}
 
 abbrev pub Table : Type 0
 Table = List (List ℕ × List Bool)

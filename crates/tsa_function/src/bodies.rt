@@ -1,6 +1,6 @@
 //! Which locals of each body of a typed unit never change, and which functions have a body (C11 6.9.1).
 ghost use Rattle.std.specs.Prelude.{◌≡◌, None, length, is_some, IfOk, OnOk};
-ghost use Rattle.tsa_points.specs.Programs.{bodied_function, stable_locals as spec_stable_locals};
+ghost use Rattle.tsa_core.specs.Programs.{bodied_function, stable_locals as spec_stable_locals};
 ghost use Rattle.tsa_function.specs.Bodies.{stable_of, with_body, with_item, bodies_behind, bodies_of};
 ghost use Rattle.tsa_tree.specs.declarations.Shapes.{head_shape};
 ghost use Rattle.tsa_tree.specs.statements.Shapes.{stmt_shapes};
@@ -16,7 +16,8 @@ use crate::items::know_item;
 use crate::table::Table;
 use std::alloc::Global;
 use tsa_base::NoMemory;
-use tsa_points::{Walk, body_steps, stable_locals};
+use tsa_points::{Walk, stable_locals};
+use tsa_steps::body_steps;
 use tsa_scope::{Scope, outset};
 use tsa_tree::item::{FnTree, Item};
 use tsa_tree::stmt::Stmt;

@@ -2,7 +2,7 @@
 use Rattle.std.proofs.Common.{◌≡◌, ◌∙◌, ℕ, zero, suc, ◌+◌, ◌<◌, ◌≤◌, arith, Bool, true, false, nat_eq, nat_lt, take, ◌⊎◌, inl, inr, List, [], ◌∷◌, ◌++◌, map, length, get_or, Option, Some, None, if◌then◌else◌, refl, sym, ap, ap₂, subst}
 use Rattle.std.proofs.Math.Seq.{take-suc}
 use Rattle.std.proofs.lemmas.Bool.Decides.{nat_tests}
-use Rattle.tsa_links.specs.Control.{Outcome, Edge, edge}
+use Rattle.tsa_core.specs.Control.{Outcome, Edge, edge}
 use Rattle.tsa_links.specs.Links.{outcome_of}
 use Rattle.tsa_runs.specs.Runs.{step, first_of, last_of, IsChain, IsLongest, AreLongest, bit, times_in}
 use Rattle.tsa_runs.proofs.Paths.{not_true}

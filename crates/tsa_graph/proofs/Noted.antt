@@ -3,7 +3,7 @@ use Rattle.std.proofs.Common.{◌≡◌, ◌∙◌, ℕ, zero, suc, ◌+◌, ◌
 use Rattle.std.proofs.lemmas.Bool.Decides.{nat_tests}
 use Rattle.std.proofs.lemmas.List.{map_push}
 use Rattle.std.proofs.Math.Seq.{take-suc}
-use Rattle.tsa_links.specs.Control.{Edge}
+use Rattle.tsa_core.specs.Control.{Edge}
 use Rattle.tsa_links.specs.declared.link.Link.{Link}
 use Rattle.tsa_links.specs.Links.{edge_of}
 use Rattle.tsa_graph.specs.declared.entries.Edge as code

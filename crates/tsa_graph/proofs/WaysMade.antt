@@ -1,7 +1,7 @@
 -- The ways on and the ways back are the same steps.
 use Rattle.std.proofs.Common.{◌≡◌, ◌∙◌, ℕ, zero, suc, ◌<◌, arith, Bool, true, false, nat_eq, ◌⊎◌, inl, inr, List, [], ◌∷◌, map, length, get_or, Option, Some, None, if◌then◌else◌, refl, sym, ap, subst}
 use Rattle.std.proofs.lemmas.Bool.Decides.{nat_tests}
-use Rattle.tsa_links.specs.Control.{Edge, edge}
+use Rattle.tsa_core.specs.Control.{Edge, edge}
 use Rattle.tsa_links.specs.Links.{outcome_of}
 use Rattle.tsa_graph.specs.declared.entries.Edge as code
 use Rattle.tsa_graph.specs.declared.arcs.Exit.{Exit}

@@ -1,6 +1,6 @@
 -- Edges by the points that they leave and lead to, and points that follow each other alone.
 use Rattle.std.specs.Prelude.{ℕ, ◌≡◌, ◌<◌, nat_eq, List, [], ◌∷◌, if◌then◌else◌}
-use Rattle.tsa_links.specs.Control.{Outcome, Edge, edge}
+use Rattle.tsa_core.specs.Control.{Outcome, Edge, edge}
 
 -- the edges that leave a point, and those that lead to one, in order
 abbrev pub edges_from : ℕ → List Edge → List Edge

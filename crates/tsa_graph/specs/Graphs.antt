@@ -1,6 +1,6 @@
 -- The control of a body as blocks: longest runs of points, each of which leads to the next one alone.
 use Rattle.std.specs.Prelude.{ℕ, ◌≡◌, nat_lt, List, [], ◌∷◌, map}
-use Rattle.tsa_links.specs.Control as control
+use Rattle.tsa_core.specs.Control as control
 use Rattle.tsa_links.specs.declared.link.Outcome.{Outcome}
 use Rattle.tsa_links.specs.Links.{outcome_of}
 use Rattle.tsa_runs.specs.Runs.{first_of, last_of, bit, times_in}

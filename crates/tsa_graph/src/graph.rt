@@ -1,6 +1,6 @@
 //! The graph of edges between points.
 ghost use Rattle.std.specs.Prelude.{◌≡◌, ◌+◌, map, IfOk};
-ghost use Rattle.tsa_links.specs.Control.{body_edges, count_all};
+ghost use Rattle.tsa_core.specs.Control.{body_edges, count_all};
 ghost use Rattle.tsa_graph.specs.Graphs.{IsGraph};
 ghost use Rattle.tsa_graph.specs.Made.{AreMade};
 ghost use Rattle.tsa_links.specs.Links.{edge_of};

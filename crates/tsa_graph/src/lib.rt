@@ -10,4 +10,3 @@ mod ways;
 pub use blocks::{Block, Graph};
 pub use entries::Edge;
 pub use graph::{graph_of_body, graph_of_links};
-pub use tsa_links::{Link, Outcome};

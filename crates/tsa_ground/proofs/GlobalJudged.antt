@@ -4,10 +4,10 @@ use Rattle.tsa_tree.specs.declarations.Syntax.{Declaration}
 use Rattle.tsa_tree.specs.types.Globals.{with_global}
 use Rattle.tsa_tree.specs.types.Scopes.{Scope}
 use Rattle.tsa_layout.specs.Parts.{no_stable}
-use Rattle.tsa_seen.specs.Programs.{Attr}
+use Rattle.tsa_core.specs.Programs.{Attr}
 use Rattle.tsa_seen.specs.Premises.{Premise}
-use Rattle.tsa_deed.specs.Expressions.{View}
-use Rattle.tsa_deed.specs.Declarations.{given_init, guard_premises}
+use Rattle.tsa_node.specs.Expressions.{View}
+use Rattle.tsa_ask.specs.Declarations.{given_init, guard_premises}
 use Rattle.tsa_ground.specs.Judging.{Knowledge}
 use Rattle.tsa_ground.specs.Units.{Unit, view_in}
 

@@ -5,13 +5,13 @@ use Rattle.tsa_tree.specs.declared.kind.Kind.{Kind}
 use Rattle.tsa_tree.specs.types.DeclaredTypes.{thing_type}
 use Rattle.tsa_tree.specs.types.Heads.{inside}
 use Rattle.tsa_tree.specs.types.Scopes.{Scope}
-use Rattle.tsa_layout.specs.LockPaths.{stable_in}
-use Rattle.tsa_seen.specs.Programs.{Attr}
+use Rattle.tsa_way.specs.LockPaths.{stable_in}
+use Rattle.tsa_core.specs.Programs.{Attr}
 use Rattle.tsa_seen.specs.declared.premise.Failure.{Failure}
 use Rattle.tsa_seen.specs.declared.premise.ProfileCode.TheVariants.{PF6}
 use Rattle.tsa_seen.specs.Premises.{Premise, first, premise}
-use Rattle.tsa_deed.specs.Expressions.{View}
-use Rattle.tsa_deed.specs.Declarations.{attribute_premises, is_nothing, param_premises}
+use Rattle.tsa_node.specs.Expressions.{View}
+use Rattle.tsa_ask.specs.Declarations.{attribute_premises, is_nothing, param_premises}
 use Rattle.tsa_ground.specs.declared.ground.Ground.{Ground}
 use Rattle.tsa_ground.specs.Judging.{Knowledge, inner_premises, outer_premises, unit_at}
 use Rattle.tsa_ground.specs.Units.{is_bodied, stable_of, view_of}

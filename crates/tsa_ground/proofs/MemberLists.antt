@@ -5,11 +5,11 @@ use Rattle.tsa_tree.specs.declarations.Syntax.{Declaration}
 use Rattle.tsa_tree.specs.declared.decl.Decl.{Decl}
 use Rattle.tsa_tree.specs.types.Scopes.{Scope, Members, with_owned}
 use Rattle.tsa_layout.specs.Parts.{member_behind, members_after}
-use Rattle.tsa_seen.specs.Programs.{Attr}
+use Rattle.tsa_core.specs.Programs.{Attr}
 use Rattle.tsa_seen.specs.declared.premise.Failure.{Failure}
 use Rattle.tsa_seen.specs.Premises.{or_else, first}
 use Rattle.tsa_function.specs.Members.{behind_member}
-use Rattle.tsa_deed.specs.Declarations.{guard_premises}
+use Rattle.tsa_ask.specs.Declarations.{guard_premises}
 use Rattle.tsa_ground.specs.Judged.{Judges}
 use Rattle.tsa_ground.specs.Judging.{Knowledge, with_scope}
 use Rattle.tsa_ground.specs.Units.{Unit, member_premises, view_in}

@@ -8,15 +8,15 @@ use Rattle.tsa_tree.specs.types.Scopes.{Scope}
 use Rattle.tsa_tree.specs.types.Units.{outset, behind_item}
 use Rattle.tsa_tree.specs.units.Shapes.{item_shapes}
 use Rattle.tsa_tree.specs.units.Syntax.{UnitItem}
-use Rattle.tsa_layout.specs.LockPaths.{stable_in}
-use Rattle.tsa_seen.specs.Programs.{Attr, first_head}
-use Rattle.tsa_deed.specs.Points.{PlacedPoint}
+use Rattle.tsa_way.specs.LockPaths.{stable_in}
+use Rattle.tsa_core.specs.Programs.{Attr, first_head}
+use Rattle.tsa_points.specs.Points.{PlacedPoint}
 use Rattle.tsa_seen.specs.Premises.{Premise, first, or_else, premise}
 use Rattle.tsa_seen.specs.declared.premise.ProfileCode.TheVariants.{LM4, LM7, PF6}
 use Rattle.tsa_seen.specs.declared.premise.Failure.{Failure}
-use Rattle.tsa_deed.specs.Expressions.{View, attributes_at}
+use Rattle.tsa_node.specs.Expressions.{View, attributes_at}
 use Rattle.tsa_seen.specs.Locks.{tries}
-use Rattle.tsa_deed.specs.Declarations.{attribute_premises, is_nothing, param_premises}
+use Rattle.tsa_ask.specs.Declarations.{attribute_premises, is_nothing, param_premises}
 use Rattle.tsa_deed.specs.Bodies.{Around, is_try_variable}
 use Rattle.tsa_deed.specs.Ways.{function_paths}
 use Rattle.tsa_ground.specs.Tables.{Tables, tables_behind}

@@ -4,8 +4,8 @@ use Rattle.tsa_tree.specs.types.Scopes.{Scope}
 use Rattle.tsa_tree.specs.types.Symbols.{number_of}
 use Rattle.tsa_tree.specs.types.Units.{behind_item}
 use Rattle.tsa_tree.specs.units.Syntax.{UnitItem, body_item}
-use Rattle.tsa_layout.specs.Ways.{Way}
-use Rattle.tsa_seen.specs.Programs.{Attr, declared_by}
+use Rattle.tsa_way.specs.Ways.{Way}
+use Rattle.tsa_core.specs.Programs.{Attr, declared_by}
 use Rattle.tsa_ground.specs.Units.{Unit, attributes_behind, paths_at, points_in}
 
 abbrev pub Tables : Type 0

@@ -9,17 +9,17 @@ use Rattle.tsa_tree.specs.types.Scopes.{Scope, Members, found, with_owned}
 use Rattle.tsa_tree.specs.types.Symbols.{number_of}
 use Rattle.tsa_tree.specs.types.Units.{outset, behind_item}
 use Rattle.tsa_tree.specs.units.Syntax.{UnitItem, structure_item, alias_item, enumeration_item, global_item, function_item, body_item}
-use Rattle.tsa_layout.specs.LockPaths.{stable_in}
-use Rattle.tsa_layout.specs.Ways.{Way}
+use Rattle.tsa_way.specs.LockPaths.{stable_in}
+use Rattle.tsa_way.specs.Ways.{Way}
 use Rattle.tsa_layout.specs.Parts.{no_stable, member_behind}
-use Rattle.tsa_seen.specs.Programs.{Attr, Declared, Program, attrs_of, bodied_function, declared_by, stable_locals, program_of}
-use Rattle.tsa_deed.specs.Points.{PlacedPoint, placed_all}
+use Rattle.tsa_core.specs.Programs.{Attr, Declared, Program, attrs_of, bodied_function, declared_by, stable_locals, program_of}
+use Rattle.tsa_points.specs.Points.{PlacedPoint, placed_all}
 use Rattle.tsa_seen.specs.declared.premise.Failure.{Failure}
 use Rattle.tsa_seen.specs.declared.premise.ProfileCode.TheVariants.{LM4, LM7}
 use Rattle.tsa_seen.specs.Premises.{Premise, premise, first}
 use Rattle.tsa_seen.specs.Locks.{tries}
-use Rattle.tsa_deed.specs.Expressions.{View, attributes_at}
-use Rattle.tsa_deed.specs.Declarations.{guard_premises, given_init, head_premises}
+use Rattle.tsa_node.specs.Expressions.{View, attributes_at}
+use Rattle.tsa_ask.specs.Declarations.{guard_premises, given_init, head_premises}
 use Rattle.tsa_deed.specs.Bodies.{Around, points_premises, is_try_variable}
 use Rattle.tsa_deed.specs.Ways.{function_paths}
 

@@ -1,6 +1,6 @@
 //! What the profile asks of structs and globals (C11 6.7.2.1, 6.9.2).
 ghost use Rattle.std.specs.Prelude.{◌≡◌, [], None, option_map, OnOk};
-ghost use Rattle.tsa_deed.specs.Declarations.{guard_premises};
+ghost use Rattle.tsa_ask.specs.Declarations.{guard_premises};
 ghost use Rattle.tsa_function.specs.Members.{behind_member};
 ghost use Rattle.tsa_layout.specs.Parts.{members_after};
 ghost use Rattle.tsa_ground.specs.Judged.{Judges};
@@ -20,7 +20,7 @@ ghost use Rattle.tsa_tree.specs.units.Syntax.{global_item};
 use crate::ground::Ground;
 use crate::knowledge::Knowledge;
 use crate::refusal::{ProfileRefusal, answer_of};
-use tsa_deed::{given_failure, guards_failure};
+use tsa_ask::{given_failure, guards_failure};
 use tsa_function::{begin_global, end_struct, know_member};
 use tsa_tree::decl::Decl;
 use tsa_tree::item::StructDef;

@@ -1,6 +1,6 @@
 //! What the items of a unit are judged with.
 ghost use Rattle.std.specs.Prelude.{◌≡◌, None};
-ghost use Rattle.tsa_seen.specs.Programs.{program_of};
+ghost use Rattle.tsa_core.specs.Programs.{program_of};
 ghost use Rattle.tsa_tree.specs.types.FirstFailing.{first_failing};
 ghost use Rattle.tsa_tree.specs.units.Shapes.{item_shapes};
 

@@ -5,7 +5,7 @@ ghost use Rattle.tsa_seen.specs.Premises.{or_else as spec_or_else};
 use std::marker::Model;
 use std::mem::replace;
 use tsa_base::NoMemory;
-use tsa_deed::PathTable;
+use tsa_path::PathTable;
 use tsa_scope::{Scope, outset};
 use tsa_seen::{Failure, NamedLocks};
 

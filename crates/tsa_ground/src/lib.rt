@@ -11,5 +11,3 @@ mod view;
 pub use ground::Ground;
 pub use knowledge::{Knowledge, or_else, put_scope, take_scope};
 pub use refusal::{ProfileRefusal, answer_of};
-pub use tsa_deed::{Around, Judged, PathTable, attribute_paths};
-pub use tsa_function::{Bodies, know_alias, know_enum, leave};

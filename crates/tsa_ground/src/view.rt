@@ -3,13 +3,13 @@ ghost use Rattle.std.specs.Prelude.{◌≡◌, false, IfOk};
 ghost use Rattle.tsa_ground.specs.Judging.{unit_at};
 ghost use Rattle.tsa_ground.specs.Units.{is_bodied, stable_of};
 ghost use Rattle.tsa_tree.specs.declarations.Shapes.{head_shape};
-ghost use Rattle.tsa_deed.specs.NodeTold.{view_of};
-ghost use Rattle.tsa_layout.specs.LockPaths.{stable_in};
+ghost use Rattle.tsa_node.specs.Told.{view_of};
+ghost use Rattle.tsa_way.specs.LockPaths.{stable_in};
 
 use crate::ground::Ground;
 use tsa_base::NoMemory;
-use tsa_deed::Body;
-use tsa_layout::Sight;
+use tsa_node::Body;
+use tsa_way::Sight;
 use tsa_scope::Scope;
 use tsa_seen::NamedLocks;
 use tsa_tree::item::FnTree;

@@ -13,9 +13,7 @@ ghost use Rattle.tsa_leaf.specs.Seen.{seen_statement};
 use crate::heads::{Headed, case_head, default_head, switch_head, while_head};
 use crate::text::TextReader;
 use tsa_expr::{Reader, SyntaxRefusal};
-use tsa_leaf::{
-    Read, break_statement, continue_statement, goto, return_statement, simple_statement,
-};
+use tsa_leaf::{Read, break_statement, continue_statement, goto, return_statement, simple_statement};
 use tsa_tree::sign::{Keyword, Sign};
 use tsa_tree::stmt::Point;
 

@@ -18,15 +18,15 @@ use Rattle.tsa_site.specs.Entering.{Enters, IsEntered, IsOf}
 use Rattle.tsa_site.specs.declared.inside.Inside.{Inside}
 use Rattle.tsa_site.specs.Knowing.{IsWithin, Knowledge, behind, entered, outset_of}
 use Rattle.tsa_site.specs.Laws.{StandsFor}
-use Rattle.tsa_site.specs.Paths.{paths_if}
+use Rattle.tsa_profile.specs.Paths.{paths_if}
 use Rattle.tsa_site.specs.Sites.{Site, or_later, site_among, site_at, site_of}
-use Rattle.tsa_site.specs.Units.{Unit, attributes_behind, unit_of}
+use Rattle.tsa_ground.specs.Units.{Unit, attributes_behind, unit_of}
 use Rattle.tsa_site.proofs.Seeking.{other_number, passed}
 use Rattle.tsa_site.proofs.SiteLaws.{sites_are_of_the_program}
-use Rattle.tsa_flow.proofs.NewView.{has_body}
-use Rattle.tsa_flow.specs.Controls.{IsControlOf}
+use Rattle.tsa_view.proofs.NewView.{has_body}
+use Rattle.tsa_control.specs.Controls.{IsControlOf}
 use Rattle.tsa_flow.specs.declared.Graph.{Graph}
-use Rattle.tsa_flow.specs.Views.{IsViewOf}
+use Rattle.tsa_view.specs.Views.{IsViewOf}
 use Rattle.tsa_flow.specs.declared.RuleView.{RuleView}
 use Rattle.tsa_flow.specs.declared.function.FunctionFlow.{FunctionFlow}
 use Rattle.tsa_flow.specs.Numbers.{IsFlowBy, IsFlowIn}

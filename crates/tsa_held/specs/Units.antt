@@ -6,9 +6,9 @@ use Rattle.tsa_core.specs.Programs.{Function, program_of}
 use Rattle.tsa_site.specs.Entering.{IsOf}
 use Rattle.tsa_site.specs.Knowing.{Knowledge}
 use Rattle.tsa_site.specs.Laws.{StandsFor}
-use Rattle.tsa_site.specs.Paths.{paths_if}
+use Rattle.tsa_profile.specs.Paths.{paths_if}
 use Rattle.tsa_site.specs.Sites.{Site, site_among, site_of}
-use Rattle.tsa_site.specs.Units.{unit_of}
+use Rattle.tsa_ground.specs.Units.{unit_of}
 use Rattle.tsa_site.specs.declared.inside.Inside.{Inside}
 use Rattle.tsa_flow.specs.declared.function.FunctionFlow.{FunctionFlow}
 use Rattle.tsa_flow.specs.Numbers.{IsFlowIn}

@@ -1,6 +1,6 @@
 //! What walks bring to the points of all functions of a unit.
 ghost use Rattle.std.specs.Prelude.{◌≡◌, [], Ok, option_map, IfOk};
-ghost use Rattle.tsa_core.specs.Units.{placed_in};
+ghost use Rattle.tsa_place.specs.Units.{placed_in};
 ghost use Rattle.tsa_held.specs.Units.{AreTold, told_at};
 ghost use Rattle.tsa_tree.specs.units.Shapes.{item_shapes};
 
@@ -8,9 +8,11 @@ use crate::passage::Flows;
 use crate::tables::UnitTables;
 use std::alloc::Global;
 use tsa_base::NoMemory;
-use tsa_flow::{Facts, FunctionFlow, RuleView};
+use tsa_view::{Facts, RuleView};
+use tsa_flow::FunctionFlow;
 use tsa_rules::Statuses;
-use tsa_site::{Fit, Places};
+use tsa_profile::Fit;
+use tsa_place::Places;
 use tsa_tree::item::UnitTree;
 
 /// A unit in the profile, with what walks bring to the points of its functions, by their numbers.

@@ -8,4 +8,3 @@ mod tables;
 pub use flowed::{Flowed, flow};
 pub use passage::Pass;
 pub use tables::UnitTables;
-pub use tsa_site::{Fit, Ground, Inside, Knowledge, Places, enter_item, leave_body, outset, pass};

@@ -4,7 +4,7 @@ ghost use Rattle.tsa_core.specs.Programs.{program_of};
 ghost use Rattle.tsa_flow.specs.Numbers.{IsFlowIn};
 ghost use Rattle.tsa_held.specs.Units.{AreAhead, AreTold, IsBodyOf, IsNext, IsTold, Puts, told_at};
 ghost use Rattle.tsa_lock.specs.Kinds.{kinds_of};
-ghost use Rattle.tsa_site.specs.Judging.{unit_at};
+ghost use Rattle.tsa_ground.specs.Judging.{unit_at};
 ghost use Rattle.tsa_site.specs.Knowing.{behind};
 ghost use Rattle.tsa_tree.specs.types.Premises as types;
 ghost use Rattle.tsa_tree.specs.types.Units as typed;
@@ -14,10 +14,14 @@ ghost use Rattle.tsa_tree.specs.units.Syntax.{UnitItem};
 use std::alloc::Global;
 use tsa_base::NoMemory;
 use tsa_blocks::blocks_of;
-use tsa_flow::{FunctionFlow, Unit, control_of};
+use tsa_flow::FunctionFlow;
+use tsa_view::Unit;
+use tsa_control::control_of;
 use tsa_lock::LockKind;
 use tsa_path::PathTable;
-use tsa_site::{Fit, Ground, Inside, Knowledge, enter_item, leave_body, outset};
+use tsa_profile::Fit;
+use tsa_ground::Ground;
+use tsa_site::{Inside, Knowledge, enter_item, leave_body, outset};
 use tsa_tree::item::Item;
 
 /// What walks bring to the points of functions, by their numbers, as far as they are told.

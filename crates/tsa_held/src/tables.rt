@@ -1,7 +1,7 @@
 //! The tables by which the bodies of a unit are gone through.
 ghost use Rattle.std.specs.Prelude.{◌≡◌, None, Ok, IfOk};
 ghost use Rattle.tsa_core.specs.Programs.{program_of};
-ghost use Rattle.tsa_core.specs.Units.{placed_in};
+ghost use Rattle.tsa_place.specs.Units.{placed_in};
 ghost use Rattle.tsa_lock.specs.Kinds.{kinds_of};
 ghost use Rattle.tsa_tree.specs.types.FirstFailing.{first_failing};
 ghost use Rattle.tsa_tree.specs.units.Shapes.{item_shapes};
@@ -12,7 +12,9 @@ use tsa_base::NoMemory;
 use tsa_function::Bodies;
 use tsa_layout::Layout;
 use tsa_lock::{LockKind, lock_kinds};
-use tsa_site::{Fit, Ground, Places};
+use tsa_profile::Fit;
+use tsa_ground::Ground;
+use tsa_place::Places;
 use tsa_tree::item::Item;
 
 /// The items of a typed unit with its layout, its bodies by name, and what kinds of locks its structs are.

@@ -8,8 +8,11 @@ ghost use Rattle.tsa_tree.specs.types.Enums.{next_after, enumerator_entry as spe
 ghost use Rattle.tsa_tree.specs.units.Syntax.{alias_item};
 
 use tsa_base::NoMemory;
-use tsa_data::{Scope, a_type_name, count_on, enumerator_entry, int_value, single};
-use tsa_layout::{Part, Sight, declared_thing, part_of, whole};
+use tsa_scope::Scope;
+use tsa_data::{a_type_name, count_on, enumerator_entry, int_value};
+use tsa_operand::single;
+use tsa_layout::{Part, declared_thing, part_of, whole};
+use tsa_way::Sight;
 use tsa_tree::decl::Decl;
 use tsa_tree::expr::Expr;
 use tsa_tree::item::{AliasDef, EnumDef, Enumerator};

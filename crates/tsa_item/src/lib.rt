@@ -5,9 +5,4 @@ mod items;
 mod values;
 
 pub use items::{know_alias, know_enum, know_global};
-pub use tsa_data::{Scope, outset};
-pub use tsa_layout::{
-    Guard, Holder, Layout, Part, Path, PlaceKind, Placed, Sight, Structures, declared_thing,
-    define_struct,
-};
 pub use values::{or_zero, zero_of};

@@ -16,17 +16,17 @@ use Rattle.tsa_tree.specs.types.Targets.{declared_in_all}
 use Rattle.tsa_tree.specs.types.Units.{behind_item}
 use Rattle.tsa_tree.specs.units.Shapes.{item_shape}
 use Rattle.tsa_tree.specs.units.Syntax.{function_item, body_item}
-use Rattle.tsa_layout.specs.LockPaths.{stable_in}
-use Rattle.tsa_seen.specs.Programs.{Attr, Declared, attrs_of, unless_known}
+use Rattle.tsa_way.specs.LockPaths.{stable_in}
+use Rattle.tsa_core.specs.Programs.{Attr, Declared, attrs_of, unless_known}
 use Rattle.tsa_points.specs.Points.{PlacedPoint, placed_all}
 use Rattle.tsa_seen.specs.declared.premise.Failure.{Failure}
 use Rattle.tsa_seen.specs.Locks.{tries}
 use Rattle.tsa_seen.specs.declared.premise.ProfileCode.TheVariants.{LM4, LM7}
 use Rattle.tsa_seen.specs.Premises.{first, or_else, premise}
-use Rattle.tsa_ground.specs.Expressions.{attributes_at}
-use Rattle.tsa_ground.specs.Functions.{IsInside}
-use Rattle.tsa_ground.specs.Bodies.{Around, is_try_variable, points_premises}
-use Rattle.tsa_ground.specs.Ways.{function_paths}
+use Rattle.tsa_node.specs.Expressions.{attributes_at}
+use Rattle.tsa_function.specs.Functions.{IsInside}
+use Rattle.tsa_deed.specs.Bodies.{Around, is_try_variable, points_premises}
+use Rattle.tsa_deed.specs.Ways.{function_paths}
 use Rattle.tsa_ground.specs.declared.ground.Ground.{Ground}
 use Rattle.tsa_ground.specs.Judging.{Knowledge, around_at, behind, declared_attributes, entered, unit_at, with_body, with_function, with_scope, without_body}
 use Rattle.tsa_ground.specs.Units.{Unit, around, attributes_by, is_alone, points_in, stable_of}

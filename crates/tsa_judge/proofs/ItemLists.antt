@@ -6,7 +6,7 @@ use Rattle.tsa_tree.specs.types.Scopes.{Scope}
 use Rattle.tsa_tree.specs.types.Units as typed
 use Rattle.tsa_tree.specs.types.Units.{behind_item}
 use Rattle.tsa_tree.specs.units.Shapes.{item_shape, item_shapes}
-use Rattle.tsa_points.proofs.NoFailure.{none_of_both}
+use Rattle.tsa_core.proofs.NoFailure.{none_of_both}
 use Rattle.tsa_seen.specs.declared.premise.Failure.{Failure}
 use Rattle.tsa_seen.specs.Premises.{or_else, first}
 use Rattle.tsa_ground.specs.Judged.{Judges}

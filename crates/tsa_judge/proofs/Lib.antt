@@ -3,4 +3,3 @@ pub mod Behind
 pub mod ItemLists
 pub mod NoOwned
 pub mod WholeBodies
-pub use Rattle.tsa_points.proofs.Known

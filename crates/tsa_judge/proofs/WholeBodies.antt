@@ -6,15 +6,15 @@ use Rattle.tsa_tree.specs.points.Syntax.{ends}
 use Rattle.tsa_tree.specs.statements.Syntax.{Statements}
 use Rattle.tsa_tree.specs.types.Scopes.{Scope, further}
 use Rattle.tsa_tree.specs.types.Targets.{declared_in_all}
-use Rattle.tsa_seen.specs.Programs.{Attr}
+use Rattle.tsa_core.specs.Programs.{Attr}
 use Rattle.tsa_points.specs.CoreLaws.{known_of}
 use Rattle.tsa_points.specs.Points.{PlacedPoint, placed, placed_all}
 use Rattle.tsa_steps.specs.Steps.{body_steps}
 use Rattle.tsa_points.specs.Walks.{walk, walk_behind, points_along}
 use Rattle.tsa_points.proofs.Passing.{body_steps_are_the_points}
 use Rattle.tsa_seen.specs.Premises.{first}
-use Rattle.tsa_ground.specs.Bodies.{Around, is_try_variable, point_premises, points_premises}
-use Rattle.tsa_ground.specs.Ways.{each_once, function_paths, named_ways, points_ways, present, unless_many, ways_at}
+use Rattle.tsa_deed.specs.Bodies.{Around, is_try_variable, point_premises, points_premises}
+use Rattle.tsa_deed.specs.Ways.{each_once, function_paths, named_ways, points_ways, present, unless_many, ways_at}
 
 module _ (a : Around) (here : Scope) (close : Span) where
   abbrev end : PlacedPoint

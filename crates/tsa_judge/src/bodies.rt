@@ -1,11 +1,11 @@
 //! What the profile asks of the bodies of functions, and the paths of each.
 ghost use Rattle.std.specs.Prelude.{◌≡◌, ◌∷◌, [], filter, length, map, slice_set, IfOk, OnOk};
-ghost use Rattle.tsa_ground.specs.Bodies.{is_try_variable, points_premises};
-ghost use Rattle.tsa_ground.specs.Told.{around_of};
-ghost use Rattle.tsa_ground.specs.Ways.{function_paths};
+ghost use Rattle.tsa_deed.specs.Bodies.{is_try_variable, points_premises};
+ghost use Rattle.tsa_deed.specs.Told.{around_of};
+ghost use Rattle.tsa_deed.specs.Ways.{function_paths};
 ghost use Rattle.tsa_ground.specs.Judged.{Judges};
 ghost use Rattle.tsa_ground.specs.Judging.{around_at, unit_at, with_body, with_scope, without_body};
-ghost use Rattle.tsa_ground.specs.Expressions.{attributes_at};
+ghost use Rattle.tsa_node.specs.Expressions.{attributes_at};
 ghost use Rattle.tsa_points.specs.Points.{placed_all};
 ghost use Rattle.tsa_points.specs.Walks.{points_along, walk, walk_behind};
 ghost use Rattle.tsa_seen.specs.Locks.{tries as spec_tries};
@@ -14,14 +14,14 @@ ghost use Rattle.tsa_steps.specs.Steps.{step_shape};
 ghost use Rattle.tsa_tree.specs.statements.Shapes.{stmt_shapes};
 ghost use Rattle.tsa_tree.specs.types.Scopes.{further};
 ghost use Rattle.tsa_tree.specs.types.Targets.{declared_in_all};
-ghost use Rattle.tsa_layout.specs.LockPaths.{stable_in};
+ghost use Rattle.tsa_way.specs.LockPaths.{stable_in};
 
 use tsa_base::{NoMemory, Span};
-use tsa_ground::{
-    Around, Ground, Judged, Knowledge, PathTable, ProfileRefusal, answer_of, attribute_paths,
-    or_else, put_scope, take_scope,
-};
-use tsa_points::{Step, Walk, body_steps};
+use tsa_deed::{Around, Judged, attribute_paths};
+use tsa_ground::{Ground, Knowledge, ProfileRefusal, answer_of, or_else, put_scope, take_scope};
+use tsa_path::PathTable;
+use tsa_steps::{Step, body_steps};
+use tsa_points::Walk;
 use tsa_seen::{Failure, NamedLock, NamedLocks, ProfileCode};
 use tsa_tree::stmt::Stmt;
 

@@ -1,7 +1,7 @@
 //! Functions with and without bodies, and what is known behind each.
 ghost use Rattle.std.specs.Prelude.{◌≡◌, ◌++◌, None, true, false, is_some, OnOk};
 ghost use Rattle.tsa_base.specs.declared.token.Span.{Span as Close};
-ghost use Rattle.tsa_ground.specs.Bodies.{points_premises};
+ghost use Rattle.tsa_deed.specs.Bodies.{points_premises};
 ghost use Rattle.tsa_ground.specs.Judged.{Judges};
 ghost use Rattle.tsa_ground.specs.Judging.{behind, declared_attributes, unit_at};
 ghost use Rattle.tsa_ground.specs.Units.{around, attributes_behind, heads_premises, is_alone as spec_is_alone, item_premises, points_in};
@@ -16,7 +16,8 @@ ghost use Rattle.tsa_tree.specs.units.Syntax.{function_item, body_item};
 
 use crate::bodies::{Inside, alone, judge_body};
 use tsa_base::Span;
-use tsa_ground::{Ground, Knowledge, ProfileRefusal, leave};
+use tsa_ground::{Ground, Knowledge, ProfileRefusal};
+use tsa_function::leave;
 use tsa_scope::Scope;
 use tsa_tree::item::FnTree;
 use tsa_tree::stmt::Stmt;

@@ -12,9 +12,9 @@ ghost use Rattle.tsa_tree.specs.units.Shapes.{item_shape, item_shapes};
 use crate::functions::function;
 use std::alloc::Global;
 use tsa_base::NoMemory;
-use tsa_ground::{
-    Ground, Knowledge, PathTable, ProfileRefusal, answer_of, know_alias, know_enum, or_else,
-};
+use tsa_ground::{Ground, Knowledge, ProfileRefusal, answer_of, or_else};
+use tsa_path::PathTable;
+use tsa_function::{know_alias, know_enum};
 use tsa_scope::outset;
 use tsa_tree::item::Item;
 

@@ -6,5 +6,3 @@ mod functions;
 mod items;
 
 pub use items::judge;
-pub use tsa_ground::{Bodies, Ground, ProfileRefusal};
-pub use tsa_types::{Typed, function_number};

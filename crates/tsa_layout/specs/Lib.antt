@@ -5,9 +5,3 @@ pub mod Parts
 pub mod Standing
 pub mod Tables
 pub mod Stores
-pub use Rattle.tsa_way.specs.LockPaths
-pub use Rattle.tsa_way.specs.Ways
-pub use Rattle.tsa_way.specs.declared.path.PathStep
-pub use Rattle.tsa_way.specs.declared.path.Root
-pub use Rattle.tsa_way.specs.Arguments
-pub use Rattle.tsa_way.specs.Lookups

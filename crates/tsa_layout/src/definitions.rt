@@ -10,7 +10,8 @@ use tsa_base::NoMemory;
 use tsa_tree::item::StructDef;
 use tsa_tree::kind::Kind;
 use tsa_tree::meaning::{Entry, Meaning};
-use tsa_way::{Names, Scope, single};
+use tsa_scope::{Names, Scope};
+use tsa_operand::single;
 
 /// Defines the next struct, with its members and their guards.
 #[tactic(auto, using(crate::proofs::Below::parts_below))]

@@ -7,7 +7,8 @@ ghost use Rattle.tsa_tree.specs.expressions.Shapes.{shapes};
 use tsa_base::NoMemory;
 use tsa_tree::attr::{Attr, AttrKind};
 use tsa_tree::expr::Expr;
-use tsa_way::{Path, Scope, Sight};
+use tsa_way::{Path, Sight};
+use tsa_scope::Scope;
 
 /// Whether an attribute is `guarded_by`.
 fn is_guard(kind: AttrKind) -> bool

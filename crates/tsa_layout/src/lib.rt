@@ -18,4 +18,3 @@ pub use layout::Layout;
 pub use parts::{Part, declared_thing, part_of, whole};
 pub use place::{Guard, Holder, PlaceKind, Placed};
 pub use structures::Structures;
-pub use tsa_way::{Path, Sight};

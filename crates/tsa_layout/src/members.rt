@@ -9,7 +9,7 @@ use crate::parts::{Part, declared_thing, part_of, whole};
 use tsa_base::NoMemory;
 use tsa_tree::decl::Decl;
 use tsa_tree::kind::ThingType;
-use tsa_way::{Names, Scope};
+use tsa_scope::{Names, Scope};
 
 /// A member of a type, with its guards.
 fn guarded<'a>(

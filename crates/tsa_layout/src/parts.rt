@@ -9,7 +9,9 @@ use std::marker::Model;
 use tsa_base::{NoMemory, Span};
 use tsa_tree::decl::{CType, Decl};
 use tsa_tree::kind::{Kind, ThingType};
-use tsa_way::{Path, Scope, Symbols, View};
+use tsa_way::Path;
+use tsa_scope::{Scope, Symbols};
+use tsa_resolve::View;
 
 /// A member or a global: its name, its type, the paths of its guards in order, of which some may have none, and where its declarator stands.
 pub struct Part {

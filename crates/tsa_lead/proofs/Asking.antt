@@ -4,12 +4,12 @@ use Rattle.std.proofs.lemmas.Bool.Decides.{nat_tests}
 use Rattle.std.proofs.lemmas.Option.{slice_get_within}
 use Rattle.tsa_tree.specs.declared.kind.Kind.{Kind}
 use Rattle.tsa_tree.specs.declared.kind.Kind.TheVariants as type
-use Rattle.tsa_place.specs.Placed.{Placed}
-use Rattle.tsa_place.specs.Calls.{Layout, there, member_place, element_place, members_of, part_of}
-use Rattle.tsa_place.specs.Layouts.{Part, kind_size, size_of, offset}
+use Rattle.tsa_layout.specs.declared.place.Placed.{Placed}
+use Rattle.tsa_layout.specs.Calls.{Layout, there, member_place, element_place, members_of, part_of}
+use Rattle.tsa_layout.specs.Layouts.{Part, kind_size, size_of, offset}
 use Rattle.tsa_lead.specs.Leading.{alone}
-use Rattle.tsa_place.specs.Places.{Given, Values, Inside, a_place, kind_places}
-use Rattle.tsa_place.specs.Standing.{StandsAt}
+use Rattle.tsa_layout.specs.Places.{Given, Values, Inside, a_place, kind_places}
+use Rattle.tsa_layout.specs.Standing.{StandsAt}
 
 -- what stands first
 pub slice_at : (all : List Placed) (o : ℕ) (p : Placed) (rest : List Placed) → drop o all ≡ p ∷ rest → slice_get all o ≡ Some p

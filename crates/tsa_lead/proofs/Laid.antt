@@ -7,22 +7,22 @@ use Rattle.tsa_tree.specs.declarations.Syntax.{Initialiser}
 use Rattle.tsa_tree.specs.types.Scopes.{Scope}
 use Rattle.tsa_tree.specs.types.Units.{outset}
 use Rattle.tsa_tree.specs.units.Syntax.{UnitItem, structure_item, alias_item, enumeration_item, global_item, function_item, body_item}
-use Rattle.tsa_place.specs.Holder.TheVariants.{Global}
-use Rattle.tsa_place.specs.Placed.{Placed}
-use Rattle.tsa_place.specs.Calls.{Layout}
-use Rattle.tsa_place.specs.Layouts.{Part, Structure, thing_size, size_of}
-use Rattle.tsa_place.specs.Parts.{structure_in}
+use Rattle.tsa_layout.specs.declared.place.Holder.TheVariants.{Global}
+use Rattle.tsa_layout.specs.declared.place.Placed.{Placed}
+use Rattle.tsa_layout.specs.Calls.{Layout}
+use Rattle.tsa_layout.specs.Layouts.{Part, Structure, thing_size, size_of}
+use Rattle.tsa_layout.specs.Parts.{structure_in}
 use Rattle.tsa_lead.specs.Leading.{HasPlaces}
-use Rattle.tsa_place.specs.Places.{Given, Values, places_of, thing_places, places_inside}
-use Rattle.tsa_place.specs.Standing.{StandsAt, IsWithin, AllBelow, IsOrdered}
-use Rattle.tsa_place.specs.Items.{known_global, global_part, behind_data}
-use Rattle.tsa_place.specs.FillUnits.{values_in, given_by, with_structure, with_part, no_places}
+use Rattle.tsa_layout.specs.Places.{Given, Values, places_of, thing_places, places_inside}
+use Rattle.tsa_layout.specs.Standing.{StandsAt, IsWithin, AllBelow, IsOrdered}
+use Rattle.tsa_item.specs.Items.{known_global, global_part, behind_data}
+use Rattle.tsa_fill.specs.Units.{values_in, given_by, with_structure, with_part, no_places}
 use Rattle.tsa_place.specs.Units.{data_placed, too_many_at, or_behind, placed_behind}
 use Rattle.tsa_lead.proofs.Asking.{none_is_none}
-use Rattle.tsa_place.proofs.Below.{parts_below, part_within}
+use Rattle.tsa_layout.proofs.Below.{parts_below, part_within}
 use Rattle.tsa_lead.proofs.Later.{later_thing, later_size}
-use Rattle.tsa_place.proofs.Sizes.{thing_sized, inside_sized}
-use Rattle.tsa_place.proofs.Standing.{below_more}
+use Rattle.tsa_layout.proofs.Sizes.{thing_sized, inside_sized}
+use Rattle.tsa_layout.proofs.Standing.{below_more}
 use Rattle.tsa_place.proofs.UnitLists.{same_structs}
 
 module _ {A : Type 0} where

@@ -3,14 +3,14 @@ use Rattle.std.proofs.Common.{◌≡◌, ◌∙◌, ℕ, zero, suc, ◌+◌, ◌
 use Rattle.std.proofs.lemmas.Bool.Decides.{nat_tests}
 use Rattle.std.proofs.lemmas.Option.{slice_get_within}
 use Rattle.tsa_tree.specs.declared.kind.Kind.{Kind}
-use Rattle.tsa_place.specs.Holder.{Holder}
-use Rattle.tsa_place.specs.Holder.TheVariants.{Global, Member}
-use Rattle.tsa_place.specs.Placed.{Placed}
-use Rattle.tsa_place.specs.Calls.{Layout, element_place, part_of}
-use Rattle.tsa_place.specs.Layouts.{Part, kind_size, size_of}
+use Rattle.tsa_layout.specs.declared.place.Holder.{Holder}
+use Rattle.tsa_layout.specs.declared.place.Holder.TheVariants.{Global, Member}
+use Rattle.tsa_layout.specs.declared.place.Placed.{Placed}
+use Rattle.tsa_layout.specs.Calls.{Layout, element_place, part_of}
+use Rattle.tsa_layout.specs.Layouts.{Part, kind_size, size_of}
 use Rattle.tsa_lead.specs.Leading.{first_place, piece, leads_to, Route, from_global, to_member, reached, IsInside, StandsIn, PlacesAreLedTo, WhatIsLedToBears, MembersHavePlaces, ElementsHavePlaces, OneWay}
-use Rattle.tsa_place.specs.Places.{a_place}
-use Rattle.tsa_place.specs.Standing.{HasSome}
+use Rattle.tsa_layout.specs.Places.{a_place}
+use Rattle.tsa_layout.specs.Standing.{HasSome}
 use Rattle.tsa_lead.proofs.Asking.{same_some, none_is_none, element_alone, element_past, alone_some, alone_other}
 use Rattle.tsa_lead.proofs.Laid.{IsLaid, unit_laid}
 use Rattle.tsa_lead.proofs.Pieces.{some_at, element_is, row_at, at_row, stands_at, member_at, thing_at}

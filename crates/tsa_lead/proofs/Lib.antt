@@ -10,4 +10,3 @@ pub mod TextsTold
 pub mod TextsNamed
 pub mod TextsTyped
 pub mod TextsTell
-pub use Rattle.tsa_place.proofs.Standing

@@ -4,14 +4,14 @@ use Rattle.std.proofs.lemmas.Bool.Decides.{nat_tests}
 use Rattle.std.proofs.lemmas.Option.{slice_get_within}
 use Rattle.tsa_tree.specs.declared.kind.Kind.{Kind}
 use Rattle.tsa_tree.specs.declared.kind.Kind.TheVariants as type
-use Rattle.tsa_place.specs.Holder.{Holder}
-use Rattle.tsa_place.specs.Holder.TheVariants.{Global, Member}
-use Rattle.tsa_place.specs.Placed.{Placed}
-use Rattle.tsa_place.specs.Calls.{Layout, member_place, element_place, members_of, part_of}
-use Rattle.tsa_place.specs.Layouts.{Part, kind_size, size_of, structure_at, offset}
+use Rattle.tsa_layout.specs.declared.place.Holder.{Holder}
+use Rattle.tsa_layout.specs.declared.place.Holder.TheVariants.{Global, Member}
+use Rattle.tsa_layout.specs.declared.place.Placed.{Placed}
+use Rattle.tsa_layout.specs.Calls.{Layout, member_place, element_place, members_of, part_of}
+use Rattle.tsa_layout.specs.Layouts.{Part, kind_size, size_of, structure_at, offset}
 use Rattle.tsa_lead.specs.Leading.{first_place, piece, leads_to, Fits, IsInside, StandsIn}
-use Rattle.tsa_place.specs.Places.{a_place}
-use Rattle.tsa_place.specs.Standing.{IsBelow}
+use Rattle.tsa_layout.specs.Places.{a_place}
+use Rattle.tsa_layout.specs.Standing.{IsBelow}
 use Rattle.tsa_lead.proofs.Asking.{same_some, none_is_none, is_there, member_none, member_other, element_some, alone_some}
 use Rattle.tsa_lead.proofs.Laid.{Block, Belongs, IsLaid}
 use Rattle.tsa_lead.proofs.Rows.{Thing, Object, PieceAt, Row, object_place, object_alone, object_element, thing_rows, member_begins, member_thing}

@@ -3,17 +3,17 @@ use Rattle.std.proofs.Common.{◌≡◌, ◌∙◌, ℕ, zero, suc, ◌+◌, ◌
 use Rattle.std.proofs.lemmas.Bool.Decides.{nat_tests}
 use Rattle.tsa_tree.specs.declared.kind.Kind.{Kind}
 use Rattle.tsa_tree.specs.declared.kind.Kind.TheVariants as type
-use Rattle.tsa_place.specs.Holder.{Holder}
-use Rattle.tsa_place.specs.Holder.TheVariants.{Member}
-use Rattle.tsa_place.specs.Placed.{Placed}
-use Rattle.tsa_place.specs.Calls.{Layout, member_place, part_of}
-use Rattle.tsa_place.specs.Layouts.{Part, structure_at, kind_size, times, thing_size, members_size, size_of, offset}
+use Rattle.tsa_layout.specs.declared.place.Holder.{Holder}
+use Rattle.tsa_layout.specs.declared.place.Holder.TheVariants.{Member}
+use Rattle.tsa_layout.specs.declared.place.Placed.{Placed}
+use Rattle.tsa_layout.specs.Calls.{Layout, member_place, part_of}
+use Rattle.tsa_layout.specs.Layouts.{Part, structure_at, kind_size, times, thing_size, members_size, size_of, offset}
 use Rattle.tsa_lead.specs.Leading.{first_place, IsInside}
-use Rattle.tsa_place.specs.Places.{Given, Values, a_place, element_of, member_of, kind_places, pieces, thing_places, places_inside}
-use Rattle.tsa_place.specs.Standing.{StandsAt, IsBelow, HasSome, IsWithin, IsOrdered}
+use Rattle.tsa_layout.specs.Places.{Given, Values, a_place, element_of, member_of, kind_places, pieces, thing_places, places_inside}
+use Rattle.tsa_layout.specs.Standing.{StandsAt, IsBelow, HasSome, IsWithin, IsOrdered}
 use Rattle.tsa_lead.proofs.Asking.{kind_head, is_there, member_some}
 use Rattle.tsa_lead.proofs.Later.{own_members_below, size_is, all_at}
-use Rattle.tsa_place.proofs.Standing.{below_more, member_stands, members_below, element_stands}
+use Rattle.tsa_layout.proofs.Standing.{below_more, member_stands, members_below, element_stands}
 
 -- which element of some of a size lies round a place
 pub record Element (size count x : ℕ) : Type 0 where

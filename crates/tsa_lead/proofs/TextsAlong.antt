@@ -1,9 +1,9 @@
 -- The text of a place, from the text of the place that it lies in.
 use Rattle.std.proofs.Common.{◌≡◌, ℕ, zero, suc, ◌<◌, arith, List, [], ◌∷◌, ◌++◌, Option, Some, None, slice_get, refl, sym, ap, ◌∙◌}
-use Rattle.tsa_place.specs.Holder.{Holder}
-use Rattle.tsa_place.specs.Holder.TheVariants.{Global, Member}
-use Rattle.tsa_place.specs.Placed.{Placed}
-use Rattle.tsa_place.specs.Calls.{Layout, around, owner_at, part_of, part_name, index_text, dot, own_text, text_along, text_of}
+use Rattle.tsa_layout.specs.declared.place.Holder.{Holder}
+use Rattle.tsa_layout.specs.declared.place.Holder.TheVariants.{Global, Member}
+use Rattle.tsa_layout.specs.declared.place.Placed.{Placed}
+use Rattle.tsa_layout.specs.Calls.{Layout, around, owner_at, part_of, part_name, index_text, dot, own_text, text_along, text_of}
 use Rattle.tsa_lead.specs.Leading.{IsInside, StandsIn}
 
 -- each place of a layout has what declares it

@@ -7,7 +7,7 @@ use Rattle.std.proofs.lemmas.Fmt.{decimal_is_IsNumeral, decimal_injective}
 use Rattle.std.proofs.lemmas.Str.Parse.{digit_from_value}
 use Rattle.tsa_base.specs.Bytes.{is_word_byte}
 use Rattle.tsa_base.proofs.Truths.{both, never_true as never}
-use Rattle.tsa_place.specs.Calls.{index_text}
+use Rattle.tsa_layout.specs.Calls.{index_text}
 
 -- a byte isn't in a text
 abbrev pub Without : ℕ → List ℕ → Type 0

@@ -16,8 +16,8 @@ use Rattle.tsa_tree.specs.tokens.Signs.{Aliases}
 use Rattle.tsa_tree.specs.types.DeclaredTypes.{thing_type, value_in, as_length, length_in, length_of, with_length, resolve}
 use Rattle.tsa_tree.specs.types.Known.{Context}
 use Rattle.tsa_tree.specs.types.Scopes.{Scope, Members, context_of}
-use Rattle.tsa_place.specs.Layouts.{Part}
-use Rattle.tsa_place.specs.Parts.{parts_behind, member_behind}
+use Rattle.tsa_layout.specs.Layouts.{Part}
+use Rattle.tsa_layout.specs.Parts.{parts_behind, member_behind}
 use Rattle.tsa_lead.proofs.TextsApart.{IsPlain}
 use Rattle.tsa_lead.proofs.TextsTold.{IsShort, NamesTell, no_part}
 

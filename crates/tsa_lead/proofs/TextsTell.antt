@@ -15,10 +15,10 @@ use Rattle.tsa_tree.specs.units.Shapes.{item_shapes}
 use Rattle.tsa_tree.specs.units.Sound.{SoundItem, SoundItems}
 use Rattle.tsa_tree.specs.units.Syntax.{UnitItem, structure_item, alias_item, enumeration_item, global_item, function_item, body_item, names_of_item}
 use Rattle.tsa_tree.proofs.units.Read.{well_read_sound}
-use Rattle.tsa_place.specs.Layouts.{Part, Structures, structure_at}
-use Rattle.tsa_place.specs.Calls.{Layout, members_of}
-use Rattle.tsa_place.specs.Items.{global_part, behind_data}
-use Rattle.tsa_place.specs.FillUnits.{no_places}
+use Rattle.tsa_layout.specs.Layouts.{Part, Structures, structure_at}
+use Rattle.tsa_layout.specs.Calls.{Layout, members_of}
+use Rattle.tsa_item.specs.Items.{global_part, behind_data}
+use Rattle.tsa_fill.specs.Units.{no_places}
 use Rattle.tsa_place.specs.Units.{data_placed, too_many_at, or_behind, placed_behind}
 use Rattle.tsa_lead.specs.Leading.{PlacesAreLedTo, TextsTell}
 use Rattle.tsa_lead.proofs.TextsTold.{NamesTell, AllNamesTell, texts_told}

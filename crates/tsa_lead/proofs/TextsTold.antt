@@ -1,11 +1,11 @@
 -- Where names are plain and tell globals and members apart, texts tell places apart.
 use Rattle.std.proofs.Common.{◌≡◌, ℕ, zero, suc, ◌<◌, ◌≤◌, arith, List, ◌++◌, Option, Some, None, slice_get, option_and_then, option_map, refl, sym, ap, subst, ◌∙◌}
 use Rattle.tsa_tree.specs.declared.kind.Kind.{Kind}
-use Rattle.tsa_place.specs.Holder.{Holder}
-use Rattle.tsa_place.specs.Holder.TheVariants.{Global, Member}
-use Rattle.tsa_place.specs.Placed.{Placed}
-use Rattle.tsa_place.specs.Layouts.{Part}
-use Rattle.tsa_place.specs.Calls.{Layout, kind_at, members_of, part_of, index_text, text_of}
+use Rattle.tsa_layout.specs.declared.place.Holder.{Holder}
+use Rattle.tsa_layout.specs.declared.place.Holder.TheVariants.{Global, Member}
+use Rattle.tsa_layout.specs.declared.place.Placed.{Placed}
+use Rattle.tsa_layout.specs.Layouts.{Part}
+use Rattle.tsa_layout.specs.Calls.{Layout, kind_at, members_of, part_of, index_text, text_of}
 use Rattle.tsa_lead.specs.Leading.{Fits, IsInside, leads_to}
 use Rattle.tsa_lead.proofs.TextsApart.{IsPlain, IsSmall, without_dot, name_and_index, with_and_without, last_tells}
 use Rattle.tsa_lead.proofs.TextsAlong.{AllStand, whole_text, text_is}

@@ -28,8 +28,8 @@ use Rattle.tsa_tree.specs.types.Structs.{first_place, other_struct, with_member,
 use Rattle.tsa_tree.specs.types.Units.{behind_item}
 use Rattle.tsa_tree.specs.units.Syntax.{UnitItem, structure_item, alias_item, enumeration_item, global_item, function_item, body_item}
 use Rattle.tsa_tree.proofs.types.NodeLists.{first-append}
-use Rattle.tsa_place.specs.Layouts.{Part}
-use Rattle.tsa_place.specs.Parts.{parts_behind, member_behind}
+use Rattle.tsa_layout.specs.Layouts.{Part}
+use Rattle.tsa_layout.specs.Parts.{parts_behind, member_behind}
 use Rattle.tsa_lead.proofs.TextsNamed.{NotNamed, AreApart}
 
 -- what is found among names is found among more, and the last one is found

@@ -5,11 +5,11 @@ use Rattle.tsa_tree.specs.types.Units.{refusal_of_types}
 use Rattle.tsa_tree.specs.units.Shapes.{item_shapes}
 use Rattle.tsa_tree.specs.units.Syntax.{UnitItem}
 use Rattle.tsa_tree.specs.units.WellRead.{IsWellRead}
-use Rattle.tsa_place.specs.Holder.{Holder}
-use Rattle.tsa_place.specs.Holder.TheVariants.{Global, Member}
-use Rattle.tsa_place.specs.Placed.{Placed}
-use Rattle.tsa_place.specs.Layouts.{Part, kind_size, size_of, offset}
-use Rattle.tsa_place.specs.Calls.{Layout, global_place, member_place, element_place, members_of, part_of, text_of}
+use Rattle.tsa_layout.specs.declared.place.Holder.{Holder}
+use Rattle.tsa_layout.specs.declared.place.Holder.TheVariants.{Global, Member}
+use Rattle.tsa_layout.specs.declared.place.Placed.{Placed}
+use Rattle.tsa_layout.specs.Layouts.{Part, kind_size, size_of, offset}
+use Rattle.tsa_layout.specs.Calls.{Layout, global_place, member_place, element_place, members_of, part_of, text_of}
 use Rattle.tsa_place.specs.Units.{placed_in}
 
 -- where a global, or a member of the object at a place, begins

@@ -4,4 +4,3 @@
 mod laws;
 
 pub use laws::places_have_one_way_and_text;
-pub use tsa_place::{Holder, Layout, declared_thing};

@@ -2,8 +2,8 @@
 use Rattle.std.proofs.Common.{◌≡◌, ◌∙◌, ℕ, Bool, true, false, not, ◌||◌, if◌then◌else◌, List, [], ◌∷◌, ◌++◌, Option, refl, sym, ap, append_assoc, append-nil}
 use Rattle.std.specs.List.{list_any}
 use Rattle.tsa_way.specs.Ways.{Way}
-use Rattle.tsa_rules.specs.Programs.{Attr}
-use Rattle.tsa_rules.specs.Uses.{Access}
+use Rattle.tsa_core.specs.Programs.{Attr}
+use Rattle.tsa_core.specs.Uses.{Access}
 use Rattle.tsa_rules.specs.declared.mark.Mark.{Mark}
 use Rattle.tsa_rules.specs.Attributes.{is_path}
 use Rattle.tsa_rules.specs.Marks.{mark_by}

@@ -2,10 +2,3 @@ pub mod Numbers
 pub mod Rows
 pub mod Notes
 pub mod Saying
-pub use Rattle.tsa_rules.specs.Marks
-pub use Rattle.tsa_rules.specs.Points
-pub use Rattle.tsa_rules.specs.Attributes
-pub use Rattle.tsa_rules.specs.TryVariables
-pub use Rattle.tsa_rules.specs.Cases
-pub use Rattle.tsa_rules.specs.declared.mark.Mark
-pub use Rattle.tsa_rules.specs.declared.case.Case

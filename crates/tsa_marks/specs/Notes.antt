@@ -1,8 +1,8 @@
 -- What the last row says of paths, and what it says after notes of the attributes of a called function, of accesses, and of the declaration of a local.
 use Rattle.std.specs.Prelude.{◌≡◌, ℕ, List, ◌++◌, Option, Some, None, slice_get}
 use Rattle.tsa_way.specs.Ways.{Way}
-use Rattle.tsa_rules.specs.Programs.{Attr}
-use Rattle.tsa_rules.specs.Uses.{Access}
+use Rattle.tsa_core.specs.Programs.{Attr}
+use Rattle.tsa_core.specs.Uses.{Access}
 use Rattle.tsa_path.specs.PathTables.{AreDifferent}
 use Rattle.tsa_rules.specs.Marks.{mark_by}
 use Rattle.tsa_seen.specs.Accesses.{Access as PlacedAccess}

@@ -1,8 +1,8 @@
 -- What a mark says after some notes of a path: each is about the path that it names.
 use Rattle.std.specs.Prelude.{◌≡◌, ℕ, Bool, false, ◌&&◌, List, [], ◌∷◌, Option, None, Some, slice_get, if◌then◌else◌}
 use Rattle.tsa_way.specs.Ways.{Way}
-use Rattle.tsa_rules.specs.Programs.{Attr}
-use Rattle.tsa_rules.specs.Uses.{Access}
+use Rattle.tsa_core.specs.Programs.{Attr}
+use Rattle.tsa_core.specs.Uses.{Access}
 use Rattle.tsa_path.specs.PathTables.{AreDifferent}
 use Rattle.tsa_rules.specs.Attributes.{is_path}
 use Rattle.tsa_rules.specs.Marks.{claim_in, with_attribute, with_declaration, with_left, with_right}

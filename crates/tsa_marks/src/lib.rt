@@ -13,4 +13,3 @@ mod numbers;
 pub use entries::Entry;
 pub use marks::Marks;
 pub use numbers::Numbers;
-pub use tsa_rules::{Mark, Role};

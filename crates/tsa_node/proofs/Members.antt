@@ -4,7 +4,7 @@ use Rattle.std.specs.Prelude.{option_and_then}
 use Rattle.tsa_tree.specs.types.Scopes.{Scope}
 use Rattle.tsa_scope.specs.Lookups.{members_at, numbered}
 use Rattle.tsa_way.specs.Ways.{Way}
-use Rattle.tsa_core.specs.Calls.{Layout}
+use Rattle.tsa_layout.specs.Calls.{Layout}
 use Rattle.tsa_core.specs.Uses.{field_guards}
 use Rattle.tsa_node.specs.Members.{found_guards}
 

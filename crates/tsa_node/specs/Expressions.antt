@@ -11,7 +11,7 @@ use Rattle.tsa_tree.specs.types.Expressions.{function_of}
 use Rattle.tsa_tree.specs.types.Scopes.{Scope, context_of, known_in}
 use Rattle.tsa_scope.specs.Lookups.{params_in}
 use Rattle.tsa_way.specs.Ways.{Way}
-use Rattle.tsa_core.specs.Calls.{Layout}
+use Rattle.tsa_layout.specs.Calls.{Layout}
 use Rattle.tsa_core.specs.Cells.{own_cell}
 use Rattle.tsa_core.specs.Programs.{Attr}
 use Rattle.tsa_core.specs.Uses.{access_guards, argument_ways}

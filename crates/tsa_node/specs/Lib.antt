@@ -2,9 +2,3 @@ pub mod Arguments
 pub mod Expressions
 pub mod Members
 pub mod Told
-pub use Rattle.tsa_core.specs.Cells
-pub use Rattle.tsa_core.specs.Meanings
-pub use Rattle.tsa_core.specs.Uses
-pub use Rattle.tsa_core.specs.Terms
-pub use Rattle.tsa_core.specs.Programs
-pub use Rattle.tsa_core.specs.Calls

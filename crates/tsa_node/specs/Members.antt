@@ -2,7 +2,7 @@
 use Rattle.std.specs.Prelude.{ℕ, List, [], Option, Some, None}
 use Rattle.tsa_tree.specs.declared.kind.ThingType.{ThingType}
 use Rattle.tsa_way.specs.Ways.{Way}
-use Rattle.tsa_core.specs.Calls.{Layout}
+use Rattle.tsa_layout.specs.Calls.{Layout}
 use Rattle.tsa_core.specs.Uses.{member_guards}
 
 abbrev pub found_guards : Layout → (owner : Option Way) → (struct : Option ℕ) → Option (ℕ × ThingType) → List (Option Way)

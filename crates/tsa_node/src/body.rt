@@ -2,8 +2,8 @@
 ghost use Rattle.std.specs.Prelude.{◌≡◌, true, ◌++◌, length, Some, None, slice_get, option_map, option_and_then, IfOk, OnOk};
 ghost use Rattle.tsa_core.specs.Meanings.{of_name};
 ghost use Rattle.tsa_core.specs.Uses.{guards_owned, member_guards, name_guards as spec_name_guards};
-ghost use Rattle.tsa_core.specs.Calls.{part_guards};
-ghost use Rattle.tsa_core.specs.Layouts.{structure_at};
+ghost use Rattle.tsa_layout.specs.Calls.{part_guards};
+ghost use Rattle.tsa_layout.specs.Layouts.{structure_at};
 ghost use Rattle.tsa_way.specs.Ways.{from};
 ghost use Rattle.tsa_way.specs.declared.path.Root.TheVariants as root;
 ghost use Rattle.tsa_scope.specs.Lookups.{members_at, numbered};
@@ -15,7 +15,7 @@ ghost use Rattle.tsa_node.specs.Members.{found_guards};
 ghost use Rattle.tsa_seen.specs.Seen.{a_value, member_of, thing_of};
 
 use tsa_base::NoMemory;
-use tsa_core::{Holder, Layout};
+use tsa_layout::{Holder, Layout};
 use tsa_operand::element_type;
 use tsa_resolve::owner;
 use tsa_seen::{NamedLocks, Seen, Thing, add_owned, copies, member_thing, named_thing, path_of};

@@ -8,4 +8,3 @@ mod body;
 
 pub use asked::{Operator, Sides, code_if, is_truth, operator_at};
 pub use body::Body;
-pub use tsa_core::declared_thing;

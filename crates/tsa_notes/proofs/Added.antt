@@ -2,7 +2,7 @@
 use Rattle.std.proofs.Common.{◌≡◌, ◌∙◌, ◌<◌, ℕ, ◌+◌, ◌-◌, arith, List, [], None, refl, ap, subst}
 use Rattle.tsa_way.specs.Ways.{Way}
 use Rattle.tsa_core.specs.Bodies.{Known}
-use Rattle.tsa_marks.specs.Marks.{no_mark}
+use Rattle.tsa_rules.specs.Marks.{no_mark}
 use Rattle.tsa_marks.specs.Notes.{IsLastRow, IsRow, NotesAttributes, NotesLeft, NotesRight}
 use Rattle.tsa_marks.specs.Rows.{KeepsRows, Rows, last_row, mark_in, rows_in}
 use Rattle.tsa_deed.specs.Bodies.{Around}

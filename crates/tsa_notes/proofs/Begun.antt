@@ -9,7 +9,7 @@ use Rattle.tsa_tree.specs.types.Scopes.{Scope}
 use Rattle.tsa_core.specs.Bodies.{declared, point_by, set_to}
 use Rattle.tsa_core.specs.Meanings.{meaning}
 use Rattle.tsa_core.specs.Terms.{Term, constant, variable, answer, global, member, element, target, load, address, converted, prefixed, joined}
-use Rattle.tsa_marks.specs.Points.{local_begun}
+use Rattle.tsa_rules.specs.Points.{local_begun}
 use Rattle.tsa_notes.specs.Points.{begun_by}
 
 none_set : (t : Term) (o : Option BinaryOp) (kind : Kind) (right : Term) → None ≡ local_begun (set_to t o kind right)

@@ -3,4 +3,3 @@ pub mod Begun
 pub mod Added
 pub mod NotedPoints
 pub mod Along
-pub use Rattle.tsa_roles.proofs.OfPrograms

@@ -17,11 +17,11 @@ use Rattle.tsa_lead.proofs.Laid.{by_last}
 use Rattle.tsa_path.specs.PathTables.{AreDifferent}
 use Rattle.tsa_points.specs.CoreLaws.{known_of}
 use Rattle.tsa_points.specs.Points.{PlacedPoint, placed}
-use Rattle.tsa_marks.specs.Attributes as rules
-use Rattle.tsa_marks.specs.Points.{local_begun, try_variable_at}
-use Rattle.tsa_marks.specs.TryVariables.{AreInOrder, begun_count}
-use Rattle.tsa_roles.specs.Duty.{Duty}
-use Rattle.tsa_roles.specs.Duties.{Tells}
+use Rattle.tsa_rules.specs.Attributes as rules
+use Rattle.tsa_rules.specs.Points.{local_begun, try_variable_at}
+use Rattle.tsa_rules.specs.TryVariables.{AreInOrder, begun_count}
+use Rattle.tsa_told.specs.declared.duty.Duty.{Duty}
+use Rattle.tsa_told.specs.Duties.{Tells}
 use Rattle.tsa_roles.specs.Told.{AreRoles, Grows}
 use Rattle.tsa_seen.specs.Locks as seen
 use Rattle.tsa_marks.specs.Rows.{rows_in}

@@ -9,11 +9,11 @@ use Rattle.tsa_way.specs.Ways.{Way}
 use Rattle.tsa_core.specs.Bodies.{Known}
 use Rattle.tsa_core.specs.Programs.{Attr}
 use Rattle.tsa_core.specs.Uses.{init_uses, uses_by}
-use Rattle.tsa_marks.specs.Attributes.{all_as_called}
+use Rattle.tsa_rules.specs.Attributes.{all_as_called}
 use Rattle.tsa_seen.specs.Accesses.{Access as PlacedAccess}
-use Rattle.tsa_deed.specs.Arguments.{arguments_of}
-use Rattle.tsa_deed.specs.Accesses.{reads, written}
-use Rattle.tsa_deed.proofs.Spans.{reads_are_those, writes_are_those}
+use Rattle.tsa_node.specs.Arguments.{arguments_of}
+use Rattle.tsa_use.specs.Accesses.{reads, written}
+use Rattle.tsa_use.proofs.Spans.{reads_are_those, writes_are_those}
 use Rattle.tsa_marks.specs.Notes.{core_access, NotesAttributes, NotesDeclaration, NotesLeft, NotesRight, IsLastRow}
 use Rattle.tsa_marks.specs.Rows.{Rows}
 use Rattle.tsa_deed.specs.Bodies.{Around}

@@ -8,7 +8,7 @@ use Rattle.tsa_core.specs.Programs.{Program}
 use Rattle.tsa_path.specs.PathTables.{AreDifferent}
 use Rattle.tsa_points.specs.CoreLaws.{known_of}
 use Rattle.tsa_points.specs.Points.{PlacedPoint}
-use Rattle.tsa_marks.specs.TryVariables.{AreInOrder}
+use Rattle.tsa_rules.specs.TryVariables.{AreInOrder}
 use Rattle.tsa_roles.specs.Told.{AreRoles}
 use Rattle.tsa_marks.specs.Rows.{rows_in}
 use Rattle.tsa_deed.specs.Bodies.{Around}

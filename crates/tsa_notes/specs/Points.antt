@@ -7,10 +7,10 @@ use Rattle.tsa_core.specs.Programs.{Attr, Program}
 use Rattle.tsa_core.specs.Uses.{Uses, uses_of}
 use Rattle.tsa_points.specs.CoreLaws.{known_of}
 use Rattle.tsa_points.specs.Points.{PlacedPoint}
-use Rattle.tsa_marks.specs.Attributes.{all_as_called}
-use Rattle.tsa_marks.specs.Points.{attrs_called}
+use Rattle.tsa_rules.specs.Attributes.{all_as_called}
+use Rattle.tsa_rules.specs.Points.{attrs_called}
 use Rattle.tsa_seen.specs.Locks.{tries}
-use Rattle.tsa_deed.specs.Expressions.{attributes_at}
+use Rattle.tsa_node.specs.Expressions.{attributes_at}
 use Rattle.tsa_deed.specs.Bodies.{Around}
 use Rattle.tsa_deed.specs.Ways.{called_at}
 

@@ -9,6 +9,3 @@ mod visit;
 
 pub use notes::{Noted, Notes};
 pub use points::{Frame, notes_of};
-pub use tsa_deed::Around;
-pub use tsa_marks::{Entry, Marks, Numbers};
-pub use tsa_roles::Roles;

@@ -10,7 +10,8 @@ ghost use Rattle.tsa_tree.specs.statements.Shapes.{action_shape};
 
 use crate::visit::Visit;
 use tsa_base::NoMemory;
-use tsa_deed::{calling, reads, writes};
+use tsa_deed::calling;
+use tsa_use::{reads, writes};
 use tsa_marks::{Marks, Numbers};
 use tsa_seen::{Footprint, Standing};
 use tsa_tree::expr::Expr;

@@ -23,9 +23,9 @@ use Rattle.tsa_way.specs.LockPaths as path
 use Rattle.tsa_way.specs.LockPaths.{Led, meant, member_step, element_step, in_range, or_variable, index_step, name_way, leads}
 use Rattle.tsa_way.specs.declared.path.PathStep.{PathStep}
 use Rattle.tsa_way.specs.declared.path.PathStep.TheVariants.{Constant, Variable}
-use Rattle.tsa_core.specs.Spot.TheVariants.{Place}
-use Rattle.tsa_core.specs.Calls.{Layout, global_place, element_place, index_in}
-use Rattle.tsa_core.specs.Stores.{Store}
+use Rattle.tsa_layout.specs.declared.evaluation.Spot.TheVariants.{Place}
+use Rattle.tsa_layout.specs.Calls.{Layout, global_place, element_place, index_in}
+use Rattle.tsa_layout.specs.Stores.{Store}
 use Rattle.tsa_core.specs.Kinds.{Setting}
 use Rattle.tsa_core.specs.Meanings.{loaded, of_number, of_name, of_prefix, of_field, of_index, meaning}
 use Rattle.tsa_core.specs.Terms.{Term, target, address, Sense}

@@ -24,9 +24,9 @@ use Rattle.tsa_way.specs.Ways.{Way, from, onward}
 use Rattle.tsa_way.specs.declared.path.PathStep.{PathStep}
 use Rattle.tsa_way.specs.declared.path.PathStep.TheVariants.{Constant}
 use Rattle.tsa_way.specs.declared.path.Root.TheVariants.{Local, Owner}
-use Rattle.tsa_core.specs.Spot.TheVariants.{Place}
-use Rattle.tsa_core.specs.Calls.{Layout, index_in}
-use Rattle.tsa_core.specs.Stores.{Store}
+use Rattle.tsa_layout.specs.declared.evaluation.Spot.TheVariants.{Place}
+use Rattle.tsa_layout.specs.Calls.{Layout, index_in}
+use Rattle.tsa_layout.specs.Stores.{Store}
 use Rattle.tsa_core.specs.Kinds.{Setting}
 use Rattle.tsa_core.specs.Meanings.{is_int, loaded, null_pointer, of_number, of_name, as_kind, meaning, arguments}
 use Rattle.tsa_core.specs.Terms.{Term, converted, Sense}

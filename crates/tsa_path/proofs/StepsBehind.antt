@@ -6,7 +6,7 @@ use Rattle.tsa_tree.specs.declared.kind.ThingType.{ThingType}
 use Rattle.tsa_tree.specs.expressions.Syntax.{Expression}
 use Rattle.tsa_tree.specs.types.Scopes.{Scope}
 use Rattle.tsa_tree.specs.types.Types.{single}
-use Rattle.tsa_way.specs.Lookups.{members_at, numbered}
+use Rattle.tsa_scope.specs.Lookups.{members_at, numbered}
 use Rattle.tsa_way.specs.LockPaths as path
 use Rattle.tsa_way.specs.LockPaths.{Led, led, pointed, member_step, element_step, to_element, index_step}
 use Rattle.tsa_way.specs.Ways.{Way, onward}

@@ -9,12 +9,3 @@ pub mod Written
 pub mod Values
 pub mod ValueExamples
 pub mod ArgumentLaws
-pub use Rattle.tsa_core.specs.Cells
-pub use Rattle.tsa_core.specs.Meanings
-pub use Rattle.tsa_core.specs.Programs
-pub use Rattle.tsa_core.specs.Terms
-pub use Rattle.tsa_core.specs.Uses
-pub use Rattle.tsa_core.specs.Calls
-pub use Rattle.tsa_way.specs.Ways
-pub use Rattle.tsa_way.specs.LockPaths
-pub use Rattle.tsa_core.specs.Layouts

@@ -22,4 +22,3 @@ pub use set::PathSet;
 pub use substitution::{constant_path, substitute};
 pub use table::PathTable;
 pub use texts::path_text;
-pub use tsa_way::{Led, Path, PathStep, Root, entry_type, meant, member_type, result_type};

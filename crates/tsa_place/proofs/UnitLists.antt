@@ -13,9 +13,9 @@ use Rattle.tsa_tree.specs.units.Syntax.{UnitItem, structure_item, alias_item, en
 use Rattle.tsa_fill.specs.declared.refusal.PlaceRefusal.{PlaceRefusal}
 use Rattle.tsa_fill.specs.declared.refusal.PlaceRefusal.TheVariants.{TooMany, NoMemory}
 use Rattle.tsa_place.specs.Answers.{Places, GivesAll}
-use Rattle.tsa_fill.specs.Calls.{Layout}
-use Rattle.tsa_fill.specs.Parts.{unless, unless_taken, members_after}
-use Rattle.tsa_fill.specs.Items.{worth, enumerators_behind, behind_data}
+use Rattle.tsa_layout.specs.Calls.{Layout}
+use Rattle.tsa_layout.specs.Parts.{unless, unless_taken, members_after}
+use Rattle.tsa_item.specs.Items.{worth, enumerators_behind, behind_data}
 use Rattle.tsa_place.specs.Units.{data_placed, too_many_at, or_behind, placed_behind}
 
 -- names change no struct

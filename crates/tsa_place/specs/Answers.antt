@@ -5,8 +5,8 @@ use Rattle.tsa_tree.specs.types.Scopes.{Scope}
 use Rattle.tsa_tree.specs.units.Syntax.{UnitItem}
 use Rattle.tsa_fill.specs.declared.refusal.PlaceRefusal.{PlaceRefusal}
 use Rattle.tsa_fill.specs.declared.refusal.PlaceRefusal.TheVariants.{TooMany, NoMemory}
-use Rattle.tsa_fill.specs.Calls.{Layout}
-use Rattle.tsa_fill.specs.Items.{behind_data}
+use Rattle.tsa_layout.specs.Calls.{Layout}
+use Rattle.tsa_item.specs.Items.{behind_data}
 use Rattle.tsa_place.specs.Units.{data_placed, too_many_at}
 
 -- an item is gone through, or there are too many places at a declarator in it

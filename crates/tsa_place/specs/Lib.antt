@@ -1,20 +1,3 @@
 pub mod Units
 pub mod Examples
 pub mod Answers
-pub use Rattle.tsa_fill.specs.Items
-pub use Rattle.tsa_fill.specs.Units as FillUnits
-pub use Rattle.tsa_fill.specs.Placed
-pub use Rattle.tsa_fill.specs.Calls
-pub use Rattle.tsa_fill.specs.Layouts
-pub use Rattle.tsa_fill.specs.Places
-pub use Rattle.tsa_fill.specs.Standing
-pub use Rattle.tsa_fill.specs.Holder
-pub use Rattle.tsa_fill.specs.Parts
-pub use Rattle.tsa_fill.specs.LockPaths
-pub use Rattle.tsa_fill.specs.PathStep
-pub use Rattle.tsa_fill.specs.Root
-pub use Rattle.tsa_fill.specs.Ways
-pub use Rattle.tsa_fill.specs.Arguments
-pub use Rattle.tsa_fill.specs.Lookups
-pub use Rattle.tsa_fill.specs.Spot
-pub use Rattle.tsa_fill.specs.Stores

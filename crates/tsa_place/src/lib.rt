@@ -7,4 +7,3 @@ mod unit;
 
 pub use laws::places_are_as_written;
 pub use places::Places;
-pub use tsa_fill::{Guard, Holder, Layout, PlaceKind, PlaceRefusal, declared_thing};

@@ -6,6 +6,3 @@ pub mod Meanings
 pub mod UsesKept
 pub mod Known
 pub mod LocalNames
-pub use Rattle.tsa_core.proofs.NoFailure
-pub use Rattle.tsa_core.proofs.KindTests
-pub use Rattle.tsa_core.proofs.UnitScopes

@@ -3,4 +3,3 @@ pub mod Walks
 pub mod Laws
 pub mod Stable
 pub mod CoreLaws
-pub use Rattle.tsa_core.specs.Programs

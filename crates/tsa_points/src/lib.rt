@@ -7,5 +7,4 @@ mod walk;
 
 pub use laws::{points_are_of_the_core, steps_are_the_points};
 pub use stable::stable_locals;
-pub use tsa_steps::{Step, body_steps};
 pub use walk::Walk;

@@ -20,8 +20,8 @@ use Rattle.tsa_seen.specs.Premises.{first}
 use Rattle.tsa_seen.specs.declared.standing.Standing.{Standing}
 use Rattle.tsa_seen.specs.declared.standing.Standing.TheVariants.{Whole, Begins, Test, Operand, Inside}
 use Rattle.tsa_seen.specs.Standing.{under_not, beside}
-use Rattle.tsa_judge.specs.Expressions.{View, constant, own, parts, arguments, expression}
-use Rattle.tsa_argument.proofs.NoneFails.{none_of_both, none_of_first}
+use Rattle.tsa_node.specs.Expressions.{View, constant, own, parts, arguments, expression}
+use Rattle.tsa_use.proofs.NoneFails.{none_of_both, none_of_first}
 
 -- nothing fails at an expression or in its parts
 abbrev pub Keeps : View → Standing → Bool → Expression → Type 0

@@ -23,4 +23,3 @@ pub mod UnitsRun
 pub mod Worked
 pub mod Laying
 pub mod EachOnce
-pub use Rattle.tsa_judge.proofs.ItemLists

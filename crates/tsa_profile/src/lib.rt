@@ -10,6 +10,4 @@ pub use laws::{
     profiles_are_runnable, start_values_have_their_kinds, starts_are_well_typed,
 };
 pub use profile::{fit, fit_with};
-pub use tsa_argument::{Failure, NamedLock, NamedLocks, ProfileCode, named_locks};
-pub use tsa_judge::{Ground, ProfileRefusal, Typed, function_number};
 pub use unit::Fit;

@@ -4,14 +4,14 @@ ghost use Rattle.tsa_argument.specs.Arguments.{argument_of};
 ghost use Rattle.tsa_core.specs.Programs.{program_of};
 ghost use Rattle.tsa_place.specs.Units.{placed_in};
 ghost use Rattle.tsa_profile.specs.Paths.{paths_if};
-ghost use Rattle.tsa_judge.specs.Units.{refusal_with};
+ghost use Rattle.tsa_ground.specs.Units.{refusal_with};
 ghost use Rattle.tsa_tree.specs.expressions.Shapes.{shape};
 ghost use Rattle.tsa_tree.specs.units.Shapes.{item_shapes};
 
 use std::alloc::Global;
 use tsa_argument::{Parameter, Unit};
 use tsa_base::{NoMemory, Value};
-use tsa_judge::Typed;
+use tsa_types::Typed;
 use tsa_path::PathTable;
 use tsa_place::Places;
 use tsa_tree::expr::Expr;

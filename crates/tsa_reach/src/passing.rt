@@ -10,7 +10,8 @@ use crate::lanes::Lanes;
 use crate::row::Row;
 use tsa_base::NoMemory;
 use tsa_blocks::Block;
-use tsa_rules::{Asked, Outcome, Role, Status, Statuses};
+use tsa_rules::{Asked, Role, Status, Statuses};
+use tsa_links::Outcome;
 
 /// A point, and an outcome of what is done there.
 #[derive(Clone, Copy)]

@@ -5,7 +5,7 @@ use Rattle.tsa_tree.specs.types.Symbols.{number_of}
 use Rattle.tsa_tree.specs.types.Units.{behind_item}
 use Rattle.tsa_tree.specs.units.Syntax.{UnitItem, structure_item, alias_item, enumeration_item, global_item, function_item, body_item}
 use Rattle.tsa_core.specs.Programs.{Attr}
-use Rattle.tsa_profile.specs.Units.{Unit, attributes_behind}
+use Rattle.tsa_ground.specs.Units.{Unit, attributes_behind}
 use Rattle.tsa_site.specs.Sites.{Site, or_later, site_among, site_at}
 use Rattle.tsa_bodies.specs.Bodies.{BodyText, bodies_from, body_by, body_text}
 

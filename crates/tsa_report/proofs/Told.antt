@@ -10,7 +10,7 @@ use Rattle.tsa_rules.specs.Points.{points_of}
 use Rattle.tsa_rules.specs.Warnings.{Warning}
 use Rattle.tsa_failures.specs.Failures.{FailsThere}
 use Rattle.tsa_failures.proofs.OfBodies.{rules_fail_at_points_of_bodies}
-use Rattle.tsa_profile.specs.Units.{unit_of}
+use Rattle.tsa_ground.specs.Units.{unit_of}
 use Rattle.tsa_profile.specs.Paths.{paths_of}
 use Rattle.tsa_site.specs.Laws.{StandsFor, body_at, result_at}
 use Rattle.tsa_site.specs.Sites.{Site, site_of, within}

@@ -1,9 +1,10 @@
 //! Units that are reported of.
 ghost use Rattle.std.specs.Prelude.{◌≡◌, Ok};
-ghost use Rattle.tsa_core.specs.Units.{placed_in};
+ghost use Rattle.tsa_place.specs.Units.{placed_in};
 ghost use Rattle.tsa_tree.specs.units.Shapes.{item_shapes};
 
-use tsa_bodies::{Fit, Places};
+use tsa_profile::Fit;
+use tsa_place::Places;
 
 /// A unit in the profile with its places.
 pub struct Ready<'a> {

@@ -4,10 +4,10 @@ ghost use Rattle.std.specs.List.{flat_map};
 ghost use Rattle.tsa_bodies.specs.Bodies.{BodyText, IsToldBody, Tells, body_by, names_of};
 ghost use Rattle.tsa_bodies.specs.Coursed.{course_of};
 ghost use Rattle.tsa_bodies.specs.Courses.{IsInFrontOf, course_behind, course_outset};
-ghost use Rattle.tsa_bodies.specs.Paths.{paths_of};
+ghost use Rattle.tsa_profile.specs.Paths.{paths_of};
 ghost use Rattle.tsa_core.specs.Programs.{program_of};
-ghost use Rattle.tsa_core.specs.Units.{placed_in};
-ghost use Rattle.tsa_profile.specs.Units.{unit_of};
+ghost use Rattle.tsa_place.specs.Units.{placed_in};
+ghost use Rattle.tsa_ground.specs.Units.{unit_of};
 ghost use Rattle.tsa_report.specs.Lined.{warned_of};
 ghost use Rattle.tsa_report.specs.Lines.{warning_line};
 ghost use Rattle.tsa_report.specs.Warned.{AreWarned, IsBodyWarned, IsWarned, Warned as Lines, both};
@@ -19,10 +19,14 @@ use crate::body::push_place;
 use crate::unit::Ready;
 use std::alloc::Global;
 use tsa_base::{LineStarts, NoMemory};
-use tsa_bodies::{Course, Fit, Places, Teller, ToldBody, UnitTables};
+use tsa_bodies::{Course, Teller, ToldBody};
+use tsa_profile::Fit;
+use tsa_place::Places;
+use tsa_held::UnitTables;
 use tsa_lines::{Subject, push_warning};
 use tsa_tree::item::Item;
-use tsa_warn::{RuleFailure, warnings_of};
+use tsa_failures::RuleFailure;
+use tsa_warn::warnings_of;
 
 /// The lines of warnings, and how many they are.
 #[derive(Drop)]

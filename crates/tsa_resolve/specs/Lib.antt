@@ -5,4 +5,3 @@ pub mod Judging
 pub mod Locks
 pub mod Parts
 pub mod Verdicts
-pub use Rattle.tsa_scope.specs.Lookups

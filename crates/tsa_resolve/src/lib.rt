@@ -15,7 +15,5 @@ pub use declared::{Length, Written, tag_failure, typed_failure};
 pub use expressions::View;
 pub use found::{Constant, Found, entry_type, number_type, number_value, result_type};
 pub use refusal::{TypeRefusal, judged, refused};
-pub use tsa_operand::{goes_to, is_integer_kind, place, single, struct_of};
-pub use tsa_scope::{Names, Scope, Symbols, outset};
 pub use values::value_of;
 pub use verdicts::{at, thing_of, worked_binary, worked_prefix};

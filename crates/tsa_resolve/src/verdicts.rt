@@ -9,10 +9,7 @@ ghost use Rattle.tsa_tree.specs.types.Initialisers.{is_index as spec_is_index};
 
 use crate::found::{Constant, Found, named};
 use tsa_base::Span;
-use tsa_operand::{
-    binary_type, breaks_binary, breaks_index, breaks_prefix, element_type, operate, operate_prefix,
-    prefix_type, truth,
-};
+use tsa_operand::{binary_type, breaks_binary, breaks_index, breaks_prefix, element_type, operate, operate_prefix, prefix_type, truth};
 use tsa_tree::expr::{BinaryOp, UnaryOp};
 use tsa_tree::kind::ExpressionType;
 use tsa_tree::meaning::Entry;

@@ -7,5 +7,3 @@ mod variables;
 
 pub use laws::roles_are_of_the_program;
 pub use roles::Roles;
-pub use tsa_rules::Role;
-pub use tsa_told::{Duty, duty_at};

@@ -23,4 +23,3 @@ pub mod CasePlaces
 pub mod Members
 pub mod KeptTries
 pub mod QuietCases
-pub use Rattle.tsa_core.proofs.MappedLists

@@ -24,5 +24,3 @@ pub mod LockLaws
 pub mod KeptLaws
 pub mod Legends
 pub mod OrderLaws
-pub use Rattle.tsa_core.specs.Programs
-pub use Rattle.tsa_core.specs.Uses

@@ -34,4 +34,3 @@ pub use mark::{Claim, Mark};
 pub use rule::{Rule, rule_of};
 pub use status::Status;
 pub use statuses::Statuses;
-pub use tsa_links::Outcome;

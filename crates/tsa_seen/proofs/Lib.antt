@@ -1,1 +1,0 @@
-pub use Rattle.tsa_path.proofs.Numbers

@@ -3,10 +3,3 @@ pub mod Seen
 pub mod Locks
 pub mod Premises
 pub mod Standing
-pub use Rattle.tsa_path.specs.Cells
-pub use Rattle.tsa_path.specs.Meanings
-pub use Rattle.tsa_path.specs.Programs
-pub use Rattle.tsa_path.specs.Uses
-pub use Rattle.tsa_path.specs.PathTables
-pub use Rattle.tsa_path.specs.Substitution
-pub use Rattle.tsa_path.specs.declared.refusal.InternRefusal

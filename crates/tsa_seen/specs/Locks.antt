@@ -3,8 +3,8 @@ use Rattle.std.specs.Prelude.{Bool, true, false, List, [], ◌∷◌, Option, op
 use Rattle.std.specs.List.{list_any}
 use Rattle.tsa_tree.specs.declared.attr.AttrKind.{AttrKind}
 use Rattle.tsa_tree.specs.declared.attr.AttrKind.TheVariants as attr
-use Rattle.tsa_path.specs.Ways.{Way}
-use Rattle.tsa_path.specs.Programs.{Attr}
+use Rattle.tsa_way.specs.Ways.{Way}
+use Rattle.tsa_core.specs.Programs.{Attr}
 use Rattle.tsa_path.specs.Substitution.{substituted}
 
 abbrev pub is_empty : {A : Type 0} → List A → Bool

@@ -4,13 +4,13 @@ use Rattle.tsa_tree.specs.declared.kind.ExpressionType.{ExpressionType}
 use Rattle.tsa_tree.specs.expressions.Syntax.{Expression}
 use Rattle.tsa_tree.specs.types.Expressions.{owner}
 use Rattle.tsa_tree.specs.types.Scopes.{Scope}
-use Rattle.tsa_path.specs.LockPaths.{Led, leads, meant, member_step}
-use Rattle.tsa_path.specs.Ways.{Way}
-use Rattle.tsa_path.specs.Calls.{Layout}
-use Rattle.tsa_path.specs.Cells.{cells_read, inner_cells}
-use Rattle.tsa_path.specs.Meanings.{is_cell, is_place, meaning, null_pointer, of_field, of_type}
-use Rattle.tsa_path.specs.Terms.{Sense}
-use Rattle.tsa_path.specs.Uses.{access_guards, field_guards}
+use Rattle.tsa_way.specs.LockPaths.{Led, leads, meant, member_step}
+use Rattle.tsa_way.specs.Ways.{Way}
+use Rattle.tsa_layout.specs.Calls.{Layout}
+use Rattle.tsa_core.specs.Cells.{cells_read, inner_cells}
+use Rattle.tsa_core.specs.Meanings.{is_cell, is_place, meaning, null_pointer, of_field, of_type}
+use Rattle.tsa_core.specs.Terms.{Sense}
+use Rattle.tsa_core.specs.Uses.{access_guards, field_guards}
 use Rattle.tsa_seen.specs.Accesses.{Access}
 use Rattle.tsa_seen.specs.declared.thing.Thing.{Thing}
 

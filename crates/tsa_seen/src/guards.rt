@@ -1,10 +1,10 @@
 //! The paths of guards as a body has them: that of a struct object stands before those of its members' guards.
 ghost use Rattle.std.specs.Prelude.{◌≡◌, ◌++◌, option_map, option_and_then, IfOk, OnOk};
-ghost use Rattle.tsa_path.specs.Uses.{guards_owned, owned_by};
+ghost use Rattle.tsa_core.specs.Uses.{guards_owned, owned_by};
 
 use std::alloc::Global;
 use tsa_base::NoMemory;
-use tsa_path::{Path, Root};
+use tsa_way::{Path, Root};
 
 /// A path that begins at a struct object, behind the path to that; none where that has none. Any other path stays the same.
 fn owned(alloc: Global, owner: Option<&Path>, path: &Path) -> Result<Option<Path>, NoMemory>

@@ -23,5 +23,4 @@ pub use thing::{
     Thing, binary_thing, called_thing, is_loaded, member_thing, named_thing, prefix_thing,
     value_thing,
 };
-pub use tsa_path::{InternRefusal, Path, PathSet, PathTable, substitute};
 pub use uses::Uses;

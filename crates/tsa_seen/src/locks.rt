@@ -6,7 +6,8 @@ ghost use Rattle.tsa_seen.specs.Locks.{is_empty, is_try as spec_is_try, lacks_pa
 use std::alloc::Global;
 use std::marker::Model;
 use tsa_base::NoMemory;
-use tsa_path::{Path, substitute};
+use tsa_way::Path;
+use tsa_path::substitute;
 use tsa_tree::attr::AttrKind;
 
 /// A lock that an attribute of a function names: the path to it, where it has one; of a try, the result for which it is taken.
@@ -28,7 +29,7 @@ impl Drop for NamedLock {
 }
 
 impl Model for NamedLock {
-    ghost use Rattle.tsa_path.specs.Programs.{Attr};
+    ghost use Rattle.tsa_core.specs.Programs.{Attr};
 
     ghost Value = { Attr };
 
@@ -49,7 +50,7 @@ impl Drop for NamedLocks {
 
 impl Model for NamedLocks {
     ghost use Rattle.std.specs.Prelude.{List};
-    ghost use Rattle.tsa_path.specs.Programs.{Attr};
+    ghost use Rattle.tsa_core.specs.Programs.{Attr};
 
     ghost Value = { List Attr };
 

@@ -1,7 +1,7 @@
 //! What is seen of an expression on the way to its cells.
 ghost use Rattle.std.specs.Prelude.{◌≡◌, ◌++◌, None, [], true, false, not, option_map, if◌then◌else◌, IfOk, OnOk};
 ghost use Rattle.tsa_tree.specs.declared.expr.UnaryOp.TheVariants as prefix;
-ghost use Rattle.tsa_path.specs.Meanings.{of_prefix};
+ghost use Rattle.tsa_core.specs.Meanings.{of_prefix};
 ghost use Rattle.tsa_seen.specs.Seen.{a_value, loaded as spec_loaded, meant_as as spec_meant_as, own_access, thing_of, typed};
 
 use crate::access::{Access, Accesses};
@@ -10,7 +10,7 @@ use crate::thing::{Thing, prefix_thing};
 use std::alloc::Global;
 use std::marker::Model;
 use tsa_base::{NoMemory, Span};
-use tsa_path::{Led, Path, meant};
+use tsa_way::{Led, Path, meant};
 use tsa_tree::expr::UnaryOp;
 
 /// What an expression is, where it leads, and the guards of its access.

@@ -1,13 +1,13 @@
 //! What expressions are: their types, and whether they stand for places.
 ghost use Rattle.std.specs.Prelude.{◌≡◌, ◌&&◌};
-ghost use Rattle.tsa_path.specs.Meanings.{is_cell as spec_is_cell, of_call, of_name, of_prefix, to_member};
+ghost use Rattle.tsa_core.specs.Meanings.{is_cell as spec_is_cell, of_call, of_name, of_prefix, to_member};
 ghost use Rattle.tsa_tree.specs.types.Operands.{binary_type as spec_binary_type};
 ghost use Rattle.tsa_tree.specs.declared.kind.Kind.TheVariants as type;
 ghost use Rattle.tsa_tree.specs.types.Types.{value as spec_value};
 ghost use Rattle.tsa_seen.specs.Seen.{thing_of, typed, value_of};
 
 use tsa_operand::{binary_type, prefix_type, value};
-use tsa_path::{entry_type, member_type, result_type};
+use tsa_resolve::{entry_type, member_type, result_type};
 use tsa_tree::expr::{BinaryOp, UnaryOp};
 use tsa_tree::kind::{ExpressionType, Kind, ThingType};
 use tsa_tree::meaning::{Entry, Meaning};

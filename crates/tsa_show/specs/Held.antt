@@ -18,7 +18,7 @@ use Rattle.tsa_names.specs.DeclaredNames.{text_by}
 use Rattle.tsa_texts.specs.Orders.{IsToldBefore, texts_of}
 use Rattle.tsa_texts.specs.Ranks.{numbers_of}
 use Rattle.tsa_bodies.specs.Bodies.{BodyText, bodies_of, names_of}
-use Rattle.tsa_bodies.specs.Paths.{paths_of}
+use Rattle.tsa_profile.specs.Paths.{paths_of}
 use Rattle.tsa_report.specs.Lines.{held_line}
 use Rattle.tsa_show.specs.Pieces.{Pieces}
 

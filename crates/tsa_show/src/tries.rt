@@ -8,7 +8,8 @@ ghost use Rattle.tsa_way.specs.Ways.{Way};
 
 use std::alloc::Global;
 use tsa_base::NoMemory;
-use tsa_bodies::{Role, ToldBody};
+use tsa_rules::Role;
+use tsa_bodies::ToldBody;
 use tsa_tree::stmt::{Action, Point};
 
 /// Notes the name of a try variable where a point begins one.

@@ -14,7 +14,7 @@ use Rattle.tsa_tree.specs.units.Shapes.{item_shape, item_shapes}
 use Rattle.tsa_tree.specs.units.Syntax.{UnitItem, structure_item, alias_item, enumeration_item, global_item, function_item, body_item}
 use Rattle.tsa_core.specs.Programs.{Attr}
 use Rattle.tsa_function.specs.Functions.{outside_of}
-use Rattle.tsa_profile.specs.Units.{Unit, attributes_behind, unit_of}
+use Rattle.tsa_ground.specs.Units.{Unit, attributes_behind, unit_of}
 use Rattle.tsa_site.specs.Entering.{IsEntered, Enters, IsAt, Seeks}
 use Rattle.tsa_site.specs.Finding.{IsFound}
 use Rattle.tsa_site.specs.Knowing.{Knowledge, IsWithin, behind, entered}

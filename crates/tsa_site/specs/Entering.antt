@@ -8,7 +8,7 @@ use Rattle.tsa_tree.specs.types.Symbols.{number_of}
 use Rattle.tsa_tree.specs.units.Syntax.{UnitItem, body_item}
 use Rattle.tsa_way.specs.LockPaths.{stable_in}
 use Rattle.tsa_function.specs.Functions.{outside_of}
-use Rattle.tsa_profile.specs.Units.{Unit, stable_of}
+use Rattle.tsa_ground.specs.Units.{Unit, stable_of}
 use Rattle.tsa_site.specs.Knowing.{Knowledge, behind, entered}
 use Rattle.tsa_site.specs.Sites.{Site, site_at, within}
 use Rattle.tsa_site.specs.declared.inside.Inside.{Inside}

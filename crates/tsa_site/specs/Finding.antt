@@ -1,6 +1,6 @@
 -- The body that is asked for is given with what is known there.
 use Rattle.std.specs.Prelude.{ℕ, Option, Some, None}
-use Rattle.tsa_profile.specs.Units.{Unit}
+use Rattle.tsa_ground.specs.Units.{Unit}
 use Rattle.tsa_site.specs.Entering.{IsOf}
 use Rattle.tsa_site.specs.Sites.{Site}
 use Rattle.tsa_site.specs.declared.find.BodySite.{BodySite}

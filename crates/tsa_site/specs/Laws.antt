@@ -10,8 +10,8 @@ use Rattle.tsa_core.specs.Bodies.{Body, body_of, known_in_body}
 use Rattle.tsa_core.specs.Meanings.{Call}
 use Rattle.tsa_core.specs.Programs.{Attr, Function, program_of}
 use Rattle.tsa_core.specs.Uses.{uses_of}
-use Rattle.tsa_profile.specs.Expressions.{attributes_at}
-use Rattle.tsa_profile.specs.Units.{stable_of, unit_of}
+use Rattle.tsa_node.specs.Expressions.{attributes_at}
+use Rattle.tsa_ground.specs.Units.{stable_of, unit_of}
 use Rattle.tsa_rules.specs.Points.{attrs_called, points_of}
 use Rattle.tsa_rules.specs.TryVariables.{AreInOrder}
 use Rattle.tsa_site.specs.Sites.{Site, within, site_of}

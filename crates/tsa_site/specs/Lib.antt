@@ -3,8 +3,3 @@ pub mod Knowing
 pub mod Entering
 pub mod Finding
 pub mod Laws
-pub use Rattle.tsa_profile.specs.Paths
-pub use Rattle.tsa_profile.specs.Units
-pub use Rattle.tsa_profile.specs.Expressions
-pub use Rattle.tsa_profile.specs.Judging
-pub use Rattle.tsa_rules.specs.Points

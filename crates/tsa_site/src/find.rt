@@ -1,12 +1,12 @@
 //! The body of a function by its number.
 ghost use Rattle.std.specs.Prelude.{◌≡◌, [], None, Ok, Some, option_map, IfOk};
 ghost use Rattle.tsa_place.specs.Units.{placed_in};
-ghost use Rattle.tsa_profile.specs.Judging.{unit_at};
+ghost use Rattle.tsa_ground.specs.Judging.{unit_at};
 ghost use Rattle.tsa_site.specs.Entering.{IsAt, Seeks};
 ghost use Rattle.tsa_site.specs.Finding.{IsFound};
 ghost use Rattle.tsa_site.specs.Knowing.{outset_of};
 ghost use Rattle.tsa_site.specs.Sites.{site_of};
-ghost use Rattle.tsa_site.specs.Units.{unit_of};
+ghost use Rattle.tsa_ground.specs.Units.{unit_of};
 ghost use Rattle.tsa_tree.specs.types.Premises as types;
 ghost use Rattle.tsa_tree.specs.types.Units as typed;
 ghost use Rattle.tsa_tree.specs.units.Shapes.{item_shape, item_shapes};
@@ -17,7 +17,8 @@ use std::alloc::Global;
 use tsa_base::NoMemory;
 use tsa_function::Bodies;
 use tsa_place::Places;
-use tsa_profile::{Ground, Typed};
+use tsa_ground::Ground;
+use tsa_types::Typed;
 use tsa_tree::item::Item;
 
 /// The body of a function, with what is known where its statements begin.

@@ -2,8 +2,8 @@
 ghost use Rattle.std.specs.Prelude.{◌≡◌, None, true, is_some, IfOk};
 ghost use Rattle.tsa_base.specs.declared.token.Span.{Span as Close};
 ghost use Rattle.tsa_function.specs.Functions.{outside_of};
-ghost use Rattle.tsa_profile.specs.Judging.{unit_at};
-ghost use Rattle.tsa_profile.specs.Units.{Unit as Given};
+ghost use Rattle.tsa_ground.specs.Judging.{unit_at};
+ghost use Rattle.tsa_ground.specs.Units.{Unit as Given};
 ghost use Rattle.tsa_site.specs.Entering.{Enters, IsEntered};
 ghost use Rattle.tsa_site.specs.Knowing.{IsWithin, behind};
 ghost use Rattle.tsa_site.specs.Knowing.{Knowledge as Known};
@@ -18,7 +18,8 @@ ghost use Rattle.tsa_tree.specs.units.Syntax.{body_item};
 use crate::knowledge::{Knowledge, enter_head, pass, pass_function, stable_locals};
 use tsa_base::NoMemory;
 use tsa_function::{Outside, leave};
-use tsa_profile::{Ground, function_number};
+use tsa_ground::Ground;
+use tsa_types::function_number;
 use tsa_tree::item::{FnTree, Item};
 use tsa_tree::stmt::Stmt;
 

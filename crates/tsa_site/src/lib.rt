@@ -10,5 +10,3 @@ pub use find::{BodySite, site, site_in};
 pub use inside::{Inside, enter_body, enter_item, leave_body};
 pub use knowledge::{Knowledge, outset, pass};
 pub use laws::sites_are_of_the_program;
-pub use tsa_place::Places;
-pub use tsa_profile::{Fit, Ground, NamedLock, NamedLocks, Typed};

@@ -11,7 +11,7 @@ use Rattle.tsa_core.specs.Kinds.{scalar_kind}
 use Rattle.tsa_core.specs.Meanings.{Call}
 use Rattle.tsa_core.specs.PointKinds.{answer_of}
 use Rattle.tsa_core.specs.Programs.{Attr, Function, Program}
-use Rattle.tsa_core.specs.Stores.{is_value_of}
+use Rattle.tsa_layout.specs.Stores.{is_value_of}
 use Rattle.tsa_path.proofs.Same.{way_equal}
 use Rattle.tsa_rules.specs.declared.status.Status.{Status}
 use Rattle.tsa_rules.specs.declared.status.Status.TheVariants.{Free, Lent, Pending}

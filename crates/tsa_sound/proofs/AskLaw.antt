@@ -9,10 +9,10 @@ use Rattle.tsa_tree.specs.declared.kind.Kind.{Kind}
 use Rattle.tsa_tree.specs.declared.kind.Kind.TheVariants as type
 use Rattle.tsa_tree.specs.declared.number.Number.TheVariants as numeral
 use Rattle.tsa_way.specs.Ways.{Way}
-use Rattle.tsa_core.specs.Items as cell
+use Rattle.tsa_item.specs.Items as cell
 use Rattle.tsa_core.specs.Kinds.{scalar_kind}
 use Rattle.tsa_core.specs.Programs.{Attr, Program}
-use Rattle.tsa_core.specs.Stores.{is_value_of}
+use Rattle.tsa_layout.specs.Stores.{is_value_of}
 use Rattle.tsa_path.specs.Values.{of_truth}
 use Rattle.tsa_rules.specs.declared.status.Status.TheVariants.{Free}
 use Rattle.tsa_rules.specs.Attributes.{all_as_called, as_called, is_try}

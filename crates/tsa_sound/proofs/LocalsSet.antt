@@ -10,7 +10,7 @@ use Rattle.tsa_way.specs.declared.path.PathStep.{PathStep}
 use Rattle.tsa_way.specs.declared.path.PathStep.TheVariants.{Field, Constant, Variable, Follow}
 use Rattle.tsa_way.specs.declared.path.Root.{Root}
 use Rattle.tsa_way.specs.declared.path.Root.TheVariants.{Global, Local, Owner}
-use Rattle.tsa_core.specs.Calls.{element_place, index_in, place_in, take_root, take_step, take_steps}
+use Rattle.tsa_layout.specs.Calls.{element_place, index_in, place_in, take_root, take_step, take_steps}
 use Rattle.tsa_core.specs.Programs.{Function, Program}
 use Rattle.tsa_rules.specs.declared.status.Status.{Status}
 use Rattle.tsa_rules.specs.declared.status.Status.TheVariants as status

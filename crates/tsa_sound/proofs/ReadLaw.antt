@@ -9,13 +9,13 @@ use Rattle.tsa_tree.specs.declared.kind.Kind.{Kind}
 use Rattle.tsa_tree.specs.declared.kind.ThingType.{ThingType}
 use Rattle.tsa_way.specs.Ways.{Way}
 use Rattle.tsa_core.specs.Bodies.{set_cell}
-use Rattle.tsa_core.specs.Calls.{guards_of}
+use Rattle.tsa_layout.specs.Calls.{guards_of}
 use Rattle.tsa_core.specs.Kinds.{Setting, cell_kind, place_type}
 use Rattle.tsa_core.specs.Meanings.{Call}
 use Rattle.tsa_core.specs.PointKinds.{ActionHolds, IsCellOf, answer_of}
 use Rattle.tsa_core.specs.KindLaws.{signatures}
 use Rattle.tsa_core.specs.Programs.{Program}
-use Rattle.tsa_core.specs.Stores.{IsWellTyped}
+use Rattle.tsa_layout.specs.Stores.{IsWellTyped}
 use Rattle.tsa_core.specs.Terms.{Term}
 use Rattle.tsa_path.specs.ArgumentLaws.{KeepsConst}
 use Rattle.tsa_rules.specs.declared.status.Status.{Status}

@@ -11,7 +11,7 @@ use Rattle.tsa_layout.specs.declared.evaluation.Spot.TheVariants.{Place}
 use Rattle.tsa_way.specs.Ways.{Way, onward}
 use Rattle.tsa_way.specs.declared.path.PathStep.{PathStep}
 use Rattle.tsa_way.specs.declared.path.PathStep.TheVariants.{Field, Variable}
-use Rattle.tsa_core.specs.Calls.{Layout, element_place, global_place, index_in, member_place, pointee, take_root, take_step, take_steps}
+use Rattle.tsa_layout.specs.Calls.{Layout, element_place, global_place, index_in, member_place, pointee, take_root, take_step, take_steps}
 use Rattle.tsa_core.specs.Kinds.{Setting}
 use Rattle.tsa_core.specs.Meanings.{of_number}
 use Rattle.tsa_core.specs.Terms.{Term, constant, variable, answer, global, member, element, target, load, address, converted, prefixed, joined}

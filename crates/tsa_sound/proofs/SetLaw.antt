@@ -10,7 +10,7 @@ use Rattle.tsa_core.specs.KindLaws.{signatures}
 use Rattle.tsa_core.specs.Kinds.{Setting, binary_kind, value_kind}
 use Rattle.tsa_core.specs.PointKinds.{ActionHolds, answer_of}
 use Rattle.tsa_core.specs.Programs.{Program}
-use Rattle.tsa_core.specs.Stores.{is_value_of}
+use Rattle.tsa_layout.specs.Stores.{is_value_of}
 use Rattle.tsa_core.specs.Terms.{Term}
 use Rattle.tsa_rules.specs.declared.rule.Rule.TheVariants.{TS12}
 use Rattle.tsa_rules.specs.declared.status.Status.TheVariants.{Free}

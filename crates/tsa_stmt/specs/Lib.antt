@@ -1,3 +1,2 @@
-pub use Rattle.tsa_header.specs.Near
 pub mod Closings
 pub mod Kept

@@ -5,4 +5,3 @@ mod closings;
 mod reader;
 
 pub use reader::statements;
-pub use tsa_header::TextReader;

@@ -23,10 +23,7 @@ use std::alloc::Global;
 use tsa_base::NESTING_LIMIT;
 use tsa_expr::{Reader, SyntaxCode, SyntaxRefusal, refuse};
 use tsa_header::{Head, Headed, Marked, TextReader, leaf_statement, marked_test};
-use tsa_leaf::{
-    Body, Read, begins_statement, begins_type, closes_block, empty, in_body, is_else_at, locals,
-    simple_statement,
-};
+use tsa_leaf::{Body, Read, begins_statement, begins_type, closes_block, empty, in_body, is_else_at, locals, simple_statement};
 use tsa_local::{in_arena_before, keep, open_brace};
 use tsa_tree::sign::{Keyword, Sign};
 use tsa_tree::stmt::{Point, Stmt};

@@ -6,8 +6,8 @@ use Rattle.std.proofs.lemmas.List.Elements.{Contains-append_left, Contains-appen
 use Rattle.std.proofs.lemmas.Map.Views.{Contains-from_lookup}
 use Rattle.std.specs.Map.{lookup}
 use Rattle.tsa_marks.specs.Rows.{Rows, is_place, mark_in}
-use Rattle.tsa_marks.specs.Mark.{Mark}
-use Rattle.tsa_marks.specs.Marks.{no_mark}
+use Rattle.tsa_rules.specs.declared.mark.Mark.{Mark}
+use Rattle.tsa_rules.specs.Marks.{no_mark}
 use Rattle.tsa_stops.specs.Claims.{is_noted, noted, with_entry, with_found}
 
 abbrev At : Type 0

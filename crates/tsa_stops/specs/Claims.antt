@@ -1,6 +1,6 @@
 -- The points at which something claims or tries a path, path by path.
 use Rattle.std.specs.Prelude.{ℕ, Bool, ◌||◌, ◌++◌, List, [], ◌∷◌, Option, Some, None, is_some, slice_index_or, slice_set, if◌then◌else◌}
-use Rattle.tsa_marks.specs.Mark.{Mark}
+use Rattle.tsa_rules.specs.declared.mark.Mark.{Mark}
 
 -- a mark of a path that is claimed, or tried
 abbrev pub is_noted : Mark → Bool

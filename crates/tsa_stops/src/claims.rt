@@ -6,7 +6,8 @@ ghost use Rattle.tsa_marks.specs.Rows.{entry_of};
 use std::alloc::Global;
 use std::marker::Model;
 use tsa_base::NoMemory;
-use tsa_marks::{Entry, Mark, Marks};
+use tsa_marks::{Entry, Marks};
+use tsa_rules::Mark;
 
 /// Lists of points, by the numbers of paths. Contracts see the lists.
 #[derive(Drop)]

@@ -9,9 +9,7 @@ ghost use Rattle.tsa_told.specs.declared.worth.Worth.TheVariants as worth;
 ghost use Rattle.tsa_told.specs.Worths.{binary_gist, binary_worth as spec_binary_worth, gist_of, prefix_gist, worth_beside, worth_of};
 
 use crate::worth::{Worth, joined_worth, prefix_worth};
-use tsa_operand::{
-    binary_type, element_type, is_integer_kind, is_pointer_kind, prefix_type, value,
-};
+use tsa_operand::{binary_type, element_type, is_integer_kind, is_pointer_kind, prefix_type, value};
 use tsa_resolve::{entry_type, member_type, number_type, number_value, owner, result_type};
 use tsa_scope::Scope;
 use tsa_tree::expr::{BinaryOp, Expr, ExprKind, UnaryOp};

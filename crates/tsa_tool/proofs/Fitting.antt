@@ -15,7 +15,7 @@ use Rattle.tsa_tree.specs.types.FirstFailing.{first_failing}
 use Rattle.tsa_layout.specs.Calls.{Layout}
 use Rattle.tsa_place.specs.Units.{placed_in}
 use Rattle.tsa_seen.specs.declared.premise.Failure.{Failure as Misfit}
-use Rattle.tsa_profile.specs.Units.{refusal_of_profile}
+use Rattle.tsa_ground.specs.Units.{refusal_of_profile}
 use Rattle.tsa_tool.specs.declared.check.Refusal.{Refusal}
 use Rattle.tsa_tool.specs.declared.check.Refusal.TheVariants.{Lex, Types, Places, Profile}
 use Rattle.tsa_tool.specs.Checks.{fit_in, refusal_of, sized_in, tree_in, typed_in}

@@ -14,9 +14,9 @@ use bumpalo::Bump;
 use std::alloc::Global;
 use tsa_base::{LexCode, LineStarts, NoMemory};
 use tsa_expr::SyntaxCode;
-use tsa_profile::ProfileCode;
+use tsa_seen::ProfileCode;
 use tsa_report::{Ready, UnitLines, unit_lines};
-use tsa_types::TypeCode;
+use tsa_tree::premise::TypeCode;
 
 /// How an answer ends the program.
 #[derive(Clone, Copy)]

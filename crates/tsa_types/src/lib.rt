@@ -7,7 +7,4 @@ mod typed;
 mod unit;
 
 pub use functions::function_number;
-pub use tsa_resolve::TypeRefusal;
-pub use tsa_tree::meaning::Symbol;
-pub use tsa_tree::premise::TypeCode;
 pub use typed::{Typed, type_check};

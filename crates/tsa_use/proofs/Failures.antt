@@ -17,9 +17,9 @@ use Rattle.tsa_tree.specs.expressions.Shapes.{name_shape, shape, shapes}
 use Rattle.tsa_tree.specs.expressions.Syntax.{Identifier, Expression, Arguments, number, null, named, call, unary, binary, field, index}
 use Rattle.tsa_tree.specs.types.Expressions.{function_of}
 use Rattle.tsa_tree.specs.types.Scopes.{known_in}
-use Rattle.tsa_node.specs.Cells.{own_cell}
-use Rattle.tsa_node.specs.Meanings.{is_cell, is_loaded, meaning}
-use Rattle.tsa_node.specs.Uses.{access_guards}
+use Rattle.tsa_core.specs.Cells.{own_cell}
+use Rattle.tsa_core.specs.Meanings.{is_cell, is_loaded, meaning}
+use Rattle.tsa_core.specs.Uses.{access_guards}
 use Rattle.tsa_seen.specs.declared.premise.Failure.{Failure}
 use Rattle.tsa_seen.specs.declared.premise.ProfileCode.{ProfileCode}
 use Rattle.tsa_seen.specs.declared.premise.ProfileCode.TheVariants.{PF1, PF2, PF3, PF5, PF8}

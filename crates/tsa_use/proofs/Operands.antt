@@ -11,9 +11,9 @@ use Rattle.tsa_tree.specs.declared.expr.ExprKind.TheVariants.{Number, Null, Name
 use Rattle.tsa_tree.specs.expressions.Shapes.{kind_shape, shape, shapes}
 use Rattle.tsa_tree.specs.expressions.Syntax.{Expression}
 use Rattle.tsa_tree.specs.types.Scopes.{Scope}
-use Rattle.tsa_node.specs.Calls.{Layout}
-use Rattle.tsa_node.specs.Cells.{argument_cells, cells_read, inner_cells, own_cell}
-use Rattle.tsa_node.specs.Meanings.{is_loaded, meaning}
+use Rattle.tsa_layout.specs.Calls.{Layout}
+use Rattle.tsa_core.specs.Cells.{argument_cells, cells_read, inner_cells, own_cell}
+use Rattle.tsa_core.specs.Meanings.{is_loaded, meaning}
 use Rattle.tsa_seen.specs.Accesses.{Access}
 use Rattle.tsa_use.specs.Accesses.{access, accesses, before, span_of, written}
 use Rattle.tsa_use.specs.Values.{unled}

@@ -3,9 +3,9 @@ use Rattle.std.proofs.Common.{◌≡◌, ◌∙◌, ℕ, Bool, true, false, List
 use Rattle.std.proofs.lemmas.List.{map-append}
 use Rattle.tsa_tree.specs.expressions.Syntax.{Expression}
 use Rattle.tsa_tree.specs.types.Scopes.{Scope}
-use Rattle.tsa_node.specs.Calls.{Layout}
-use Rattle.tsa_node.specs.Cells.{cells_read, inner_cells, own_cell, read_before}
-use Rattle.tsa_node.specs.Uses as core
+use Rattle.tsa_layout.specs.Calls.{Layout}
+use Rattle.tsa_core.specs.Cells.{cells_read, inner_cells, own_cell, read_before}
+use Rattle.tsa_core.specs.Uses as core
 use Rattle.tsa_use.specs.Accesses.{accesses, without_span}
 use Rattle.tsa_use.specs.Laws.{ArgumentsAreThoseOfTheCore, ReadsAreThoseOfTheCore, WritesAreThoseOfTheCore}
 

@@ -20,11 +20,11 @@ use Rattle.tsa_tree.specs.types.Operands.{binary_type, element_type}
 use Rattle.tsa_tree.specs.types.Scopes.{Scope, known_in}
 use Rattle.tsa_tree.specs.types.Types.{value}
 use Rattle.tsa_way.specs.LockPaths.{element_step, leads, name_way}
-use Rattle.tsa_node.specs.Calls.{Layout}
-use Rattle.tsa_node.specs.Cells.{argument_cells, cells_read, inner_cells}
-use Rattle.tsa_node.specs.Meanings.{is_loaded, is_place, meaning, of_call, of_name, of_prefix, operands, to_member}
-use Rattle.tsa_node.specs.Terms.{Sense}
-use Rattle.tsa_node.specs.Uses.{access_guards, name_guards}
+use Rattle.tsa_layout.specs.Calls.{Layout}
+use Rattle.tsa_core.specs.Cells.{argument_cells, cells_read, inner_cells}
+use Rattle.tsa_core.specs.Meanings.{is_loaded, is_place, meaning, of_call, of_name, of_prefix, operands, to_member}
+use Rattle.tsa_core.specs.Terms.{Sense}
+use Rattle.tsa_core.specs.Uses.{access_guards, name_guards}
 use Rattle.tsa_seen.specs.Accesses.{Access}
 use Rattle.tsa_use.specs.Accesses.{access, accesses, before}
 use Rattle.tsa_use.specs.Values.{name_read}

@@ -4,9 +4,9 @@ use Rattle.tsa_base.specs.declared.token.Span.{Span}
 use Rattle.tsa_tree.specs.declared.expr.BinaryOp.{BinaryOp}
 use Rattle.tsa_tree.specs.expressions.Syntax.{Expression, number, null, named, call, unary, binary, field, index}
 use Rattle.tsa_tree.specs.types.Scopes.{Scope}
-use Rattle.tsa_node.specs.Calls.{Layout}
-use Rattle.tsa_node.specs.Cells.{cells_read, inner_cells, own_cell, read_before}
-use Rattle.tsa_node.specs.Uses.{Access as PlainAccess, access_guards}
+use Rattle.tsa_layout.specs.Calls.{Layout}
+use Rattle.tsa_core.specs.Cells.{cells_read, inner_cells, own_cell, read_before}
+use Rattle.tsa_core.specs.Uses.{Access as PlainAccess, access_guards}
 use Rattle.tsa_seen.specs.Accesses.{Access}
 
 -- an access without where it stands

@@ -3,8 +3,8 @@ use Rattle.std.specs.Prelude.{◌≡◌, ℕ, Bool, Option, map}
 use Rattle.tsa_tree.specs.declared.expr.BinaryOp.{BinaryOp}
 use Rattle.tsa_tree.specs.expressions.Syntax.{Expression}
 use Rattle.tsa_tree.specs.types.Scopes.{Scope}
-use Rattle.tsa_node.specs.Calls.{Layout}
-use Rattle.tsa_node.specs.Uses as core
+use Rattle.tsa_layout.specs.Calls.{Layout}
+use Rattle.tsa_core.specs.Uses as core
 use Rattle.tsa_node.specs.Arguments.{arguments_of}
 use Rattle.tsa_use.specs.Accesses.{reads, without_span, written}
 

@@ -3,10 +3,10 @@ use Rattle.std.specs.Prelude.{ℕ, Bool, false, ◌&&◌, is_none, List, Option,
 use Rattle.std.specs.List.{list_any}
 use Rattle.tsa_base.specs.declared.token.Span.{Span}
 use Rattle.tsa_tree.specs.types.Scopes.{Scope, known_in}
-use Rattle.tsa_node.specs.Calls.{Layout}
+use Rattle.tsa_layout.specs.Calls.{Layout}
 use Rattle.tsa_way.specs.Ways.{Way}
-use Rattle.tsa_node.specs.Meanings.{is_cell, of_name}
-use Rattle.tsa_node.specs.Uses.{name_guards}
+use Rattle.tsa_core.specs.Meanings.{is_cell, of_name}
+use Rattle.tsa_core.specs.Uses.{name_guards}
 use Rattle.tsa_seen.specs.Accesses.{Access}
 use Rattle.tsa_seen.specs.declared.premise.ProfileCode.{ProfileCode}
 use Rattle.tsa_seen.specs.declared.premise.ProfileCode.TheVariants.{PF2}

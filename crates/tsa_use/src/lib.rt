@@ -9,6 +9,4 @@ pub use laws::{
     arguments_are_those_of_the_core, reads_are_those_of_the_core, writes_are_those_of_the_core,
 };
 pub use place::{own_failure, place_failure};
-pub use tsa_node::{Body, declared_thing, is_truth};
-pub use tsa_seen::{Access, Failure, Footprint, NamedLock, NamedLocks, ProfileCode, Standing};
 pub use walking::{reads, writes};

@@ -1,8 +1,8 @@
 //! The walk over an expression (C11 6.5), from its last part to its first: the cells that are read, and the first premise of the profile that fails, since
 //! those of a node come before those of its parts. The recursion is as deep as the tree is high.
 ghost use Rattle.std.specs.Prelude.{◌≡◌, [], false, true, ◌++◌, IfOk, OnOk};
-ghost use Rattle.tsa_node.specs.Cells.{argument_cells, cells_read, inner_cells};
-ghost use Rattle.tsa_node.specs.Meanings.{meaning, of_name};
+ghost use Rattle.tsa_core.specs.Cells.{argument_cells, cells_read, inner_cells};
+ghost use Rattle.tsa_core.specs.Meanings.{meaning, of_name};
 ghost use Rattle.tsa_tree.specs.expressions.Shapes.{shape, shapes};
 ghost use Rattle.tsa_tree.specs.expressions.Syntax.{unary};
 ghost use Rattle.tsa_use.specs.Accesses.{before, reads as spec_reads, written};
@@ -20,10 +20,7 @@ use tsa_base::{NoMemory, Span};
 use tsa_node::{Body, code_if, operator_at};
 use tsa_operand::value;
 use tsa_resolve::number_type;
-use tsa_seen::{
-    Accesses, Failure, Footprint, ProfileCode, Seen, Standing, Uses, are_some, binary_thing,
-    called_thing, prefix_thing, value_thing,
-};
+use tsa_seen::{Accesses, Failure, Footprint, ProfileCode, Seen, Standing, Uses, are_some, binary_thing, called_thing, prefix_thing, value_thing};
 use tsa_tree::expr::{BinaryOp, Expr, ExprKind, UnaryOp};
 use tsa_tree::kind::{ExpressionType, Kind};
 

@@ -10,4 +10,3 @@ pub mod Ruled
 pub mod Small
 pub mod Leaving
 pub mod Handed
-pub use Rattle.tsa_control.proofs.Controlled

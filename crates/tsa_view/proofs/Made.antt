@@ -9,14 +9,14 @@ use Rattle.tsa_path.specs.PathTables.{AreDifferent}
 use Rattle.tsa_points.specs.Walks.{placed_in_body, points_along, walk}
 use Rattle.tsa_points.proofs.Passing.{body_steps_are_the_points}
 use Rattle.tsa_steps.specs.Steps.{body_steps}
-use Rattle.tsa_notes.specs.MarksNotes.{IsRow}
+use Rattle.tsa_marks.specs.Notes.{IsRow}
 use Rattle.tsa_notes.specs.declared.notes.Noted.{Noted}
 use Rattle.tsa_notes.specs.Notes.{AreNotes}
 use Rattle.tsa_control.specs.declared.Inside.{Inside}
-use Rattle.tsa_control.specs.Expressions.{attributes_at}
-use Rattle.tsa_control.specs.Knowing.{Knowledge}
-use Rattle.tsa_control.specs.Laws.{result_at}
-use Rattle.tsa_control.specs.Sites.{within}
+use Rattle.tsa_node.specs.Expressions.{attributes_at}
+use Rattle.tsa_site.specs.Knowing.{Knowledge}
+use Rattle.tsa_site.specs.Laws.{result_at}
+use Rattle.tsa_site.specs.Sites.{within}
 use Rattle.tsa_view.specs.declared.build.Unit.{Unit}
 use Rattle.tsa_view.specs.declared.content.RuleView.{RuleView}
 use Rattle.tsa_view.specs.Made.{IsMade, IsNoted, IsWhole, around_in, points_in, result_in}

@@ -3,7 +3,7 @@ use Rattle.std.proofs.Common.{◌≡◌, ◌<◌, ◌≤◌, ℕ, List, [], Opti
 use Rattle.std.proofs.lemmas.Option.{slice_get_past}
 use Rattle.tsa_way.specs.Ways.{Way}
 use Rattle.tsa_core.specs.Programs.{Function, Program}
-use Rattle.tsa_notes.specs.Rows.{mark_in, rows_in}
+use Rattle.tsa_marks.specs.Rows.{mark_in, rows_in}
 use Rattle.tsa_rules.specs.Attributes.{all_as_called, named}
 use Rattle.tsa_rules.specs.Points.{attrs_at, attrs_called, or_idle, points_of, uses_at}
 use Rattle.tsa_view.specs.declared.content.RuleView.{RuleView}

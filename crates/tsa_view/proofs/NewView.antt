@@ -6,17 +6,17 @@ use Rattle.tsa_way.specs.Ways.{Way}
 use Rattle.tsa_layout.specs.Calls.{Layout}
 use Rattle.tsa_core.specs.Bodies.{Body}
 use Rattle.tsa_core.specs.Programs.{Function, LockKind, Program, lock_kinds, program_of}
-use Rattle.tsa_notes.specs.Ways.{each_once, unless_many}
-use Rattle.tsa_control.specs.Units.{unit_of}
+use Rattle.tsa_deed.specs.Ways.{each_once, unless_many}
+use Rattle.tsa_ground.specs.Units.{unit_of}
 use Rattle.tsa_path.specs.PathTables.{AreDifferent, path_limit, with_path}
 use Rattle.tsa_path.proofs.Numbers.{table_holds_different_paths}
-use Rattle.tsa_control.specs.Paths.{paths_if, paths_of, ways_of}
-use Rattle.tsa_control.specs.Entering.{IsOf}
+use Rattle.tsa_profile.specs.Paths.{paths_if, paths_of, ways_of}
+use Rattle.tsa_site.specs.Entering.{IsOf}
 use Rattle.tsa_control.specs.declared.BodySite.{BodySite}
-use Rattle.tsa_control.specs.Finding.{IsFound}
-use Rattle.tsa_control.specs.Laws.{StandsFor}
-use Rattle.tsa_control.specs.Sites.{Site, site_of}
-use Rattle.tsa_control.proofs.SiteLaws.{sites_are_of_the_program}
+use Rattle.tsa_site.specs.Finding.{IsFound}
+use Rattle.tsa_site.specs.Laws.{StandsFor}
+use Rattle.tsa_site.specs.Sites.{Site, site_of}
+use Rattle.tsa_site.proofs.SiteLaws.{sites_are_of_the_program}
 use Rattle.tsa_view.specs.declared.content.RuleView.{RuleView}
 use Rattle.tsa_view.specs.Views.{IsViewBy, IsViewIn, IsViewOf}
 

@@ -3,8 +3,8 @@ use Rattle.std.proofs.Common.{◌≡◌, ◌∙◌, ◌+◌, ◌-◌, List, [], 
 use Rattle.tsa_way.specs.Ways.{Way}
 use Rattle.tsa_core.specs.Programs.{Attr}
 use Rattle.tsa_path.specs.PathTables.{AreDifferent}
-use Rattle.tsa_notes.specs.MarksNotes.{IsLastRow, IsRow, NotesAttributes}
-use Rattle.tsa_notes.specs.Rows.{KeepsRows, Rows, rows_in}
+use Rattle.tsa_marks.specs.Notes.{IsLastRow, IsRow, NotesAttributes}
+use Rattle.tsa_marks.specs.Rows.{KeepsRows, Rows, rows_in}
 
 pub row_first : (paths : List Way) (start m end : Rows) (own : List Attr) → rows_in start ≡ 0 → rows_in m ≡ rows_in start + 1 → IsLastRow paths m [] [] [] None → KeepsRows m end
     → NotesAttributes paths m end own → AreDifferent paths → IsRow paths end 0 own [] [] None

@@ -20,17 +20,17 @@ use Rattle.tsa_points.proofs.Known.{placed_are_known, points_are_of_the_core, us
 use Rattle.tsa_rules.specs.Attributes.{all_as_called}
 use Rattle.tsa_rules.specs.Marks.{mark_by, mark_of}
 use Rattle.tsa_rules.specs.Points.{attrs_at, attrs_called, local_begun, or_idle, or_unused, point_at, points_of, uses_at}
-use Rattle.tsa_control.specs.Units.{stable_of, unit_of}
-use Rattle.tsa_notes.specs.Bodies.{Around}
-use Rattle.tsa_notes.specs.Ways.{called_at}
-use Rattle.tsa_control.proofs.BodyWays.{called_same}
-use Rattle.tsa_notes.specs.Rows.{Rows, mark_in}
+use Rattle.tsa_ground.specs.Units.{stable_of, unit_of}
+use Rattle.tsa_deed.specs.Bodies.{Around}
+use Rattle.tsa_deed.specs.Ways.{called_at}
+use Rattle.tsa_profile.proofs.BodyWays.{called_same}
+use Rattle.tsa_marks.specs.Rows.{Rows, mark_in}
 use Rattle.tsa_notes.proofs.Begun.{begun_is}
 use Rattle.tsa_notes.specs.Marking.{IsRowOf}
 use Rattle.tsa_notes.specs.Points.{Agrees, AllAgree, begun_here, called_attributes, core_at, uses_here}
-use Rattle.tsa_control.specs.Laws.{StandsFor, body_at, result_at}
-use Rattle.tsa_control.specs.Laws as site
-use Rattle.tsa_control.specs.Sites.{Site, within}
+use Rattle.tsa_site.specs.Laws.{StandsFor, body_at, result_at}
+use Rattle.tsa_site.specs.Laws as site
+use Rattle.tsa_site.specs.Sites.{Site, within}
 use Rattle.tsa_way.specs.LockPaths.{stable_in}
 use Rattle.tsa_view.specs.Views.{number_called}
 use Rattle.tsa_profile.proofs.PathTables.{map_both}

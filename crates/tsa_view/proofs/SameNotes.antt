@@ -3,7 +3,7 @@ use Rattle.std.proofs.Common.{◌≡◌, List, subst}
 use Rattle.tsa_tree.specs.declared.kind.Kind.{Kind}
 use Rattle.tsa_way.specs.Ways.{Way}
 use Rattle.tsa_points.specs.Points.{PlacedPoint}
-use Rattle.tsa_notes.specs.Bodies.{Around}
+use Rattle.tsa_deed.specs.Bodies.{Around}
 use Rattle.tsa_notes.specs.declared.notes.Notes.{Notes}
 use Rattle.tsa_notes.specs.Notes.{AreNotes}
 

@@ -12,22 +12,22 @@ use Rattle.tsa_rules.specs.Attributes.{lock_kind_of, local_kinds}
 use Rattle.tsa_rules.specs.Cases.{kept_of, lock_of}
 use Rattle.tsa_rules.specs.Marks.{mark_of}
 use Rattle.tsa_rules.specs.Points.{points_of}
-use Rattle.tsa_control.specs.Units.{stable_of, unit_of}
-use Rattle.tsa_notes.specs.Bodies.{Around}
+use Rattle.tsa_ground.specs.Units.{stable_of, unit_of}
+use Rattle.tsa_deed.specs.Bodies.{Around}
 use Rattle.tsa_lock.specs.declared.kind.LockKind.{LockKind as CodeKind}
 use Rattle.tsa_lock.specs.Kinds.{kind_in as kind_in_unit, kind_of, kinds_of, is_taken_again}
 use Rattle.tsa_lock.specs.Structs.{struct_by}
 use Rattle.tsa_lock.proofs.OfTheProgram.{lock_kinds_are_of_the_program}
-use Rattle.tsa_notes.specs.MarksNotes.{IsRow}
-use Rattle.tsa_notes.specs.Rows.{mark_in}
-use Rattle.tsa_notes.specs.Roles.{begin_in}
-use Rattle.tsa_notes.specs.Laws.{AreRolesOf}
-use Rattle.tsa_notes.specs.RolesTold.{AreRoles}
+use Rattle.tsa_marks.specs.Notes.{IsRow}
+use Rattle.tsa_marks.specs.Rows.{mark_in}
+use Rattle.tsa_roles.specs.Roles.{begin_in}
+use Rattle.tsa_roles.specs.Laws.{AreRolesOf}
+use Rattle.tsa_roles.specs.Told.{AreRoles}
 use Rattle.tsa_rules.specs.TryVariables.{AreInOrder}
-use Rattle.tsa_notes.proofs.OfPrograms.{roles_are_of_the_program}
+use Rattle.tsa_roles.proofs.OfPrograms.{roles_are_of_the_program}
 use Rattle.tsa_notes.specs.Notes.{AreNotes}
-use Rattle.tsa_control.specs.Laws.{StandsFor}
-use Rattle.tsa_control.specs.Sites.{Site, within}
+use Rattle.tsa_site.specs.Laws.{StandsFor}
+use Rattle.tsa_site.specs.Sites.{Site, within}
 use Rattle.tsa_view.specs.declared.content.RuleView.{RuleView}
 use Rattle.tsa_view.specs.Parts.{kinds_along, param_kinds}
 use Rattle.tsa_view.specs.Views.{IsViewOf, kept_from, kind_in, lock_in, or_none}

@@ -13,17 +13,17 @@ use Rattle.tsa_points.specs.Points.{PlacedPoint}
 use Rattle.tsa_points.specs.Walks.{points_along, walk}
 use Rattle.tsa_steps.specs.Steps.{body_steps}
 use Rattle.tsa_lock.specs.Kinds.{kinds_of}
-use Rattle.tsa_notes.specs.MarksNotes.{IsRow}
-use Rattle.tsa_notes.specs.Bodies.{Around}
+use Rattle.tsa_marks.specs.Notes.{IsRow}
+use Rattle.tsa_deed.specs.Bodies.{Around}
 use Rattle.tsa_notes.specs.declared.notes.Noted.{Noted}
 use Rattle.tsa_notes.specs.Notes.{AreNotes}
 use Rattle.tsa_control.specs.declared.Inside.{Inside}
-use Rattle.tsa_control.specs.Entering.{IsOf}
-use Rattle.tsa_control.specs.Expressions.{attributes_at}
-use Rattle.tsa_control.specs.Knowing.{Knowledge}
-use Rattle.tsa_control.specs.Laws.{StandsFor}
-use Rattle.tsa_control.specs.Sites.{Site}
-use Rattle.tsa_control.specs.Units.{unit_of}
+use Rattle.tsa_site.specs.Entering.{IsOf}
+use Rattle.tsa_node.specs.Expressions.{attributes_at}
+use Rattle.tsa_site.specs.Knowing.{Knowledge}
+use Rattle.tsa_site.specs.Laws.{StandsFor}
+use Rattle.tsa_site.specs.Sites.{Site}
+use Rattle.tsa_ground.specs.Units.{unit_of}
 use Rattle.tsa_view.specs.declared.build.Unit.{Unit}
 use Rattle.tsa_view.specs.declared.content.RuleView.{RuleView}
 use Rattle.tsa_view.specs.Parts.{kinds_along, param_kinds}

@@ -10,7 +10,7 @@ use Rattle.tsa_core.specs.Programs.{LockKind}
 use Rattle.tsa_rules.specs.declared.case.Lock.{Lock}
 use Rattle.tsa_lock.specs.Kinds.{kind_in, is_taken_again}
 use Rattle.tsa_lock.specs.Structs.{struct_by}
-use Rattle.tsa_notes.specs.Rows.{Rows, mark_in}
+use Rattle.tsa_marks.specs.Rows.{Rows, mark_in}
 
 -- the kinds of the locks to which paths lead, by those of a unit's structs
 abbrev pub kinds_along : List (Option LockKind) → Layout → List Kind → List Way → List (Option LockKind)

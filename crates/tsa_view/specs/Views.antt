@@ -11,9 +11,9 @@ use Rattle.tsa_rules.specs.Cases.{case_of, lock_of, role_of}
 use Rattle.tsa_rules.specs.Points.{points_of}
 use Rattle.tsa_lock.specs.Kinds.{kind_of}
 use Rattle.tsa_lock.specs.declared.kind.LockKind.{LockKind as Kind}
-use Rattle.tsa_control.specs.Paths.{paths_if}
-use Rattle.tsa_notes.specs.Rows.{mark_in, rows_in}
-use Rattle.tsa_notes.specs.Roles.{begin_in, role_in}
+use Rattle.tsa_profile.specs.Paths.{paths_if}
+use Rattle.tsa_marks.specs.Rows.{mark_in, rows_in}
+use Rattle.tsa_roles.specs.Roles.{begin_in, role_in}
 use Rattle.tsa_view.specs.declared.content.RuleView.{RuleView}
 use Rattle.tsa_view.specs.Parts.{lock_with}
 

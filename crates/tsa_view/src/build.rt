@@ -1,12 +1,12 @@
 //! The view of a body that is entered.
 ghost use Rattle.std.specs.Prelude.{◌≡◌, ◌<◌, ◌++◌, [], None, false, map, IfOk, OnOk};
-ghost use Rattle.tsa_control.specs.Expressions.{attributes_at};
-ghost use Rattle.tsa_notes.specs.Told.{around_of};
+ghost use Rattle.tsa_node.specs.Expressions.{attributes_at};
+ghost use Rattle.tsa_deed.specs.Told.{around_of};
 ghost use Rattle.tsa_lock.specs.Kinds.{kinds_of as spec_kinds};
-ghost use Rattle.tsa_notes.specs.MarksNotes.{IsRow};
+ghost use Rattle.tsa_marks.specs.Notes.{IsRow};
 ghost use Rattle.tsa_path.specs.PathTables.{AreDifferent};
 ghost use Rattle.tsa_points.specs.Walks.{points_along, walk, walk_behind};
-ghost use Rattle.tsa_notes.specs.Roles.{tries_in};
+ghost use Rattle.tsa_roles.specs.Roles.{tries_in};
 ghost use Rattle.tsa_rules.specs.Sets.{pending_places};
 ghost use Rattle.tsa_steps.specs.Steps.{step_shape};
 ghost use Rattle.tsa_tree.specs.declarations.Shapes.{head_shape};
@@ -19,12 +19,15 @@ use crate::content::RuleView;
 use crate::parts::{are_few, kinds_of, own_marks, param_kinds};
 use crate::walks::{begin_walk, end_walk};
 use tsa_base::NoMemory;
-use tsa_control::{Inside, Knowledge, NamedLocks};
+use tsa_site::{Inside, Knowledge};
+use tsa_seen::NamedLocks;
 use tsa_layout::{Layout, declared_thing};
 use tsa_lock::{Leads, LockKind};
-use tsa_notes::{Around, Frame, Marks, Noted, Numbers, notes_of};
+use tsa_deed::Around;
+use tsa_notes::{Frame, Noted, notes_of};
+use tsa_marks::{Marks, Numbers};
 use tsa_path::PathTable;
-use tsa_points::{Step, body_steps};
+use tsa_steps::{Step, body_steps};
 use tsa_scope::Scope;
 
 /// The layout of a typed unit, and the kinds of locks that its structs are.

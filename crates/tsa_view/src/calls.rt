@@ -10,7 +10,8 @@ ghost use Rattle.tsa_view.specs.Views.{IsViewOf};
 ghost use Rattle.tsa_way.specs.Ways.{Way};
 
 use crate::content::RuleView;
-use tsa_rules::{Outcome, Status, rule_of};
+use tsa_links::Outcome;
+use tsa_rules::{Status, rule_of};
 
 /// The status of a path at the function's entry.
 pub fn entry_status(view: &RuleView<'_>, cap: u32) -> Status

@@ -1,10 +1,11 @@
 //! What a view has.
 ghost use Rattle.std.specs.Prelude.{◌<◌};
-ghost use Rattle.tsa_notes.specs.Roles.{tries_in};
+ghost use Rattle.tsa_roles.specs.Roles.{tries_in};
 ghost use Rattle.tsa_rules.specs.Sets.{pending_places};
 
 use tsa_lock::LockKind;
-use tsa_notes::{Marks, Notes, Numbers};
+use tsa_marks::{Marks, Numbers};
+use tsa_notes::Notes;
 
 /// All that the rules go by in a function: its paths by their numbers, the kind of the lock to which each leads and what the function says of it, and what
 /// its points do and say of each path.

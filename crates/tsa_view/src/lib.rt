@@ -14,5 +14,3 @@ pub use build::Unit;
 pub use calls::{effect, entry_status, exit_status, fails};
 pub use content::RuleView;
 pub use facts::Facts;
-pub use tsa_control::{Fit, Graph, Places, control_of, graph_of};
-pub use tsa_notes::Entry;

@@ -1,7 +1,7 @@
 //! The views of the functions of units in the profile.
 ghost use Rattle.std.specs.Prelude.{◌≡◌, Ok, slice_get, IfOk};
 ghost use Rattle.tsa_core.specs.Programs.{program_of};
-ghost use Rattle.tsa_core.specs.Units.{placed_in};
+ghost use Rattle.tsa_place.specs.Units.{placed_in};
 ghost use Rattle.tsa_tree.specs.units.Shapes.{item_shapes};
 ghost use Rattle.tsa_view.specs.Made.{IsMade};
 ghost use Rattle.tsa_view.specs.Views.{IsViewIn};
@@ -10,7 +10,9 @@ use crate::build::Unit;
 use crate::content::RuleView;
 use std::alloc::Global;
 use tsa_base::NoMemory;
-use tsa_control::{BodySite, Fit, Places, site_in};
+use tsa_site::{BodySite, site_in};
+use tsa_profile::Fit;
+use tsa_place::Places;
 use tsa_lock::lock_kinds;
 use tsa_path::PathTable;
 

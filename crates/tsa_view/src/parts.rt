@@ -1,9 +1,9 @@
 //! The parts of a view that are told by paths: the kinds of the locks to which they lead, and what the function's own attributes say of them.
 ghost use Rattle.std.specs.Prelude.{◌≡◌, ◌<◌, None, [], IfOk, OnOk};
 ghost use Rattle.tsa_lock.specs.Kinds.{kinds_of as spec_kinds};
-ghost use Rattle.tsa_notes.specs.MarksNotes.{IsRow};
+ghost use Rattle.tsa_marks.specs.Notes.{IsRow};
 ghost use Rattle.tsa_path.specs.PathTables.{AreDifferent};
-ghost use Rattle.tsa_notes.specs.Roles.{tries_in};
+ghost use Rattle.tsa_roles.specs.Roles.{tries_in};
 ghost use Rattle.tsa_rules.specs.Sets.{pending_places};
 ghost use Rattle.tsa_tree.specs.declarations.Shapes.{param_shape, param_shapes};
 ghost use Rattle.tsa_tree.specs.types.DeclaredTypes.{thing_type};
@@ -11,13 +11,14 @@ ghost use Rattle.tsa_view.specs.Parts.{kinds_along, param_kinds as spec_param_ki
 
 use std::alloc::Global;
 use tsa_base::NoMemory;
-use tsa_control::NamedLock;
+use tsa_seen::NamedLock;
 use tsa_layout::declared_thing;
 use tsa_lock::{Leads, LockKind, kind_at};
-use tsa_notes::{Marks, Numbers, Roles};
+use tsa_marks::{Marks, Numbers};
+use tsa_roles::Roles;
 use tsa_tree::item::Param;
 use tsa_tree::kind::Kind;
-use tsa_way::Scope;
+use tsa_scope::Scope;
 
 /// The kind of a parameter.
 fn param_kind(scope: &Scope<'_>, param: &Param<'_>) -> Result<Kind, NoMemory>

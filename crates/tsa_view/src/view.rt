@@ -2,7 +2,7 @@
 ghost use Rattle.std.specs.Prelude.{◌≡◌, ◌<◌, ℕ, List, None, option_map, option_and_then, length, slice_get};
 ghost use Rattle.tsa_core.specs.Programs.{Function, Program};
 ghost use Rattle.tsa_lock.specs.Kinds.{kind_of};
-ghost use Rattle.tsa_notes.specs.Roles.{begin_in, role_in};
+ghost use Rattle.tsa_roles.specs.Roles.{begin_in, role_in};
 ghost use Rattle.tsa_rules.specs.Attributes.{declared_kinds, lock_kind_of, named as spec_named};
 ghost use Rattle.tsa_rules.specs.Points.{attrs_at, point_at, points_of};
 ghost use Rattle.tsa_rules.specs.Cases.{case_of, IsSmall};
@@ -11,7 +11,7 @@ ghost use Rattle.tsa_way.specs.Ways.{Way};
 
 use crate::content::RuleView;
 use tsa_lock::{LockKind, is_reentrant};
-use tsa_notes::{Marks, Numbers};
+use tsa_marks::{Marks, Numbers};
 use tsa_rules::{Case, Claim, Lock, Role};
 use tsa_tree::attr::AttrKind;
 use tsa_tree::kind::Kind;

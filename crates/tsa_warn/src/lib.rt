@@ -6,4 +6,3 @@ mod order;
 
 pub use laws::failures_are_told_in_one_order;
 pub use order::warnings_of;
-pub use tsa_failures::RuleFailure;

@@ -2,7 +2,7 @@
 ghost use Rattle.std.specs.Prelude.{◌≡◌, List, IfOk};
 ghost use Rattle.std.specs.List.Sorted.{IsPermutation, IsSorted};
 ghost use Rattle.tsa_core.specs.Programs.{Function, Program};
-ghost use Rattle.tsa_failures.specs.Flows.{IsFlowOf};
+ghost use Rattle.tsa_flow.specs.Flows.{IsFlowOf};
 ghost use Rattle.tsa_path.specs.PathTexts.{Names};
 ghost use Rattle.tsa_texts.specs.Orders.{texts_of};
 ghost use Rattle.tsa_warn.specs.Comparisons.{failure_cmp};
@@ -12,7 +12,8 @@ ghost use Rattle.tsa_way.specs.Ways.{Way};
 use std::alloc::Global;
 use std::cmp::Ordering;
 use tsa_base::NoMemory;
-use tsa_failures::{FunctionFlow, RuleFailure, failures_of};
+use tsa_flow::FunctionFlow;
+use tsa_failures::{RuleFailure, failures_of};
 use tsa_texts::PathTexts;
 
 /// How two rules that fail compare: by their points, then by the numbers of the rules, and last by the ranks of the paths.

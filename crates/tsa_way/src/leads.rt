@@ -7,7 +7,7 @@ ghost use Rattle.tsa_way.specs.Ways.{onward as spec_onward};
 use crate::path::{Path, PathStep};
 use std::marker::Model;
 use tsa_base::NoMemory;
-use tsa_resolve::single;
+use tsa_operand::single;
 use tsa_tree::kind::{Kind, ThingType};
 use tsa_tree::number::Number;
 

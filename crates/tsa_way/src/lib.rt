@@ -8,4 +8,3 @@ mod sight;
 pub use leads::{Led, meant};
 pub use path::{Path, PathStep, Root};
 pub use sight::{Sight, is_pointer};
-pub use tsa_resolve::{Names, Scope, Symbols, View, entry_type, member_type, result_type, single};

@@ -15,7 +15,7 @@ use Rattle.tsa_core.specs.Programs.{Attr, attr_args, attrs_of}
 use Rattle.tsa_mean.specs.Acts.{changes_lock}
 use Rattle.tsa_rules.specs.Attributes as rules
 use Rattle.tsa_seen.specs.Locks as seen
-use Rattle.tsa_argument.specs.Declarations.{is_order}
+use Rattle.tsa_ask.specs.Declarations.{is_order}
 use Rattle.tsa_sound.specs.CallFacts.{GivesNumber}
 
 -- KINDS OF ATTRIBUTES

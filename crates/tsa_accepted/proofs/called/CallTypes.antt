@@ -15,7 +15,7 @@ use Rattle.tsa_core.specs.Kinds.{scalar_kind}
 use Rattle.tsa_core.specs.Meanings.{as_kind, beside, is_int, loaded, null_pointer, of_type}
 use Rattle.tsa_core.specs.Terms.{Term, constant, variable, answer, global, member, element, target, load, address, converted, prefixed, joined, Sense}
 use Rattle.tsa_core.proofs.KindTests.{both_true, one_of, or_left, integer_is, pointer_plain}
-use Rattle.tsa_judge.specs.Expressions.{is_truth}
+use Rattle.tsa_node.specs.Expressions.{is_truth}
 use Rattle.tsa_rules.specs.Conditions as cond
 use Rattle.tsa_rules.specs.Conditions.{Condition, Subject, the_call, condition, condition_at, answer_in, answer_of, answer_beside, subject_in, yes_or_no}
 use Rattle.tsa_sound.specs.CallFacts.{CanCall, IsAnswer}

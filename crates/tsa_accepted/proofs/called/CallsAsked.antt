@@ -11,7 +11,7 @@ use Rattle.tsa_tree.specs.expressions.Syntax.{Identifier, Expression, Arguments,
 use Rattle.tsa_tree.specs.types.Expressions.{type_of, types_of, all_typed, function_of, result_type}
 use Rattle.tsa_tree.specs.types.Runnable.{has_call, is_whole}
 use Rattle.tsa_tree.specs.types.Scopes.{Scope, context_of, known_in}
-use Rattle.tsa_lead.specs.Lookups.{params_in}
+use Rattle.tsa_scope.specs.Lookups.{params_in}
 use Rattle.tsa_core.specs.Meanings.{Call, arguments, call_in, call_of, meaning, of_call, of_type, or_call}
 use Rattle.tsa_core.specs.Terms.{answer, Sense}
 use Rattle.tsa_core.specs.Uses.{argument_ways, call_ways, called_ways}
@@ -24,9 +24,9 @@ use Rattle.tsa_seen.specs.Premises.{first, premise}
 use Rattle.tsa_seen.specs.Standing.{may_call, may_try}
 use Rattle.tsa_seen.specs.declared.premise.ProfileCode.TheVariants.{PF1, PF2, PF5}
 use Rattle.tsa_seen.specs.declared.standing.Standing.{Standing}
-use Rattle.tsa_argument.proofs.NoneFails.{none_of_both, none_of_first}
-use Rattle.tsa_judge.specs.Bodies.{Around, view_at}
-use Rattle.tsa_judge.specs.Expressions.{View, attributes_at, callee, expression, is_try_call, lacks_a_path, of_callee, own, parts}
+use Rattle.tsa_use.proofs.NoneFails.{none_of_both, none_of_first}
+use Rattle.tsa_deed.specs.Bodies.{Around, view_at}
+use Rattle.tsa_node.specs.Expressions.{View, attributes_at, callee, expression, is_try_call, lacks_a_path, of_callee, own, parts}
 
 -- an expression without a call has no arguments of one
 pub no_ways : (stable : ℕ → Bool) (here : Scope) (e : Expression) → has_call e ≡ false → call_ways stable here e ≡ None

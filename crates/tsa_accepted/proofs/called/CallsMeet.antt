@@ -12,11 +12,11 @@ use Rattle.tsa_tree.specs.types.Runnable.{Runnable}
 use Rattle.tsa_tree.specs.types.Units.{outset, refusal_of_types}
 use Rattle.tsa_tree.specs.units.Syntax.{UnitItem}
 use Rattle.tsa_tree.proofs.types.UnitNodes.{premises_tell_it}
-use Rattle.tsa_lead.specs.Lookups.{params_in}
-use Rattle.tsa_lead.specs.Units.{placed_in}
+use Rattle.tsa_scope.specs.Lookups.{params_in}
+use Rattle.tsa_place.specs.Units.{placed_in}
 use Rattle.tsa_way.specs.LockPaths.{stable_in}
 use Rattle.tsa_core.specs.Bodies.{Known, declare, knows, known_all, known_in_body, point_by, point_of}
-use Rattle.tsa_core.specs.Calls.{Layout}
+use Rattle.tsa_layout.specs.Calls.{Layout}
 use Rattle.tsa_core.specs.Kinds.{Belongs, scalar_kind}
 use Rattle.tsa_core.specs.KindLaws.{setting, signatures}
 use Rattle.tsa_core.specs.Laws.{ActsBelow, KnowsBelow, PointBelow}
@@ -41,10 +41,10 @@ use Rattle.tsa_rules.specs.Points.{attrs_at, attrs_called, function_at, is_a_try
 use Rattle.tsa_rules.specs.TryVariables.{AreInOrder}
 use Rattle.tsa_rules.proofs.KeptTries.{try_variables_are_told_by_declarations}
 use Rattle.tsa_seen.specs.Locks.{lacks_path, tries}
-use Rattle.tsa_judge.specs.Bodies.{Around}
-use Rattle.tsa_judge.specs.CoreLaws as core
-use Rattle.tsa_judge.specs.Expressions.{attributes_at}
-use Rattle.tsa_judge.specs.Points.{PlacedPoint}
+use Rattle.tsa_deed.specs.Bodies.{Around}
+use Rattle.tsa_points.specs.CoreLaws as core
+use Rattle.tsa_node.specs.Expressions.{attributes_at}
+use Rattle.tsa_points.specs.Points.{PlacedPoint}
 use Rattle.tsa_profile.proofs.KnownCalls.{Reaches}
 use Rattle.tsa_profile.proofs.UnitsRun.{profiles_are_runnable}
 use Rattle.tsa_sound.specs.CallFacts.{CallFacts, Declares, IsOutside, IsUnmentioned}

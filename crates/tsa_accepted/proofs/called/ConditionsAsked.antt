@@ -15,7 +15,7 @@ use Rattle.tsa_tree.specs.types.Expressions.{type_of, both, unless}
 use Rattle.tsa_tree.specs.types.Operands.{is_scalar, breaks_prefix, breaks_comparison, comparable, prefix_type, binary_type}
 use Rattle.tsa_tree.specs.types.Runnable.{has_call, is_free, is_call, is_compared, is_comparison, is_condition}
 use Rattle.tsa_tree.specs.types.Scopes.{Scope, context_of}
-use Rattle.tsa_lead.specs.Lookups.{params_in}
+use Rattle.tsa_scope.specs.Lookups.{params_in}
 use Rattle.tsa_core.specs.Kinds.{scalar_kind}
 use Rattle.tsa_core.specs.Meanings.{Call, beside, call_in, loaded, meaning, or_call}
 use Rattle.tsa_core.specs.Terms.{Term, answer, joined, prefixed}
@@ -33,9 +33,9 @@ use Rattle.tsa_seen.specs.Standing as standing
 use Rattle.tsa_seen.specs.declared.premise.ProfileCode.TheVariants.{PF8}
 use Rattle.tsa_seen.specs.declared.standing.Standing.{Standing}
 use Rattle.tsa_seen.specs.declared.standing.Standing.TheVariants.{Test, Operand}
-use Rattle.tsa_argument.proofs.NoneFails.{none_of_both, none_of_first}
-use Rattle.tsa_judge.specs.Bodies.{Around, view_at}
-use Rattle.tsa_judge.specs.Expressions.{View, attributes_at, compares_a_try, constant, expression, is_other, is_truth, is_try_call, parts}
+use Rattle.tsa_use.proofs.NoneFails.{none_of_both, none_of_first}
+use Rattle.tsa_deed.specs.Bodies.{Around, view_at}
+use Rattle.tsa_node.specs.Expressions.{View, attributes_at, compares_a_try, constant, expression, is_other, is_truth, is_try_call, parts}
 use Rattle.tsa_rules.specs.Conditions as cond
 use Rattle.tsa_rules.specs.Conditions.{Condition, the_call, condition_in}
 use Rattle.tsa_accepted.proofs.called.CallTypes.{beside_answer, compared_left, compared_right, constant_some, left_asks, left_takes, right_asks, right_takes}

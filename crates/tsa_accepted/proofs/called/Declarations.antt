@@ -17,10 +17,10 @@ use Rattle.tsa_core.proofs.NoFailure as typing
 use Rattle.tsa_core.proofs.ScopesAlike.{Alike}
 use Rattle.tsa_core.proofs.UnitScopes.{item_alike}
 use Rattle.tsa_seen.specs.Premises.{first}
-use Rattle.tsa_argument.proofs.NoneFails.{none_of_both}
-use Rattle.tsa_judge.specs.Bodies.{points_premises}
-use Rattle.tsa_judge.specs.Units as profile
-use Rattle.tsa_judge.specs.Units.{around, attributes_behind, heads_premises, points_in, refusal_of_profile, tries_limits, paths_limits, unit_of}
+use Rattle.tsa_use.proofs.NoneFails.{none_of_both}
+use Rattle.tsa_deed.specs.Bodies.{points_premises}
+use Rattle.tsa_ground.specs.Units as profile
+use Rattle.tsa_ground.specs.Units.{around, attributes_behind, heads_premises, points_in, refusal_of_profile, tries_limits, paths_limits, unit_of}
 use Rattle.tsa_accepted.proofs.entered.HeadScopes.{split_first}
 
 module _ (all : List UnitItem) where

@@ -19,10 +19,10 @@ use Rattle.tsa_tree.specs.types.Premises as types
 use Rattle.tsa_tree.specs.types.Runnable.{is_small, is_whole_init}
 use Rattle.tsa_tree.specs.types.Scopes.{Scope, context_of}
 use Rattle.tsa_tree.specs.types.Simple.{assignment_breaks, is_void}
-use Rattle.tsa_lead.specs.Lookups.{params_in}
+use Rattle.tsa_scope.specs.Lookups.{params_in}
 use Rattle.tsa_way.specs.Ways.{Way}
 use Rattle.tsa_core.specs.Bodies.{Action, declare, declared, point_by, right_side}
-use Rattle.tsa_core.specs.Calls.{Layout}
+use Rattle.tsa_layout.specs.Calls.{Layout}
 use Rattle.tsa_core.specs.Kinds.{scalar_kind}
 use Rattle.tsa_core.specs.Meanings.{Call, as_kind, meaning}
 use Rattle.tsa_core.specs.Terms.{Term}
@@ -39,10 +39,10 @@ use Rattle.tsa_seen.specs.Standing.{may_try}
 use Rattle.tsa_seen.specs.declared.premise.ProfileCode.TheVariants.{PF4, PF7}
 use Rattle.tsa_seen.specs.declared.standing.Standing.{Standing}
 use Rattle.tsa_seen.specs.declared.standing.Standing.TheVariants.{Whole, Inside}
-use Rattle.tsa_argument.proofs.NoneFails.{none_of_both, none_of_first}
-use Rattle.tsa_argument.specs.Declarations.{is_int}
-use Rattle.tsa_judge.specs.Bodies.{Around, begins_a_try, deed_premises, local_init, standing_of, value_misfits, view_at}
-use Rattle.tsa_judge.specs.Expressions.{attributes_at, expression}
+use Rattle.tsa_use.proofs.NoneFails.{none_of_both, none_of_first}
+use Rattle.tsa_ask.specs.Declarations.{is_int}
+use Rattle.tsa_deed.specs.Bodies.{Around, begins_a_try, deed_premises, local_init, standing_of, value_misfits, view_at}
+use Rattle.tsa_node.specs.Expressions.{attributes_at, expression}
 use Rattle.tsa_rules.specs.Conditions.{Condition, the_call, condition_at}
 use Rattle.tsa_sound.specs.CallFacts.{CanCall, IsAnswer, TakesAnswer, UsesAnswer}
 use Rattle.tsa_accepted.proofs.called.CallTypes.{answer_kept, goes_plain, goes_scalar, int_answer, set_asks, set_calls, set_declares}

@@ -21,7 +21,7 @@ use Rattle.tsa_tree.specs.types.Units.{outset}
 use Rattle.tsa_tree.specs.units.Syntax.{UnitItem}
 use Rattle.tsa_way.specs.LockPaths.{lock_way, stable_in}
 use Rattle.tsa_way.specs.Ways.{Way}
-use Rattle.tsa_core.specs.Calls.{Layout}
+use Rattle.tsa_layout.specs.Calls.{Layout}
 use Rattle.tsa_core.specs.Programs.{Attr, attr_args, attrs_of, bodied_function, function_of, stable_locals, succeeds}
 use Rattle.tsa_core.proofs.BodyScopes.{head_types, kind_kept, small_kept}
 use Rattle.tsa_core.proofs.KindTests.{both_true, no_length, not_true}
@@ -31,10 +31,10 @@ use Rattle.tsa_rules.specs.Attributes as rules
 use Rattle.tsa_seen.specs.Premises.{first, premise}
 use Rattle.tsa_seen.specs.declared.premise.ProfileCode.TheVariants.{PF1, PF2, PF7, PF9}
 use Rattle.tsa_seen.specs.declared.standing.Standing.TheVariants.{Inside}
-use Rattle.tsa_argument.specs.Declarations.{argument, attribute_arguments, attribute_premises, is_among, is_call, is_named_once, is_order, misfits, way, ways_behind, with_way}
-use Rattle.tsa_argument.proofs.NoneFails.{none_of_both, none_of_first}
-use Rattle.tsa_judge.specs.Expressions.{View, own, parts}
-use Rattle.tsa_judge.specs.Units.{unit_of, view_of}
+use Rattle.tsa_ask.specs.Declarations.{argument, attribute_arguments, attribute_premises, is_among, is_call, is_named_once, is_order, misfits, way, ways_behind, with_way}
+use Rattle.tsa_use.proofs.NoneFails.{none_of_both, none_of_first}
+use Rattle.tsa_node.specs.Expressions.{View, own, parts}
+use Rattle.tsa_ground.specs.Units.{unit_of, view_of}
 use Rattle.tsa_sound.specs.CallFacts.{IsOutside, first_pointed, of_lock}
 use Rattle.tsa_accepted.proofs.called.LockParameters.{known_last, parameter_way}
 use Rattle.tsa_accepted.proofs.called.AttributeKinds.{change_is}

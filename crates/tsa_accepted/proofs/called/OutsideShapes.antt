@@ -18,17 +18,17 @@ use Rattle.tsa_tree.specs.types.Units.{outset}
 use Rattle.tsa_tree.specs.units.Syntax.{UnitItem}
 use Rattle.tsa_way.specs.LockPaths.{stable_in}
 use Rattle.tsa_way.specs.Ways.{Way}
-use Rattle.tsa_core.specs.Calls.{Layout}
+use Rattle.tsa_layout.specs.Calls.{Layout}
 use Rattle.tsa_core.specs.Programs.{Attr, Bodied, Declared, attr_args, attrs_of, bodied_function, function_of, stable_locals}
 use Rattle.tsa_core.proofs.KindTests.{both_true, neither, one_of}
 use Rattle.tsa_rules.specs.Attributes as rules
 use Rattle.tsa_seen.specs.Locks as seen
 use Rattle.tsa_seen.specs.Premises.{first}
 use Rattle.tsa_seen.specs.declared.premise.ProfileCode.TheVariants.{PF6, PF7}
-use Rattle.tsa_argument.specs.Declarations.{attribute_arguments, attribute_premises, is_int, is_nothing, misfits, param_premises, tries_otherwise, ways_behind}
-use Rattle.tsa_argument.proofs.NoneFails.{none_of_both, none_of_first}
-use Rattle.tsa_judge.specs.Expressions.{View}
-use Rattle.tsa_judge.specs.Units.{unit_of, view_of}
+use Rattle.tsa_ask.specs.Declarations.{attribute_arguments, attribute_premises, is_int, is_nothing, misfits, param_premises, tries_otherwise, ways_behind}
+use Rattle.tsa_use.proofs.NoneFails.{none_of_both, none_of_first}
+use Rattle.tsa_node.specs.Expressions.{View}
+use Rattle.tsa_ground.specs.Units.{unit_of, view_of}
 use Rattle.tsa_profile.proofs.HeadsRun.{head_stands}
 use Rattle.tsa_sound.specs.CallFacts.{IsOutside, of_environment}
 use Rattle.tsa_accepted.proofs.called.CallTypes.{clash}

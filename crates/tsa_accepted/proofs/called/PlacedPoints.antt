@@ -20,21 +20,21 @@ use Rattle.tsa_core.specs.Bodies.{Known, known_in_body, point_by, point_of}
 use Rattle.tsa_core.specs.Meanings.{Call}
 use Rattle.tsa_core.specs.Programs.{Bodied, Declared, Function, Program, bodied_by, bodied_function, body_in, declared_by, declared_functions, first_head, function_in, or_body, program_of, stable_locals}
 use Rattle.tsa_core.specs.Uses.{uses_of}
-use Rattle.tsa_core.proofs.Laid.{by_last, front_at}
+use Rattle.tsa_lead.proofs.Laid.{by_last, front_at}
 use Rattle.tsa_core.proofs.MappedLists.{map_at}
 use Rattle.tsa_core.proofs.NoFailure as typing
 use Rattle.tsa_core.proofs.TypedTerms.{some_same}
 use Rattle.tsa_rules.specs.Points.{function_at, or_no_function}
 use Rattle.tsa_seen.specs.Locks.{tries}
 use Rattle.tsa_seen.specs.Premises.{first}
-use Rattle.tsa_argument.proofs.NoneFails.{none_of_both}
-use Rattle.tsa_judge.specs.Bodies.{Around, point_premises, points_premises}
-use Rattle.tsa_judge.specs.CoreLaws.{known_of, seen_at}
-use Rattle.tsa_judge.specs.Expressions.{attributes_at}
-use Rattle.tsa_judge.specs.Points.{PlacedPoint, placed, placed_all}
-use Rattle.tsa_judge.specs.Units as profile
-use Rattle.tsa_judge.specs.Units.{Unit, around, attributes_behind, attributes_by, heads_premises, own_attributes, paths_limits, points_in, refusal_of_profile, stable_of, tries_limits, unit_of}
-use Rattle.tsa_judge.proofs.Known.{placed_are_known, points_are_of_the_core, uses_are_of_the_core}
+use Rattle.tsa_use.proofs.NoneFails.{none_of_both}
+use Rattle.tsa_deed.specs.Bodies.{Around, point_premises, points_premises}
+use Rattle.tsa_points.specs.CoreLaws.{known_of, seen_at}
+use Rattle.tsa_node.specs.Expressions.{attributes_at}
+use Rattle.tsa_points.specs.Points.{PlacedPoint, placed, placed_all}
+use Rattle.tsa_ground.specs.Units as profile
+use Rattle.tsa_ground.specs.Units.{Unit, around, attributes_behind, attributes_by, heads_premises, own_attributes, paths_limits, points_in, refusal_of_profile, stable_of, tries_limits, unit_of}
+use Rattle.tsa_points.proofs.Known.{placed_are_known, points_are_of_the_core, uses_are_of_the_core}
 use Rattle.tsa_profile.proofs.AddedNames.{adds_inside}
 use Rattle.tsa_profile.proofs.BodyWays as ways
 use Rattle.tsa_profile.proofs.FunctionPaths.{functions_are}

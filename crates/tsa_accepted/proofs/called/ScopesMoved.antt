@@ -14,7 +14,7 @@ use Rattle.tsa_core.specs.Programs.{Bodied}
 use Rattle.tsa_core.proofs.DeedsHold.{Facts}
 use Rattle.tsa_core.proofs.EachScope.{each_point}
 use Rattle.tsa_core.proofs.KnownLocals.{names_more, one_name}
-use Rattle.tsa_judge.specs.CoreLaws.{seen}
+use Rattle.tsa_points.specs.CoreLaws.{seen}
 
 pub scope_moved : (here there : Scope) (d : Deed) → seen there d ≡ seen here d → (P : Scope → Type 0) → ((s : Scope) → P s → P (with_locals 0 s))
     → ((s : Scope) → P (with_locals 0 s) → P s)

@@ -30,12 +30,12 @@ use Rattle.tsa_rules.specs.Conditions.{answer_in, answer_of, constant_in, yes_or
 use Rattle.tsa_seen.specs.Premises.{first}
 use Rattle.tsa_seen.specs.declared.premise.ProfileCode.TheVariants.{PF7}
 use Rattle.tsa_seen.specs.declared.standing.Standing.TheVariants.{Whole}
-use Rattle.tsa_argument.proofs.NoneFails.{none_of_both, none_of_first}
-use Rattle.tsa_judge.specs.Bodies.{Around, deed_premises, is_no_truth, point_premises, points_premises, value_misfits, view_at}
-use Rattle.tsa_judge.specs.CoreLaws.{known_of, seen, seen_at}
-use Rattle.tsa_judge.specs.Expressions.{expression, is_truth}
-use Rattle.tsa_judge.specs.Points.{PlacedPoint, placed, placed_all}
-use Rattle.tsa_judge.proofs.Known.{placed_are_known}
+use Rattle.tsa_use.proofs.NoneFails.{none_of_both, none_of_first}
+use Rattle.tsa_deed.specs.Bodies.{Around, deed_premises, is_no_truth, point_premises, points_premises, value_misfits, view_at}
+use Rattle.tsa_points.specs.CoreLaws.{known_of, seen, seen_at}
+use Rattle.tsa_node.specs.Expressions.{expression, is_truth}
+use Rattle.tsa_points.specs.Points.{PlacedPoint, placed, placed_all}
+use Rattle.tsa_points.proofs.Known.{placed_are_known}
 use Rattle.tsa_told.proofs.Constants.{terms_have_the_constants}
 use Rattle.tsa_sound.specs.BodyFacts.{GivesAnAnswer}
 use Rattle.tsa_accepted.proofs.entered.ArgumentsLead.{constant_converted}

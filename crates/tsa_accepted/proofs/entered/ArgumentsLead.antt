@@ -26,7 +26,7 @@ use Rattle.tsa_way.specs.declared.path.PathStep.{PathStep}
 use Rattle.tsa_way.specs.declared.path.PathStep.TheVariants.{Field, Follow}
 use Rattle.tsa_way.specs.declared.path.Root.{Root}
 use Rattle.tsa_way.specs.declared.path.Root.TheVariants.{Global, Local, Owner}
-use Rattle.tsa_core.specs.Calls.{index_in}
+use Rattle.tsa_layout.specs.Calls.{index_in}
 use Rattle.tsa_core.specs.Kinds.{Setting, Belongs}
 use Rattle.tsa_core.specs.Meanings.{arguments, as_kind, is_int, loaded, meaning, null_pointer, of_name, of_number}
 use Rattle.tsa_core.specs.Terms.{Term, constant, variable, answer, global, member, element, target, load, address, converted, prefixed, joined, Sense}

@@ -25,9 +25,9 @@ use Rattle.tsa_seen.specs.Locks.{is_try}
 use Rattle.tsa_seen.specs.Premises.{first, premise}
 use Rattle.tsa_seen.specs.declared.premise.ProfileCode.TheVariants.{PF1, PF2, PF7, PF9}
 use Rattle.tsa_seen.specs.declared.standing.Standing.TheVariants.{Inside}
-use Rattle.tsa_argument.specs.Declarations.{argument, attribute_arguments, attribute_premises, is_among, is_call, is_int, is_named_once, is_order, misfits, way, ways_behind, with_way}
-use Rattle.tsa_argument.proofs.NoneFails.{none_of_both, none_of_first}
-use Rattle.tsa_judge.specs.Expressions.{View, own, parts}
+use Rattle.tsa_ask.specs.Declarations.{argument, attribute_arguments, attribute_premises, is_among, is_call, is_int, is_named_once, is_order, misfits, way, ways_behind, with_way}
+use Rattle.tsa_use.proofs.NoneFails.{none_of_both, none_of_first}
+use Rattle.tsa_node.specs.Expressions.{View, own, parts}
 use Rattle.tsa_sound.specs.BodyFacts.{SaysItsMode}
 use Rattle.tsa_base.proofs.Truths.{never, or_right}
 

@@ -19,7 +19,7 @@ use Rattle.tsa_tree.specs.units.Syntax.{UnitItem}
 use Rattle.tsa_way.specs.LockPaths.{stable_in}
 use Rattle.tsa_way.specs.Ways.{Way}
 use Rattle.tsa_core.specs.Bodies.{Known, known_in_body, point_of}
-use Rattle.tsa_core.specs.Calls.{Layout}
+use Rattle.tsa_layout.specs.Calls.{Layout}
 use Rattle.tsa_core.specs.KindLaws.{kinds_of}
 use Rattle.tsa_core.specs.Kinds.{scalar_kind}
 use Rattle.tsa_core.specs.Programs.{Attr, Bodied, Declared, Function, attrs_of, bodied_function, body_in, declared_functions, function_of, stable_locals}
@@ -36,11 +36,11 @@ use Rattle.tsa_rules.specs.Points.{or_idle, point_at}
 use Rattle.tsa_seen.specs.Locks.{is_try, tries}
 use Rattle.tsa_seen.specs.Premises.{first}
 use Rattle.tsa_seen.specs.declared.premise.ProfileCode.TheVariants.{PF6}
-use Rattle.tsa_argument.specs.Declarations.{attribute_premises, head_premises, is_int, is_nothing, param_premises}
-use Rattle.tsa_argument.proofs.NoneFails.{none_of_both, none_of_first}
-use Rattle.tsa_judge.specs.Expressions.{View}
-use Rattle.tsa_judge.specs.Units as profile
-use Rattle.tsa_judge.specs.Units.{attributes_by, items_premises, paths_limits, tries_limits, unit_of}
+use Rattle.tsa_ask.specs.Declarations.{attribute_premises, head_premises, is_int, is_nothing, param_premises}
+use Rattle.tsa_use.proofs.NoneFails.{none_of_both, none_of_first}
+use Rattle.tsa_node.specs.Expressions.{View}
+use Rattle.tsa_ground.specs.Units as profile
+use Rattle.tsa_ground.specs.Units.{attributes_by, items_premises, paths_limits, tries_limits, unit_of}
 use Rattle.tsa_sound.specs.BodyFacts.{BodyFacts, GivesAnAnswer, IsScalar, MentionsParameters}
 use Rattle.tsa_accepted.specs.terms.Units.{IsInProfile}
 use Rattle.tsa_accepted.specs.entered.Laws.{BodiesMayBeEntered}

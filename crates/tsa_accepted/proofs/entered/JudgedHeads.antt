@@ -24,11 +24,11 @@ use Rattle.tsa_core.proofs.BodiesAgree.{Means}
 use Rattle.tsa_lead.proofs.Laid.{front_at}
 use Rattle.tsa_seen.specs.Locks.{tries}
 use Rattle.tsa_seen.specs.Premises.{first}
-use Rattle.tsa_argument.proofs.NoneFails.{none_of_both}
-use Rattle.tsa_judge.specs.Bodies.{Around, points_premises}
-use Rattle.tsa_judge.specs.Points.{placed_all}
-use Rattle.tsa_judge.specs.Units as profile
-use Rattle.tsa_judge.specs.Units.{Unit, around, attributes_behind, attributes_by, heads_premises, points_in, unit_of}
+use Rattle.tsa_use.proofs.NoneFails.{none_of_both}
+use Rattle.tsa_deed.specs.Bodies.{Around, points_premises}
+use Rattle.tsa_points.specs.Points.{placed_all}
+use Rattle.tsa_ground.specs.Units as profile
+use Rattle.tsa_ground.specs.Units.{Unit, around, attributes_behind, attributes_by, heads_premises, points_in, unit_of}
 use Rattle.tsa_profile.proofs.FunctionScopes.{Bodies, Stands, body_told, one_meant}
 use Rattle.tsa_profile.proofs.PathTables.{Reads, bodies_behind, head_told, none_came_yet, own_body, reads_on}
 

@@ -28,8 +28,8 @@ use Rattle.tsa_core.proofs.ScopesBelong.{Each}
 use Rattle.tsa_core.proofs.UnitScopes.{declared_told}
 use Rattle.tsa_seen.specs.Premises.{first}
 use Rattle.tsa_seen.specs.declared.premise.ProfileCode.TheVariants.{PF4}
-use Rattle.tsa_argument.specs.Declarations.{param_premises}
-use Rattle.tsa_argument.proofs.NoneFails.{none_of_first}
+use Rattle.tsa_ask.specs.Declarations.{param_premises}
+use Rattle.tsa_use.proofs.NoneFails.{none_of_first}
 use Rattle.tsa_sound.specs.BodyFacts.{IsScalar}
 use Rattle.tsa_base.proofs.Truths.{never}
 

@@ -4,13 +4,13 @@ use Rattle.tsa_tree.specs.types.FirstFailing.{first_failing}
 use Rattle.tsa_tree.specs.types.Units.{outset}
 use Rattle.tsa_tree.specs.units.Syntax.{UnitItem}
 use Rattle.tsa_core.specs.Bodies.{known_in_body}
-use Rattle.tsa_core.specs.Calls.{Layout}
-use Rattle.tsa_core.specs.Leading.{HasPlaces}
+use Rattle.tsa_layout.specs.Calls.{Layout}
+use Rattle.tsa_lead.specs.Leading.{HasPlaces}
 use Rattle.tsa_core.specs.Programs.{Bodied, Declared, Function, Program, bodied_function, declared_functions, function_in, function_of, program_of}
 use Rattle.tsa_core.proofs.MappedLists.{map_at, map_length}
 use Rattle.tsa_core.proofs.ProgramKinds.{program_layout}
 use Rattle.tsa_rules.specs.Points.{function_at, or_no_function, points_of}
-use Rattle.tsa_judge.specs.Units.{refusal_of_profile}
+use Rattle.tsa_ground.specs.Units.{refusal_of_profile}
 use Rattle.tsa_profile.specs.Paths.{paths_of}
 use Rattle.tsa_profile.proofs.FunctionPaths.{functions_are}
 use Rattle.tsa_accepted.specs.kept.Laws.{LocalsAreSetApart, SetsApart, UnitsKeepTheirRows}

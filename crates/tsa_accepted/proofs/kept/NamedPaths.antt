@@ -6,7 +6,7 @@ use Rattle.tsa_core.specs.Bodies.{Body, Point}
 use Rattle.tsa_core.specs.Meanings.{Call}
 use Rattle.tsa_core.specs.Programs.{Attr, Function, Program}
 use Rattle.tsa_core.specs.Uses.{Uses}
-use Rattle.tsa_judge.specs.Ways.{each_once, present}
+use Rattle.tsa_deed.specs.Ways.{each_once, present}
 use Rattle.tsa_path.specs.PathTables.{AreDifferent, with_path}
 use Rattle.tsa_path.specs.Sameness.{same_way}
 use Rattle.tsa_path.specs.Substitution.{substituted}

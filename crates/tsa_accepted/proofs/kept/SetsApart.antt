@@ -15,8 +15,8 @@ use Rattle.tsa_tree.proofs.types.UnitNodes.{premises_tell_it}
 use Rattle.tsa_way.specs.LockPaths.{stable_in}
 use Rattle.tsa_way.specs.Ways.{Way}
 use Rattle.tsa_core.specs.Bodies.{Action, Known, Point, branch, declare, declared, evaluate, give, go_on, known_in_body, point_by, point_of, set_cell, set_local, set_to, test}
-use Rattle.tsa_core.specs.Calls.{Layout}
-use Rattle.tsa_core.specs.Leading.{HasPlaces}
+use Rattle.tsa_layout.specs.Calls.{Layout}
+use Rattle.tsa_lead.specs.Leading.{HasPlaces}
 use Rattle.tsa_core.specs.Meanings.{Call, meaning}
 use Rattle.tsa_core.specs.Programs.{Bodied, Declared, Function, Program, bodied_function, body_in, declared_functions, function_of, program_of}
 use Rattle.tsa_core.specs.Terms.{Term, constant, variable, answer, global, member, element, target, load, address, converted, prefixed, joined}
@@ -26,7 +26,7 @@ use Rattle.tsa_core.proofs.EachScope.{each_point}
 use Rattle.tsa_core.proofs.MappedLists.{map_at, map_length}
 use Rattle.tsa_rules.specs.Points.{is_a_try, local_begun, mentions, or_idle, point_at, try_variable_at, try_variables}
 use Rattle.tsa_rules.proofs.KeptTries.{try_variables_are_told_by_declarations}
-use Rattle.tsa_judge.specs.Units.{refusal_of_profile}
+use Rattle.tsa_ground.specs.Units.{refusal_of_profile}
 use Rattle.tsa_profile.specs.Paths.{paths_of}
 use Rattle.tsa_sound.specs.Facts.{IsUnmentioned, set_by}
 use Rattle.tsa_accepted.proofs.laid.Laying.{places_are_laid_out}

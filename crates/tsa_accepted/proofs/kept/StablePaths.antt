@@ -18,12 +18,12 @@ use Rattle.tsa_way.specs.declared.path.PathStep.TheVariants.{Constant, Field, Fo
 use Rattle.tsa_way.specs.declared.path.Root.{Root}
 use Rattle.tsa_way.specs.declared.path.Root.TheVariants.{Global, Local, Owner}
 use Rattle.tsa_core.specs.Bodies.{Known, Point, known_in_body}
-use Rattle.tsa_core.specs.Calls.{Layout}
+use Rattle.tsa_layout.specs.Calls.{Layout}
 use Rattle.tsa_core.specs.Cells.{cells_read, inner_cells, own_cell, read_before}
 use Rattle.tsa_core.specs.Meanings.{Call}
 use Rattle.tsa_core.specs.Programs.{Attr, Bodied, Declared, Function, Program, attr_args, attrs_of, body_in, function_of}
 use Rattle.tsa_core.specs.Uses.{Access, Uses, accesses, call_ways, given_uses, init_uses, reads, uses_by, uses_of, value_uses, written}
-use Rattle.tsa_judge.specs.Ways.{each_once, present}
+use Rattle.tsa_deed.specs.Ways.{each_once, present}
 use Rattle.tsa_path.specs.PathTables.{is_known, with_path}
 use Rattle.tsa_path.specs.Substitution.{substituted}
 use Rattle.tsa_rules.specs.Points.{is_index, is_rooted_at, mentions}

@@ -30,7 +30,7 @@ use Rattle.tsa_way.specs.LockPaths.{stable_in}
 use Rattle.tsa_core.specs.Bodies.{Known, declared, known_in_body, point_by, point_of}
 use Rattle.tsa_core.specs.Meanings.{call_in, call_of}
 use Rattle.tsa_core.specs.Programs.{Attr, Bodied, Declared, Function, Program, bodied_by, bodied_function, body_in, declared_by, declared_functions, first_head, function_in, or_body, program_of, stable_locals}
-use Rattle.tsa_core.proofs.Laid.{by_last}
+use Rattle.tsa_lead.proofs.Laid.{by_last}
 use Rattle.tsa_core.proofs.MappedLists.{map_at}
 use Rattle.tsa_core.proofs.NoFailure as typing
 use Rattle.tsa_core.proofs.TypedTerms.{some_same}
@@ -41,15 +41,15 @@ use Rattle.tsa_seen.specs.Locks.{is_try, tries}
 use Rattle.tsa_seen.specs.Premises.{first, premise}
 use Rattle.tsa_seen.specs.declared.premise.ProfileCode.TheVariants.{PF1, PF2, PF4, PF5}
 use Rattle.tsa_seen.specs.declared.standing.Standing.TheVariants.{Whole}
-use Rattle.tsa_argument.proofs.NoneFails.{none_of_both, none_of_first}
-use Rattle.tsa_judge.specs.Bodies.{Around, begins_a_try, deed_premises, local_init, point_premises, points_premises, standing_of, view_at}
-use Rattle.tsa_argument.specs.Declarations.{is_int}
-use Rattle.tsa_judge.specs.CoreLaws.{known_of, seen, seen_at}
-use Rattle.tsa_judge.specs.Expressions.{attributes_at, callee, expression, is_try_call, lacks_a_path, of_callee, own, parts}
-use Rattle.tsa_judge.specs.Points.{PlacedPoint, placed, placed_all}
-use Rattle.tsa_judge.specs.Units as profile
-use Rattle.tsa_judge.specs.Units.{Unit, around, attributes_behind, attributes_by, heads_premises, own_attributes, paths_limits, points_in, refusal_of_profile, stable_of, tries_limits, unit_of}
-use Rattle.tsa_judge.proofs.Known.{placed_are_known}
+use Rattle.tsa_use.proofs.NoneFails.{none_of_both, none_of_first}
+use Rattle.tsa_deed.specs.Bodies.{Around, begins_a_try, deed_premises, local_init, point_premises, points_premises, standing_of, view_at}
+use Rattle.tsa_ask.specs.Declarations.{is_int}
+use Rattle.tsa_points.specs.CoreLaws.{known_of, seen, seen_at}
+use Rattle.tsa_node.specs.Expressions.{attributes_at, callee, expression, is_try_call, lacks_a_path, of_callee, own, parts}
+use Rattle.tsa_points.specs.Points.{PlacedPoint, placed, placed_all}
+use Rattle.tsa_ground.specs.Units as profile
+use Rattle.tsa_ground.specs.Units.{Unit, around, attributes_behind, attributes_by, heads_premises, own_attributes, paths_limits, points_in, refusal_of_profile, stable_of, tries_limits, unit_of}
+use Rattle.tsa_points.proofs.Known.{placed_are_known}
 use Rattle.tsa_profile.proofs.AddedNames.{adds_inside}
 use Rattle.tsa_profile.proofs.BodyWays as ways
 use Rattle.tsa_profile.proofs.CallsStand.{whole_stands}

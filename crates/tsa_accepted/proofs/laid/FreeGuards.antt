@@ -12,13 +12,13 @@ use Rattle.tsa_way.specs.declared.path.PathStep.{PathStep}
 use Rattle.tsa_way.specs.declared.path.PathStep.TheVariants.{Constant, Field, Follow, Variable}
 use Rattle.tsa_way.specs.declared.path.Root.{Root}
 use Rattle.tsa_way.specs.declared.path.Root.TheVariants.{Global, Local, Owner}
-use Rattle.tsa_core.specs.Calls.{Layout}
-use Rattle.tsa_core.specs.FillUnits.{no_places, with_part}
-use Rattle.tsa_core.specs.Items.{behind_data, global_part, known_global}
-use Rattle.tsa_core.specs.Layouts.{Part, structure_at}
+use Rattle.tsa_layout.specs.Calls.{Layout}
+use Rattle.tsa_fill.specs.Units.{no_places, with_part}
+use Rattle.tsa_item.specs.Items.{behind_data, global_part, known_global}
+use Rattle.tsa_layout.specs.Layouts.{Part, structure_at}
 use Rattle.tsa_layout.specs.Parts.{argument_ways, guard_ways, is_guard, member_behind, no_stable, part_in, parts_behind, structure_in}
-use Rattle.tsa_core.specs.Units.{data_placed, or_behind, placed_behind, too_many_at}
-use Rattle.tsa_core.proofs.Laid.{by_last}
+use Rattle.tsa_place.specs.Units.{data_placed, or_behind, placed_behind, too_many_at}
+use Rattle.tsa_lead.proofs.Laid.{by_last}
 use Rattle.tsa_sound.specs.LaidOut.{AreLocalFree, IsLocalFree, IsLocalFreeRoot}
 use Rattle.tsa_accepted.proofs.laid.Mentions.{AreFine, IsFineIfAny, IsFineRoot, way_fine}
 

@@ -2,18 +2,18 @@
 use Rattle.std.proofs.Common.{◌≡◌, ◌∙◌, ℕ, zero, suc, ◌+◌, ◌*◌, ◌<◌, arith, List, [], ◌∷◌, ◌++◌, Option, Some, None, option_and_then, slice_get, refl, sym, ap, subst}
 use Rattle.tsa_tree.specs.declared.kind.Kind.{Kind}
 use Rattle.tsa_layout.specs.declared.place.Guard.{Guard}
-use Rattle.tsa_core.specs.Calls.{Layout, around, element_place, guards_along, guards_by, guards_of, own_guards, owner_at, owner_of, part_guards, part_of}
-use Rattle.tsa_core.specs.Holder.{Holder}
-use Rattle.tsa_core.specs.Holder.TheVariants.{Global, Member}
-use Rattle.tsa_core.specs.Layouts.{kind_size, size_of}
-use Rattle.tsa_core.specs.Leading.{first_place, leads_to, piece}
-use Rattle.tsa_core.specs.Placed.{Placed}
-use Rattle.tsa_core.specs.Places.{a_place}
-use Rattle.tsa_core.specs.Standing.{HasSome}
-use Rattle.tsa_core.proofs.Asking.{element_alone, none_is_none}
-use Rattle.tsa_core.proofs.Laid.{IsLaid}
-use Rattle.tsa_core.proofs.Pieces.{at_row, row_at, thing_at}
-use Rattle.tsa_core.proofs.Rows.{Object, PieceAt, Row, Thing, object_alone, object_element, object_place}
+use Rattle.tsa_layout.specs.Calls.{Layout, around, element_place, guards_along, guards_by, guards_of, own_guards, owner_at, owner_of, part_guards, part_of}
+use Rattle.tsa_layout.specs.declared.place.Holder.{Holder}
+use Rattle.tsa_layout.specs.declared.place.Holder.TheVariants.{Global, Member}
+use Rattle.tsa_layout.specs.Layouts.{kind_size, size_of}
+use Rattle.tsa_lead.specs.Leading.{first_place, leads_to, piece}
+use Rattle.tsa_layout.specs.declared.place.Placed.{Placed}
+use Rattle.tsa_layout.specs.Places.{a_place}
+use Rattle.tsa_layout.specs.Standing.{HasSome}
+use Rattle.tsa_lead.proofs.Asking.{element_alone, none_is_none}
+use Rattle.tsa_lead.proofs.Laid.{IsLaid}
+use Rattle.tsa_lead.proofs.Pieces.{at_row, row_at, thing_at}
+use Rattle.tsa_lead.proofs.Rows.{Object, PieceAt, Row, Thing, object_alone, object_element, object_place}
 use Rattle.tsa_lead.proofs.TextsAlong.{none_around}
 
 -- With enough steps all is listed that a place lies in.

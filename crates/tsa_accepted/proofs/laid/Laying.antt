@@ -5,18 +5,18 @@ use Rattle.tsa_tree.specs.declared.kind.Kind.TheVariants as type
 use Rattle.tsa_tree.specs.types.Units.{outset}
 use Rattle.tsa_tree.specs.units.Syntax.{UnitItem}
 use Rattle.tsa_way.specs.Ways.{Way}
-use Rattle.tsa_core.specs.Calls.{Layout, element_place, guards_by, guards_of, members_of, part_guards, part_of}
-use Rattle.tsa_core.specs.FillUnits.{no_places}
-use Rattle.tsa_core.specs.Holder.{Holder}
-use Rattle.tsa_core.specs.Holder.TheVariants.{Global, Member}
-use Rattle.tsa_core.specs.Layouts.{Part, kind_size, size_of, structure_at}
-use Rattle.tsa_core.specs.Leading.{HasPlaces, leads_to}
-use Rattle.tsa_core.specs.Placed.{Placed}
-use Rattle.tsa_core.specs.Places.{has_some}
-use Rattle.tsa_core.proofs.Asking.{none_is_none, same_some}
-use Rattle.tsa_core.proofs.Laid.{IsLaid, unit_laid}
-use Rattle.tsa_core.proofs.Pieces.{at_row, element_is, row_at}
-use Rattle.tsa_core.proofs.Rows.{PieceAt, Row, Thing}
+use Rattle.tsa_layout.specs.Calls.{Layout, element_place, guards_by, guards_of, members_of, part_guards, part_of}
+use Rattle.tsa_fill.specs.Units.{no_places}
+use Rattle.tsa_layout.specs.declared.place.Holder.{Holder}
+use Rattle.tsa_layout.specs.declared.place.Holder.TheVariants.{Global, Member}
+use Rattle.tsa_layout.specs.Layouts.{Part, kind_size, size_of, structure_at}
+use Rattle.tsa_lead.specs.Leading.{HasPlaces, leads_to}
+use Rattle.tsa_layout.specs.declared.place.Placed.{Placed}
+use Rattle.tsa_layout.specs.Places.{has_some}
+use Rattle.tsa_lead.proofs.Asking.{none_is_none, same_some}
+use Rattle.tsa_lead.proofs.Laid.{IsLaid, unit_laid}
+use Rattle.tsa_lead.proofs.Pieces.{at_row, element_is, row_at}
+use Rattle.tsa_lead.proofs.Rows.{PieceAt, Row, Thing}
 use Rattle.tsa_lead.proofs.Leading.{what_is_led_to_bears}
 use Rattle.tsa_path.proofs.StandDeclared.{Heads, Marks, StandsAs, element_marked, global_marked, inner_marks, marks, member_marked, no_heads, part_marks, items_heads}
 use Rattle.tsa_sound.specs.LaidOut as laid

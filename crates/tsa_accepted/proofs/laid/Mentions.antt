@@ -11,7 +11,7 @@ use Rattle.tsa_tree.specs.types.Operands.{integer_kind}
 use Rattle.tsa_tree.specs.types.Scopes.{Scope, context_of, known_in}
 use Rattle.tsa_way.specs.LockPaths as path
 use Rattle.tsa_way.specs.LockPaths.{Led, as_lock, element_step, in_range, index_step, is_address, is_pointer, leads, lock_way, meant, member_step, name_way, or_variable, to_member}
-use Rattle.tsa_way.specs.Lookups.{numbered}
+use Rattle.tsa_scope.specs.Lookups.{numbered}
 use Rattle.tsa_way.specs.Ways.{Way, from, onward}
 use Rattle.tsa_way.specs.declared.path.PathStep.{PathStep}
 use Rattle.tsa_way.specs.declared.path.PathStep.TheVariants.{Constant, Field, Follow, Variable}

@@ -24,7 +24,7 @@ use Rattle.tsa_way.specs.declared.path.PathStep.{PathStep}
 use Rattle.tsa_way.specs.declared.path.PathStep.TheVariants.{Constant, Field, Follow}
 use Rattle.tsa_way.specs.declared.path.Root.{Root}
 use Rattle.tsa_way.specs.declared.path.Root.TheVariants as root
-use Rattle.tsa_core.specs.Calls.{index_in}
+use Rattle.tsa_layout.specs.Calls.{index_in}
 use Rattle.tsa_core.specs.Kinds.{Setting, Belongs}
 use Rattle.tsa_core.specs.Meanings.{loaded, null_pointer, of_name, of_number, as_kind, meaning, arguments}
 use Rattle.tsa_core.specs.Meanings as meant

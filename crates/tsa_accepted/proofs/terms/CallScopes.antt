@@ -17,13 +17,13 @@ use Rattle.tsa_tree.specs.types.Locals.{local_entry}
 use Rattle.tsa_tree.specs.types.Scopes.{Scope, context_of, found, further, known_in, with_name}
 use Rattle.tsa_tree.specs.types.Units.{outset}
 use Rattle.tsa_tree.specs.units.Syntax.{UnitItem}
-use Rattle.tsa_lead.specs.Lookups.{params_in}
+use Rattle.tsa_scope.specs.Lookups.{params_in}
 use Rattle.tsa_way.specs.Ways.{Way}
 use Rattle.tsa_way.specs.declared.path.PathStep.{PathStep}
 use Rattle.tsa_way.specs.declared.path.Root.{Root}
 use Rattle.tsa_way.specs.declared.path.Root.TheVariants as root
 use Rattle.tsa_core.specs.Bodies.{known_in_body}
-use Rattle.tsa_core.specs.Calls.{Layout}
+use Rattle.tsa_layout.specs.Calls.{Layout}
 use Rattle.tsa_core.specs.KindLaws.{setting, signatures}
 use Rattle.tsa_core.specs.Kinds.{Belongs, Setting}
 use Rattle.tsa_core.specs.Meanings.{Call, call_of}

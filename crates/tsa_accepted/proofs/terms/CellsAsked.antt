@@ -7,7 +7,7 @@ use Rattle.tsa_tree.specs.declared.expr.BinaryOp.TheVariants as op
 use Rattle.tsa_tree.specs.declared.expr.UnaryOp.TheVariants as prefix
 use Rattle.tsa_tree.specs.expressions.Syntax.{Expression, Arguments, number, null, named, call, unary, binary, field, index, none, more}
 use Rattle.tsa_tree.specs.types.Scopes.{Scope}
-use Rattle.tsa_core.specs.Calls.{Layout}
+use Rattle.tsa_layout.specs.Calls.{Layout}
 use Rattle.tsa_core.specs.Cells.{own_cell, inner_cells, argument_cells, cells_read}
 use Rattle.tsa_core.specs.Meanings.{is_loaded, meaning}
 use Rattle.tsa_core.specs.Uses.{access_guards}
@@ -17,8 +17,8 @@ use Rattle.tsa_seen.specs.Locks.{is_empty}
 use Rattle.tsa_seen.specs.declared.standing.Standing.{Standing}
 use Rattle.tsa_seen.specs.declared.standing.Standing.TheVariants.{Inside}
 use Rattle.tsa_seen.specs.Standing.{under_not, beside}
-use Rattle.tsa_judge.specs.Expressions.{View, constant, guards, lacks_a_guard, own, parts, arguments, expression}
-use Rattle.tsa_argument.proofs.NoneFails.{none_of_both, none_of_first}
+use Rattle.tsa_node.specs.Expressions.{View, constant, guards, lacks_a_guard, own, parts, arguments, expression}
+use Rattle.tsa_use.proofs.NoneFails.{none_of_both, none_of_first}
 
 -- each of some expressions
 abbrev pub EachOf : (Expression → Type 0) → List Expression → Type 0

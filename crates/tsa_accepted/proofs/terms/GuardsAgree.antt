@@ -20,14 +20,14 @@ use Rattle.tsa_tree.specs.types.Operands.{lacks, breaks_index, element_type}
 use Rattle.tsa_tree.specs.types.Scopes.{Scope, context_of, known_in}
 use Rattle.tsa_way.specs.Arguments.{way_of}
 use Rattle.tsa_way.specs.LockPaths.{Led, leads}
-use Rattle.tsa_way.specs.Lookups.{members_at, numbered}
+use Rattle.tsa_scope.specs.Lookups.{members_at, numbered}
 use Rattle.tsa_way.specs.Ways.{Way}
 use Rattle.tsa_way.specs.declared.path.PathStep.{PathStep}
 use Rattle.tsa_way.specs.declared.path.Root.{Root}
 use Rattle.tsa_way.specs.declared.path.Root.TheVariants as root
-use Rattle.tsa_core.specs.Calls.{Layout, part_guards}
+use Rattle.tsa_layout.specs.Calls.{Layout, part_guards}
 use Rattle.tsa_core.specs.Kinds.{Setting, Belongs, GiveAnswer, place_type, struct_in}
-use Rattle.tsa_core.specs.Layouts.{structure_at}
+use Rattle.tsa_layout.specs.Layouts.{structure_at}
 use Rattle.tsa_core.specs.Meanings.{loaded, name_term, of_name, of_call, prefix_term, operands, base_of, to_member, of_field, meaning}
 use Rattle.tsa_core.specs.Terms.{member, target, Sense}
 use Rattle.tsa_core.specs.Uses.{access_guards, field_guards, guards_owned, member_guards, name_guards, owned_by}

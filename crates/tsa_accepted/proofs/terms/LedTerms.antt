@@ -16,7 +16,7 @@ use Rattle.tsa_tree.specs.types.Operands.{integer_kind, pointer_kind, is_single,
 use Rattle.tsa_tree.specs.types.Runnable.{is_small}
 use Rattle.tsa_tree.specs.types.Scopes.{Scope, context_of, known_in}
 use Rattle.tsa_tree.specs.types.Types.{single}
-use Rattle.tsa_way.specs.Lookups.{members_at, numbered}
+use Rattle.tsa_scope.specs.Lookups.{members_at, numbered}
 use Rattle.tsa_way.specs.LockPaths as path
 use Rattle.tsa_way.specs.LockPaths.{Led, led, meant, pointed, member_step, element_step, in_range, or_variable, index_step, name_way, leads}
 use Rattle.tsa_way.specs.Ways.{Way, from, onward}

@@ -8,7 +8,7 @@ use Rattle.tsa_core.specs.Bodies.{Body, Point}
 use Rattle.tsa_core.specs.Programs.{Function, Program}
 use Rattle.tsa_core.specs.Uses.{Access, Uses}
 use Rattle.tsa_core.proofs.KindTests.{or_left}
-use Rattle.tsa_judge.specs.Ways.{each_once, present}
+use Rattle.tsa_deed.specs.Ways.{each_once, present}
 use Rattle.tsa_path.specs.Sameness.{same_way}
 use Rattle.tsa_path.proofs.Same.{way_equal}
 use Rattle.tsa_profile.specs.Paths.{called, paths_of, point_ways, points_in, points_ways, ways_of}

@@ -15,7 +15,7 @@ use Rattle.tsa_tree.specs.types.Targets.{declared_in}
 use Rattle.tsa_tree.specs.types.Units.{behind_item}
 use Rattle.tsa_tree.specs.units.Syntax.{UnitItem, structure_item, alias_item, enumeration_item, global_item, function_item, body_item}
 use Rattle.tsa_core.specs.Bodies.{Known, knows, known, known_all, known_init, known_step, known_in_body}
-use Rattle.tsa_core.specs.Calls.{Layout}
+use Rattle.tsa_layout.specs.Calls.{Layout}
 use Rattle.tsa_core.specs.Programs.{Attr, Bodied, bodied_by, bodied_function, or_body}
 use Rattle.tsa_core.proofs.FactsKnown.{each_both}
 use Rattle.tsa_core.proofs.ScopesBelong.{Each}
@@ -25,13 +25,13 @@ use Rattle.tsa_seen.specs.declared.premise.ProfileCode.TheVariants.{PF4, PF7}
 use Rattle.tsa_seen.specs.Premises.{first}
 use Rattle.tsa_seen.specs.declared.standing.Standing.{Standing}
 use Rattle.tsa_seen.specs.declared.standing.Standing.TheVariants.{Whole, Test, Inside}
-use Rattle.tsa_judge.specs.Bodies.{Around, view_at, begins_a_try, standing_of, value_misfits, point_premises, points_premises}
-use Rattle.tsa_judge.specs.Bodies as profile
-use Rattle.tsa_judge.specs.Expressions.{expression}
-use Rattle.tsa_judge.specs.Points.{placed, placed_simple, placed_init, placed_step, placed_test, placed_for, placed_in, placed_all}
-use Rattle.tsa_judge.specs.Units as unit
-use Rattle.tsa_judge.specs.Units.{around, attributes_behind, heads_premises, item_premises, items_premises, points_in}
-use Rattle.tsa_argument.proofs.NoneFails.{none_of_both, none_of_first}
+use Rattle.tsa_deed.specs.Bodies.{Around, view_at, begins_a_try, standing_of, value_misfits, point_premises, points_premises}
+use Rattle.tsa_deed.specs.Bodies as profile
+use Rattle.tsa_node.specs.Expressions.{expression}
+use Rattle.tsa_points.specs.Points.{placed, placed_simple, placed_init, placed_step, placed_test, placed_for, placed_in, placed_all}
+use Rattle.tsa_ground.specs.Units as unit
+use Rattle.tsa_ground.specs.Units.{around, attributes_behind, heads_premises, item_premises, items_premises, points_in}
+use Rattle.tsa_use.proofs.NoneFails.{none_of_both, none_of_first}
 use Rattle.tsa_accepted.proofs.terms.CellsAsked.{IsAsked, asked}
 use Rattle.tsa_accepted.proofs.terms.ScopesKept.{guards_kept}
 use Rattle.tsa_profile.proofs.PointsRun.{point_alone, point_before, points_of_both}

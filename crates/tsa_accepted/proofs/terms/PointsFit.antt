@@ -13,9 +13,9 @@ use Rattle.tsa_tree.specs.units.Syntax.{UnitItem}
 use Rattle.tsa_tree.proofs.types.UnitNodes.{premises_tell_it}
 use Rattle.tsa_way.specs.LockPaths.{stable_in}
 use Rattle.tsa_way.specs.Ways.{Way}
-use Rattle.tsa_lead.specs.Units.{placed_in}
+use Rattle.tsa_place.specs.Units.{placed_in}
 use Rattle.tsa_core.specs.Bodies.{can_have, Known, knows, known_all, known_in_body, Point, point_of}
-use Rattle.tsa_core.specs.Calls.{Layout}
+use Rattle.tsa_layout.specs.Calls.{Layout}
 use Rattle.tsa_core.specs.Control.{Outcome, body_edges, next_point}
 use Rattle.tsa_core.specs.KindLaws.{function_locals, kinds_of, setting, signatures}
 use Rattle.tsa_core.specs.Kinds.{Belongs}
@@ -34,9 +34,9 @@ use Rattle.tsa_core.proofs.ProgramKinds.{programs_well_kinded}
 use Rattle.tsa_core.proofs.ScopesBelong.{Each, scopes_belong}
 use Rattle.tsa_core.proofs.SignaturesFit.{SoundBody, body_sound}
 use Rattle.tsa_core.proofs.UsesOfCells.{points_load_cells, points_load_just}
-use Rattle.tsa_judge.specs.Units as profile
-use Rattle.tsa_judge.specs.Units.{items_premises, paths_limits, tries_limits, unit_of}
-use Rattle.tsa_argument.proofs.NoneFails.{none_of_both}
+use Rattle.tsa_ground.specs.Units as profile
+use Rattle.tsa_ground.specs.Units.{items_premises, paths_limits, tries_limits, unit_of}
+use Rattle.tsa_use.proofs.NoneFails.{none_of_both}
 use Rattle.tsa_profile.specs.Paths.{paths_of}
 use Rattle.tsa_profile.proofs.UnitsRun.{profiles_are_runnable}
 use Rattle.tsa_rules.specs.Attributes.{local_kinds}

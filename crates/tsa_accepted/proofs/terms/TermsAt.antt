@@ -11,7 +11,7 @@ use Rattle.tsa_tree.specs.types.Constants.{enumerator}
 use Rattle.tsa_tree.specs.types.Scopes.{Scope, known_in}
 use Rattle.tsa_way.specs.Ways.{Way}
 use Rattle.tsa_core.specs.Bodies.{Action, evaluate, set_local, set_cell, declare, test, branch, go_on, give, Point, knows, point, point_by}
-use Rattle.tsa_core.specs.Calls.{Layout}
+use Rattle.tsa_layout.specs.Calls.{Layout}
 use Rattle.tsa_core.specs.Kinds.{Setting, Belongs}
 use Rattle.tsa_core.specs.Loads.{loads, places}
 use Rattle.tsa_core.specs.Meanings.{Call, is_place}

@@ -6,15 +6,15 @@ use Rattle.tsa_tree.specs.types.FirstFailing.{first_failing}
 use Rattle.tsa_tree.specs.units.Syntax.{UnitItem}
 use Rattle.tsa_way.specs.Ways.{Way}
 use Rattle.tsa_core.specs.Bodies.{set_local}
-use Rattle.tsa_core.specs.Calls.{Layout}
-use Rattle.tsa_core.specs.Leading.{HasPlaces}
+use Rattle.tsa_layout.specs.Calls.{Layout}
+use Rattle.tsa_lead.specs.Leading.{HasPlaces}
 use Rattle.tsa_core.specs.Programs.{Function, Program, program_of}
 use Rattle.tsa_core.specs.Terms.{Term}
 use Rattle.tsa_path.specs.Sameness.{same_way}
 use Rattle.tsa_rules.specs.Kept.{AreKept}
 use Rattle.tsa_rules.specs.Points.{attrs_at, function_at, mentions, point_at, points_of, try_variables}
 use Rattle.tsa_rules.specs.Warnings.{HasNoWarnings}
-use Rattle.tsa_judge.specs.Units.{refusal_of_profile}
+use Rattle.tsa_ground.specs.Units.{refusal_of_profile}
 use Rattle.tsa_profile.specs.Paths.{paths_of}
 use Rattle.tsa_sound.specs.Facts.{IsAmong, IsUnmentioned, set_by}
 use Rattle.tsa_accepted.specs.kept.Visits.{rows_of}

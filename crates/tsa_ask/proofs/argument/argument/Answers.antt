@@ -1,6 +1,6 @@
 use Rattle.std.proofs.Common.{◌∙◌, sym}
 use Rattle.std.proofs.lemmas.Result.{IfOk-weaker}
-use Rattle.tsa_use.specs.Told.{view_of}
+use Rattle.tsa_node.specs.Told.{view_of}
 use Rattle.tsa_ask.proofs.EachArgument.{again_told, call_told, lack_told, place_told}
 use Rattle.tsa_ask.proofs.argument.argument.Goals as goal
 

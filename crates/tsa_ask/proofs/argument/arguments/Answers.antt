@@ -1,7 +1,7 @@
 use Rattle.std.proofs.Common.{◌∙◌, sym}
 use Rattle.std.proofs.Math.Seq.{drop-cons}
 use Rattle.std.proofs.lemmas.List.{drop_all}
-use Rattle.tsa_use.specs.Told.{view_of}
+use Rattle.tsa_node.specs.Told.{view_of}
 use Rattle.tsa_ask.proofs.EachArgument.{argument_passes, argument_stops, name_passes, no_argument, no_name}
 use Rattle.tsa_ask.proofs.argument.arguments.Goals as goal
 

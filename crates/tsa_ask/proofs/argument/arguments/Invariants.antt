@@ -1,7 +1,7 @@
 use Rattle.std.proofs.Common.{◌≡◌, drop}
 use Rattle.tsa_tree.specs.expressions.Shapes.{shapes}
 use Rattle.tsa_seen.specs.Premises.{first}
-use Rattle.tsa_use.specs.Told.{view_of}
+use Rattle.tsa_node.specs.Told.{view_of}
 use Rattle.tsa_ask.specs.Declarations.{attribute_arguments, ways_behind}
 use Rattle.tsa_ask.proofs.argument.arguments.Given as goal
 

@@ -1,7 +1,7 @@
 use Rattle.std.proofs.Common.{◌≡◌, drop}
 use Rattle.tsa_tree.specs.attributes.Syntax.{attr_shapes}
 use Rattle.tsa_seen.specs.Premises.{first}
-use Rattle.tsa_use.specs.Told.{view_of}
+use Rattle.tsa_node.specs.Told.{view_of}
 use Rattle.tsa_ask.specs.Declarations.{guard_premises}
 use Rattle.tsa_ask.proofs.attributes.guards_failure.Given as goal
 

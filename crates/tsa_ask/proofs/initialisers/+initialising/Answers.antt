@@ -6,7 +6,7 @@ use Rattle.tsa_tree.proofs.declarations.Trees.{list_at}
 use Rattle.tsa_tree.specs.declarations.Shapes.{init_shape, init_shapes}
 use Rattle.tsa_tree.specs.expressions.Shapes.{shape}
 use Rattle.tsa_seen.specs.Premises.{first}
-use Rattle.tsa_use.specs.Told.{view_of}
+use Rattle.tsa_node.specs.Told.{view_of}
 use Rattle.tsa_ask.specs.Declarations.{init_premises}
 use Rattle.tsa_ask.proofs.EachItem.{item_passes, item_stops, list_asked, no_item, value_asked}
 use Rattle.tsa_ask.proofs.initialisers.+initialising.Goals as goal

@@ -1,7 +1,7 @@
 use Rattle.std.proofs.Common.{◌≡◌, drop}
 use Rattle.tsa_tree.specs.declarations.Shapes.{init_shapes}
 use Rattle.tsa_seen.specs.Premises.{first}
-use Rattle.tsa_use.specs.Told.{view_of}
+use Rattle.tsa_node.specs.Told.{view_of}
 use Rattle.tsa_ask.specs.Declarations.{item_premises}
 use Rattle.tsa_ask.proofs.initialisers.+initialising.Given as goal
 

@@ -2,7 +2,7 @@ use Rattle.std.proofs.Common.{◌∙◌, sym, ap}
 use Rattle.std.specs.Prelude.{option_map}
 use Rattle.tsa_tree.specs.declarations.Shapes.{init_shape}
 use Rattle.tsa_seen.specs.Premises.{first}
-use Rattle.tsa_use.specs.Told.{view_of}
+use Rattle.tsa_node.specs.Told.{view_of}
 use Rattle.tsa_ask.specs.Declarations.{given_init}
 use Rattle.tsa_ask.proofs.Firsts.{nothing_fails}
 use Rattle.tsa_ask.proofs.initialisers.given_failure.Goals as goal

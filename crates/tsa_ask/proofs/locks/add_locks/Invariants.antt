@@ -1,5 +1,5 @@
 use Rattle.std.proofs.Common.{◌≡◌, ◌++◌, drop}
-use Rattle.tsa_use.specs.Programs.{attr_args}
+use Rattle.tsa_core.specs.Programs.{attr_args}
 use Rattle.tsa_tree.specs.attributes.Syntax.{attr_shape}
 use Rattle.tsa_tree.specs.expressions.Shapes.{shapes}
 use Rattle.tsa_way.specs.LockPaths.{stable_in}

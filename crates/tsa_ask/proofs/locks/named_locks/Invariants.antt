@@ -1,5 +1,5 @@
 use Rattle.std.proofs.Common.{◌≡◌, ◌++◌, drop}
-use Rattle.tsa_use.specs.Programs.{attrs_of}
+use Rattle.tsa_core.specs.Programs.{attrs_of}
 use Rattle.tsa_tree.specs.attributes.Syntax.{attr_shapes}
 use Rattle.tsa_way.specs.LockPaths.{stable_in}
 use Rattle.tsa_ask.proofs.locks.named_locks.Given as goal

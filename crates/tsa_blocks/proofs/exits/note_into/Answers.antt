@@ -1,5 +1,5 @@
 use Rattle.tsa_graph.specs.declared.entries.Edge.{Edge}
-use Rattle.tsa_graph.specs.Outcome.TheVariants.{Next}
+use Rattle.tsa_links.specs.declared.link.Outcome.TheVariants.{Next}
 use Rattle.tsa_blocks.proofs.Leaving.{next_note}
 use Rattle.tsa_blocks.proofs.exits.note_into.Goals as goal
 

@@ -1,7 +1,7 @@
 use Rattle.std.proofs.Common.{[], refl, slice_get, subst}
 use Rattle.tsa_tree.specs.units.Shapes.{item_shapes}
 use Rattle.tsa_core.specs.Programs.{program_of}
-use Rattle.tsa_site.specs.Units.{unit_of}
+use Rattle.tsa_ground.specs.Units.{unit_of}
 use Rattle.tsa_site.specs.Finding.{IsFound}
 use Rattle.tsa_site.specs.Sites.{site_of}
 use Rattle.tsa_control.proofs.Controlled.{graph_nowhere, graph_there}

@@ -1,8 +1,8 @@
 use Rattle.std.proofs.Common.{◌≡◌, ◌∙◌, ◌<◌, ap, arith, length}
 use Rattle.std.proofs.lemmas.Result.{on_ok_weaker}
-use Rattle.tsa_flow.specs.Rows.{rows_in}
+use Rattle.tsa_marks.specs.Rows.{rows_in}
 use Rattle.tsa_rules.specs.Points.{points_of}
-use Rattle.tsa_flow.specs.RuleView.{RuleView}
+use Rattle.tsa_view.specs.declared.content.RuleView.{RuleView}
 use Rattle.tsa_failures.proofs.Noted.{of_mark, of_none, some_there}
 use Rattle.tsa_failures.proofs.marks.note_mark.Goals as goal
 use Rattle.tsa_failures.proofs.marks.note_mark.Goals.{else-entry-rows-via-then-entry-rows+else-entry-caps, else-entry-rows-via-else-entry-rows}

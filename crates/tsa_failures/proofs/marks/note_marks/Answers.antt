@@ -1,7 +1,7 @@
 use Rattle.std.proofs.Common.{◌∙◌, ℕ, ◌+◌, ◌≤◌, ap, arith, length, map, sym, subst, take}
 use Rattle.std.proofs.lemmas.List.{length-map, take_all}
-use Rattle.tsa_flow.specs.Rows.{entry_of, Rows}
-use Rattle.tsa_flow.specs.RuleView.{RuleView}
+use Rattle.tsa_marks.specs.Rows.{entry_of, Rows}
+use Rattle.tsa_view.specs.declared.content.RuleView.{RuleView}
 use Rattle.tsa_failures.specs.Adding.{Adds}
 use Rattle.tsa_failures.specs.Passes.{IsOfMarks}
 use Rattle.tsa_failures.proofs.Noted.{fresh_place, mark_more, next_place, no_marks, none_there, some_there}

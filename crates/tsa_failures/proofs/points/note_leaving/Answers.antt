@@ -1,5 +1,5 @@
 use Rattle.std.proofs.Common.{◌≡◌, ◌∙◌, ap, arith, length}
-use Rattle.tsa_flow.specs.RuleView.{RuleView}
+use Rattle.tsa_view.specs.declared.content.RuleView.{RuleView}
 use Rattle.tsa_failures.specs.Passes.{IsOfReturns}
 use Rattle.tsa_failures.proofs.Noted.{some_there}
 use Rattle.tsa_failures.proofs.Pathwise.{all_paths, none_yet, one_return, path_more, return_there}

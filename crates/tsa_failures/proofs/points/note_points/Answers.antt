@@ -1,7 +1,7 @@
 use Rattle.std.proofs.Common.{◌≡◌, ◌∙◌, ◌<◌, ap, arith, length, subst}
-use Rattle.tsa_flow.specs.Rows.{rows_in}
+use Rattle.tsa_marks.specs.Rows.{rows_in}
 use Rattle.tsa_rules.specs.Points.{points_of}
-use Rattle.tsa_flow.specs.RuleView.{RuleView}
+use Rattle.tsa_view.specs.declared.content.RuleView.{RuleView}
 use Rattle.tsa_failures.specs.Adding.{Adds}
 use Rattle.tsa_failures.proofs.Pathwise.{all_points, Before, no_points, point_more}
 use Rattle.tsa_failures.proofs.points.note_points.Goals as goal

@@ -1,7 +1,7 @@
 use Rattle.std.proofs.Common.{◌∙◌, ap, sym, true≢false}
 use Rattle.tsa_rules.specs.Cases.{is_leaving_in}
-use Rattle.tsa_flow.specs.RuleView.{RuleView}
-use Rattle.tsa_flow.specs.Views.{case_in}
+use Rattle.tsa_view.specs.declared.content.RuleView.{RuleView}
+use Rattle.tsa_view.specs.Views.{case_in}
 use Rattle.tsa_failures.proofs.Leaving.{leaves_there}
 use Rattle.tsa_failures.proofs.Pathwise.{no_return}
 use Rattle.tsa_failures.proofs.points.note_return.Goals as goal

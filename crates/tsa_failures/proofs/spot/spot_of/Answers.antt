@@ -1,5 +1,5 @@
 use Rattle.std.proofs.Common.{subst, sym}
-use Rattle.tsa_flow.specs.Views.{IsViewOf}
+use Rattle.tsa_view.specs.Views.{IsViewOf}
 use Rattle.tsa_failures.proofs.spot.spot_of.Goals as goal
 
 pub returns-clause-is : goal.returns-clause-is

@@ -1,6 +1,6 @@
 use Rattle.std.proofs.Common.{◌∙◌, Some, sym, ap}
 use Rattle.tsa_tree.proofs.declarations.Trees.{list_at}
-use Rattle.tsa_item.specs.Places.{item_of}
+use Rattle.tsa_layout.specs.Places.{item_of}
 use Rattle.tsa_fill.proofs.ItemLists.{item_is}
 use Rattle.tsa_fill.proofs.filling.item_in.Goals as goal
 

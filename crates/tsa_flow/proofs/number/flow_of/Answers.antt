@@ -1,10 +1,10 @@
 use Rattle.std.proofs.Common.{◌∙◌, ◌≡◌, length, slice_get, subst, ap}
 use Rattle.tsa_blocks.specs.Rows.{AreBlocksOf}
 use Rattle.tsa_core.specs.Programs.{program_of}
-use Rattle.tsa_view.specs.Rows.{rows_in}
+use Rattle.tsa_marks.specs.Rows.{rows_in}
 use Rattle.tsa_rules.specs.Points.{edges_of, points_of}
 use Rattle.tsa_tree.specs.units.Shapes.{item_shapes}
-use Rattle.tsa_view.specs.Controls.{IsGraphIn}
+use Rattle.tsa_control.specs.Controls.{IsGraphIn}
 use Rattle.tsa_view.specs.Views.{IsViewIn}
 use Rattle.tsa_flow.proofs.Numbered.{flow_there, found, is_between, is_graph}
 use Rattle.tsa_flow.proofs.number.flow_of.Goals as goal

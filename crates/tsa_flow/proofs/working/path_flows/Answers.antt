@@ -1,7 +1,7 @@
 use Rattle.std.proofs.Common.{◌∙◌, ◌≡◌, [], List, ℕ, ap, length, replicate, subst, sym}
 use Rattle.tsa_stops.specs.Claims.{noted}
 use Rattle.tsa_stops.specs.Lanes.{AreLanesAt}
-use Rattle.tsa_view.specs.Rows.{rows_in}
+use Rattle.tsa_marks.specs.Rows.{rows_in}
 use Rattle.tsa_flow.specs.Flows.{AreReachedIn}
 use Rattle.tsa_flow.specs.Lanes.{AreAssigned, AreClaimed}
 use Rattle.tsa_flow.proofs.Assigning.{are_claimed, are_idle}

@@ -1,11 +1,11 @@
 use Rattle.std.proofs.Common.{◌∙◌, ℕ, Bool, List, [], filter, length, map, ap}
-use Rattle.tsa_layout.specs.LockPaths.{stable_in}
-use Rattle.tsa_seen.specs.Programs.{Attr}
+use Rattle.tsa_way.specs.LockPaths.{stable_in}
+use Rattle.tsa_core.specs.Programs.{Attr}
 use Rattle.tsa_steps.specs.Steps.{step_shape}
 use Rattle.tsa_points.specs.Walks.{points_along, walk}
 use Rattle.tsa_seen.specs.Locks.{tries}
-use Rattle.tsa_ground.specs.Expressions.{attributes_at}
-use Rattle.tsa_ground.specs.Bodies.{Around, is_try_variable}
+use Rattle.tsa_node.specs.Expressions.{attributes_at}
+use Rattle.tsa_deed.specs.Bodies.{Around, is_try_variable}
 use Rattle.tsa_ground.specs.declared.ground.Ground.{Ground}
 use Rattle.tsa_ground.specs.Judging.{unit_at}
 use Rattle.tsa_judge.proofs.bodies.along.Goals as goal

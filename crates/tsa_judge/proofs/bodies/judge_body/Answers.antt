@@ -8,9 +8,9 @@ use Rattle.tsa_points.specs.Points.{placed_all}
 use Rattle.tsa_points.specs.Walks.{points_along, walk, walk_behind}
 use Rattle.tsa_seen.specs.declared.premise.ProfileCode.TheVariants.{LM4, LM7}
 use Rattle.tsa_seen.specs.Premises.{first, or_else, premise}
-use Rattle.tsa_ground.specs.Expressions.{attributes_at}
-use Rattle.tsa_ground.specs.Bodies.{is_try_variable, points_premises}
-use Rattle.tsa_ground.specs.Ways.{function_paths}
+use Rattle.tsa_node.specs.Expressions.{attributes_at}
+use Rattle.tsa_deed.specs.Bodies.{is_try_variable, points_premises}
+use Rattle.tsa_deed.specs.Ways.{function_paths}
 use Rattle.tsa_ground.specs.Judging.{around_at}
 use Rattle.tsa_judge.proofs.Behind.{all_found, none_told}
 use Rattle.tsa_ground.proofs.Sequences.{judged_fails, judged_holds}

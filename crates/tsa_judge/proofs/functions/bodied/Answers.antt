@@ -4,10 +4,10 @@ use Rattle.tsa_tree.specs.declarations.Shapes.{head_shape}
 use Rattle.tsa_tree.specs.statements.Shapes.{stmt_shapes}
 use Rattle.tsa_tree.specs.types.Scopes.{with_locals}
 use Rattle.tsa_tree.specs.types.Symbols.{number_of}
-use Rattle.tsa_layout.specs.LockPaths.{stable_in}
-use Rattle.tsa_ground.specs.Functions.{outside_of}
+use Rattle.tsa_way.specs.LockPaths.{stable_in}
+use Rattle.tsa_function.specs.Functions.{outside_of}
 use Rattle.tsa_seen.specs.Premises.{first}
-use Rattle.tsa_ground.specs.Bodies.{points_premises}
+use Rattle.tsa_deed.specs.Bodies.{points_premises}
 use Rattle.tsa_ground.specs.Judging.{declared_attributes, entered, unit_at, with_scope}
 use Rattle.tsa_ground.specs.Units.{around, heads_premises, points_in}
 use Rattle.tsa_judge.proofs.Behind.{body_found, inside_still, premises_are}

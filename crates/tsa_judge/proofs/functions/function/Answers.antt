@@ -4,7 +4,7 @@ use Rattle.tsa_tree.specs.declarations.Shapes.{head_shape}
 use Rattle.tsa_tree.specs.types.Heads.{head_premises}
 use Rattle.tsa_tree.specs.types.Premises.{first}
 use Rattle.tsa_tree.specs.units.Shapes.{end_of, shape_with}
-use Rattle.tsa_ground.proofs.BodyLists.{head_told}
+use Rattle.tsa_function.proofs.BodyLists.{head_told}
 use Rattle.tsa_ground.specs.Judging.{behind, unit_at}
 use Rattle.tsa_judge.proofs.functions.function.Goals as goal
 

@@ -2,8 +2,8 @@ use Rattle.std.proofs.Common.{◌∙◌, false, ap}
 use Rattle.tsa_tree.specs.declarations.Shapes.{head_shape}
 use Rattle.tsa_tree.specs.types.Scopes.{with_locals}
 use Rattle.tsa_tree.specs.types.Symbols.{number_of}
-use Rattle.tsa_layout.specs.LockPaths.{stable_in}
-use Rattle.tsa_ground.specs.Functions.{outside_of}
+use Rattle.tsa_way.specs.LockPaths.{stable_in}
+use Rattle.tsa_function.specs.Functions.{outside_of}
 use Rattle.tsa_ground.specs.Judging.{around_at, entered, unit_at, with_scope, without_body}
 use Rattle.tsa_ground.specs.Units.{is_alone}
 use Rattle.tsa_judge.proofs.Behind.{alone_found, inside_alone}

@@ -6,7 +6,7 @@ use Rattle.tsa_rules.specs.Attributes.{lock_kind_of}
 use Rattle.tsa_view.specs.Views.{IsViewOf, text_of}
 use Rattle.tsa_lines.specs.Lines.{warning_text}
 use Rattle.tsa_bodies.specs.Bodies.{names_of}
-use Rattle.tsa_bodies.specs.Paths.{paths_of}
+use Rattle.tsa_profile.specs.Paths.{paths_of}
 use Rattle.tsa_report.specs.Lines.{place_of}
 use Rattle.tsa_report.proofs.OneLine.{kind_is, warned_is}
 use Rattle.tsa_report.proofs.warned.push_line.Goals as goal

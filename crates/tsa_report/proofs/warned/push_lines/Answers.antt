@@ -1,7 +1,7 @@
 use Rattle.tsa_core.specs.Programs.{program_of}
 use Rattle.tsa_texts.specs.Orders.{texts_of}
 use Rattle.tsa_bodies.specs.Bodies.{names_of}
-use Rattle.tsa_bodies.specs.Paths.{paths_of}
+use Rattle.tsa_profile.specs.Paths.{paths_of}
 use Rattle.tsa_report.specs.Lines.{warning_line}
 use Rattle.tsa_report.proofs.OneLine.{all_on, one_on}
 use Rattle.tsa_report.proofs.warned.push_lines.Goals as goal

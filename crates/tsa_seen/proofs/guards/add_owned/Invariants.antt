@@ -1,6 +1,6 @@
 use Rattle.std.proofs.Common.{◌≡◌, ◌++◌, drop}
 use Rattle.std.specs.Prelude.{option_map}
-use Rattle.tsa_path.specs.Uses.{guards_owned}
+use Rattle.tsa_core.specs.Uses.{guards_owned}
 use Rattle.tsa_seen.proofs.guards.add_owned.Given as goal
 
 abbrev pub invariant-each : goal.invariant-each

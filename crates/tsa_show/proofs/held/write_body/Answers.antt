@@ -3,7 +3,7 @@ use Rattle.std.specs.List.Sorted.{IsPermutation}
 use Rattle.tsa_core.specs.Programs.{program_of}
 use Rattle.tsa_texts.specs.Ranks.{numbers_of}
 use Rattle.tsa_bodies.specs.Bodies.{names_of}
-use Rattle.tsa_bodies.specs.Paths.{paths_of}
+use Rattle.tsa_profile.specs.Paths.{paths_of}
 use Rattle.tsa_show.specs.Held.{IsAccountHeld, account, try_names_from}
 use Rattle.tsa_show.proofs.Fronts.{on_error, on_ok}
 use Rattle.tsa_show.proofs.held.write_body.Goals as goal

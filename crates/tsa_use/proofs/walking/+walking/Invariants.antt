@@ -1,7 +1,7 @@
 use Rattle.std.proofs.Common.{◌≡◌, ◌≤◌, drop, length}
 use Rattle.tsa_tree.specs.expressions.Shapes.{shapes}
 use Rattle.tsa_way.specs.LockPaths.{stable_in}
-use Rattle.tsa_node.specs.Cells.{argument_cells}
+use Rattle.tsa_core.specs.Cells.{argument_cells}
 use Rattle.tsa_use.specs.Accesses.{before}
 use Rattle.tsa_use.specs.Failures.{failing_arguments}
 use Rattle.tsa_node.specs.Told.{view_of}

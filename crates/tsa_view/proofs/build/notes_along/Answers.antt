@@ -2,7 +2,7 @@ use Rattle.std.proofs.Common.{◌≡◌, ◌∙◌, [], map, subst, IfOk}
 use Rattle.tsa_path.specs.PathTables.{AreDifferent}
 use Rattle.tsa_points.specs.Walks.{points_along, walk}
 use Rattle.tsa_steps.specs.Steps.{step_shape}
-use Rattle.tsa_notes.specs.Told.{around_of}
+use Rattle.tsa_deed.specs.Told.{around_of}
 use Rattle.tsa_notes.specs.Notes.{AreNotes}
 use Rattle.tsa_view.specs.Made.{AreNoted}
 use Rattle.tsa_view.proofs.Handed.{told_twice}

@@ -1,7 +1,7 @@
 use Rattle.std.proofs.Common.{◌∙◌, sym}
 use Rattle.std.proofs.Math.Seq.{drop-cons}
 use Rattle.std.proofs.lemmas.List.{drop_all}
-use Rattle.tsa_use.specs.Told.{view_of}
+use Rattle.tsa_node.specs.Told.{view_of}
 use Rattle.tsa_ask.proofs.EachAttribute.{attribute_passes, attribute_stops, attributes_begin, no_attribute}
 use Rattle.tsa_ask.proofs.attributes.Within.failure.Goals as goal
 

@@ -5,9 +5,9 @@ use Rattle.tsa_tree.specs.types.Units.{item_premises}
 use Rattle.tsa_tree.specs.units.Shapes.{function_shape, item_shape, item_shapes}
 use Rattle.tsa_core.specs.Programs.{declared_by}
 use Rattle.tsa_site.specs.Entering.{Enters}
-use Rattle.tsa_site.specs.Judging.{unit_at}
+use Rattle.tsa_ground.specs.Judging.{unit_at}
 use Rattle.tsa_site.specs.Knowing.{IsWithin, behind}
-use Rattle.tsa_site.specs.Units.{unit_of}
+use Rattle.tsa_ground.specs.Units.{unit_of}
 use Rattle.tsa_held.proofs.Passing.{left_behind}
 use Rattle.tsa_bodies.specs.Bodies.{Tells}
 use Rattle.tsa_bodies.specs.Coursed.{course_of}

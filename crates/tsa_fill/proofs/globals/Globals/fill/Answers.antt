@@ -1,7 +1,7 @@
 use Rattle.std.proofs.Common.{◌≤◌, ◌+◌, length, sym, ap, subst}
-use Rattle.tsa_item.specs.Layouts.{size_of, thing_size}
-use Rattle.tsa_item.specs.Standing.{IsOrdered}
-use Rattle.tsa_item.specs.Parts.{place_limit}
+use Rattle.tsa_layout.specs.Layouts.{size_of, thing_size}
+use Rattle.tsa_layout.specs.Standing.{IsOrdered}
+use Rattle.tsa_layout.specs.Parts.{place_limit}
 use Rattle.tsa_fill.proofs.Fitting.{still_fits}
 use Rattle.tsa_fill.proofs.globals.Globals.fill.Goals as goal
 

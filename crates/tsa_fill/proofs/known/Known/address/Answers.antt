@@ -1,5 +1,5 @@
 use Rattle.std.proofs.Common.{◌∙◌, None, slice_get, [], sym, ap}
-use Rattle.tsa_item.specs.Calls.{evaluated}
+use Rattle.tsa_layout.specs.Calls.{evaluated}
 use Rattle.tsa_fill.proofs.ItemLists.{by_way}
 use Rattle.tsa_fill.proofs.known.Known.address.Goals as goal
 

@@ -1,5 +1,5 @@
 use Rattle.std.proofs.Common.{◌∙◌, length, ap, subst}
-use Rattle.tsa_item.specs.Standing.{IsBelow}
+use Rattle.tsa_layout.specs.Standing.{IsBelow}
 use Rattle.tsa_fill.proofs.Putting.{on_both, enters_object}
 use Rattle.tsa_fill.proofs.known.Known.enter.Goals as goal
 

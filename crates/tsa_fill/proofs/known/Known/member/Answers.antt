@@ -1,5 +1,5 @@
 use Rattle.std.proofs.Common.{length, sym, ap, refl, subst}
-use Rattle.tsa_item.specs.Standing.{IsWithin}
+use Rattle.tsa_layout.specs.Standing.{IsWithin}
 use Rattle.tsa_fill.proofs.Putting.{on_one, member_put, member_within}
 use Rattle.tsa_fill.proofs.known.Known.member.Goals as goal
 

@@ -1,6 +1,6 @@
 use Rattle.std.proofs.Common.{◌≡◌, ◌≤◌, ◌-◌, ◌++◌, take, length}
 use Rattle.tsa_fill.specs.Filling.{given, all_left, AreLeft, values_by}
-use Rattle.tsa_item.specs.Places.{places_of}
+use Rattle.tsa_layout.specs.Places.{places_of}
 use Rattle.tsa_fill.proofs.known.Known.place.Given as goal
 
 abbrev pub invariant-left : goal.invariant-left

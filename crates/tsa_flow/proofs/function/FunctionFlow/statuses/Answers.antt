@@ -7,7 +7,7 @@ use Rattle.tsa_rules.specs.Sets.{Has}
 use Rattle.tsa_rules.specs.Walks.{ReachAt, course_of}
 use Rattle.tsa_rules.specs.declared.status.Status.{Status}
 use Rattle.tsa_reach.specs.Courses.{course_by}
-use Rattle.tsa_view.specs.Rows.{rows_in}
+use Rattle.tsa_marks.specs.Rows.{rows_in}
 use Rattle.tsa_view.specs.Views.{case_in, lock_in}
 use Rattle.tsa_view.specs.declared.content.RuleView.{RuleView}
 use Rattle.tsa_flow.specs.Flows.{AreReachedIn}

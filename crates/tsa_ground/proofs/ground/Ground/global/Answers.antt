@@ -3,8 +3,8 @@ use Rattle.std.proofs.lemmas.Result.{err_from_is_err_and}
 use Rattle.tsa_tree.specs.declarations.Shapes.{decl_shape}
 use Rattle.tsa_tree.specs.types.Globals.{with_global}
 use Rattle.tsa_seen.specs.Premises.{first}
-use Rattle.tsa_deed.specs.NodeTold.{view_of}
-use Rattle.tsa_deed.specs.Declarations.{given_init, guard_premises}
+use Rattle.tsa_node.specs.Told.{view_of}
+use Rattle.tsa_ask.specs.Declarations.{given_init, guard_premises}
 use Rattle.tsa_ground.specs.Judging.{unit_at}
 use Rattle.tsa_ground.proofs.GlobalJudged.{given, guards, view_is}
 use Rattle.tsa_ground.proofs.Sequences.{judged_fails, judged_holds, none_of_all, rest_of_both, some_of_both}

@@ -3,7 +3,7 @@ use Rattle.std.proofs.lemmas.Result.{err_from_is_err_and}
 use Rattle.tsa_tree.specs.declarations.Shapes.{head_shape}
 use Rattle.tsa_tree.specs.types.DeclaredTypes.{thing_type}
 use Rattle.tsa_tree.specs.types.Heads.{inside}
-use Rattle.tsa_deed.specs.NodeTold.{view_of}
+use Rattle.tsa_node.specs.Told.{view_of}
 use Rattle.tsa_ground.proofs.HeadJudged.{inner, inner_is, outer, outer_is, view_is}
 use Rattle.tsa_ground.proofs.Sequences.{judges_err, none_of_all, rest_of_both, some_of_both}
 use Rattle.tsa_ground.proofs.ground.Ground.head.Goals as goal

@@ -1,5 +1,5 @@
 use Rattle.tsa_tree.specs.declarations.Shapes.{head_shape}
-use Rattle.tsa_deed.specs.NodeTold.{view_of}
+use Rattle.tsa_node.specs.Told.{view_of}
 use Rattle.tsa_ground.proofs.HeadJudged.{inner_told}
 use Rattle.tsa_ground.proofs.Sequences.{judged_so}
 use Rattle.tsa_ground.proofs.ground.Ground.inner.Goals as goal

@@ -2,7 +2,7 @@ use Rattle.std.proofs.Common.{◌∙◌, Some, option_map, slice_get, sym, ap, s
 use Rattle.tsa_tree.specs.units.Shapes.{item_shapes}
 use Rattle.tsa_core.specs.Programs.{program_of}
 use Rattle.tsa_flow.specs.Numbers.{IsFlowIn}
-use Rattle.tsa_flow.specs.Views.{IsViewIn}
+use Rattle.tsa_view.specs.Views.{IsViewIn}
 use Rattle.tsa_held.proofs.Telling.{view_in}
 use Rattle.tsa_held.proofs.flowed.FlowedFacts.view.Goals as goal
 

@@ -4,9 +4,9 @@ use Rattle.tsa_tree.specs.units.Shapes.{item_shapes}
 use Rattle.tsa_core.specs.Programs.{program_of}
 use Rattle.tsa_blocks.specs.Rows.{AreBlocksOf}
 use Rattle.tsa_rules.specs.Points.{edges_of, points_of}
-use Rattle.tsa_flow.proofs.Controlled.{controlled}
+use Rattle.tsa_control.proofs.Controlled.{controlled}
 use Rattle.tsa_flow.proofs.Numbered.{flow_there, is_between, is_graph}
-use Rattle.tsa_flow.specs.Rows.{rows_in}
+use Rattle.tsa_marks.specs.Rows.{rows_in}
 use Rattle.tsa_held.proofs.Passing.{both_found, different}
 use Rattle.tsa_held.proofs.passage.Pass.flow_in.Goals as goal
 

@@ -6,10 +6,10 @@ use Rattle.tsa_tree.specs.types.FirstFailing.{first_failing}
 use Rattle.tsa_tree.specs.types.Premises.{first}
 use Rattle.tsa_tree.specs.types.Units.{items_premises}
 use Rattle.tsa_tree.specs.units.Shapes.{item_shapes}
-use Rattle.tsa_profile.proofs.ItemLists.{item_typed, typed_next}
-use Rattle.tsa_site.specs.Judging.{unit_at}
+use Rattle.tsa_judge.proofs.ItemLists.{item_typed, typed_next}
+use Rattle.tsa_ground.specs.Judging.{unit_at}
 use Rattle.tsa_site.specs.Knowing.{outset_of}
-use Rattle.tsa_site.specs.Units.{unit_of}
+use Rattle.tsa_ground.specs.Units.{unit_of}
 use Rattle.tsa_held.specs.Units.{IsAhead, told_at}
 use Rattle.tsa_held.proofs.Passing.{all_told, none_told}
 use Rattle.tsa_held.proofs.Room.{none_at}

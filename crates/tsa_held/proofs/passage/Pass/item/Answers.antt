@@ -2,9 +2,9 @@ use Rattle.std.proofs.Common.{◌≡◌, [], Some, ap, subst, sym}
 use Rattle.tsa_tree.specs.declarations.Shapes.{head_shape}
 use Rattle.tsa_tree.specs.units.Shapes.{item_shape, item_shapes}
 use Rattle.tsa_site.specs.Entering.{Enters}
-use Rattle.tsa_site.specs.Judging.{unit_at}
+use Rattle.tsa_ground.specs.Judging.{unit_at}
 use Rattle.tsa_site.specs.Knowing.{IsWithin, behind}
-use Rattle.tsa_site.specs.Units.{unit_of}
+use Rattle.tsa_ground.specs.Units.{unit_of}
 use Rattle.tsa_held.proofs.Passing.{behind_it, enters_none, left_behind, next, passed_on}
 use Rattle.tsa_held.proofs.passage.Pass.item.Goals as goal
 

@@ -1,5 +1,5 @@
 use Rattle.std.proofs.Common.{◌∙◌, Some, option_map, slice_get, sym, ap}
-use Rattle.tsa_rules.proofs.MappedLists.{map_at}
+use Rattle.tsa_core.proofs.MappedLists.{map_at}
 use Rattle.tsa_marks.proofs.Apart.{only_there, placed}
 use Rattle.tsa_marks.proofs.marks.Marks.entry.Goals as goal
 

@@ -4,7 +4,7 @@ use Rattle.tsa_tree.specs.expressions.Shapes.{shape}
 use Rattle.tsa_tree.specs.statements.Shapes.{action_shape}
 use Rattle.tsa_way.specs.LockPaths.{stable_in}
 use Rattle.tsa_notes.specs.Visits.{around_at, known_at}
-use Rattle.tsa_deed.specs.Accesses.{written}
+use Rattle.tsa_use.specs.Accesses.{written}
 use Rattle.tsa_notes.proofs.Uses.{all_left}
 use Rattle.tsa_notes.proofs.marking.Marking.note_left.Goals as goal
 

@@ -3,7 +3,7 @@ use Rattle.std.proofs.lemmas.Result.{on_ok_weaker}
 use Rattle.tsa_tree.specs.expressions.Shapes.{shape}
 use Rattle.tsa_way.specs.LockPaths.{stable_in}
 use Rattle.tsa_notes.specs.Visits.{around_at, known_at}
-use Rattle.tsa_deed.specs.Accesses.{reads}
+use Rattle.tsa_use.specs.Accesses.{reads}
 use Rattle.tsa_notes.proofs.Uses.{all_reads}
 use Rattle.tsa_notes.proofs.marking.Marking.note_value.Goals as goal
 

@@ -7,9 +7,9 @@ use Rattle.tsa_way.specs.LockPaths.{stable_in}
 use Rattle.tsa_core.specs.Programs.{Attr}
 use Rattle.tsa_points.specs.Walks.{points_along, walk}
 use Rattle.tsa_steps.specs.Steps.{step_shape}
-use Rattle.tsa_notes.specs.Bodies.{Around}
-use Rattle.tsa_notes.specs.Told.{around_of}
-use Rattle.tsa_control.specs.Knowing.{Knowledge, with_scope}
+use Rattle.tsa_deed.specs.Bodies.{Around}
+use Rattle.tsa_deed.specs.Told.{around_of}
+use Rattle.tsa_site.specs.Knowing.{Knowledge, with_scope}
 use Rattle.tsa_view.specs.Made.{around_in, points_in, result_in}
 use Rattle.tsa_view.proofs.Leaving.{same_behind}
 use Rattle.tsa_view.proofs.SameNotes.{notes_same}

@@ -1,11 +1,11 @@
 use Rattle.std.proofs.Common.{◌∙◌, [], Some, option_map, sym, ap, subst}
 use Rattle.tsa_tree.specs.units.Shapes.{item_shapes}
 use Rattle.tsa_core.specs.Programs.{lock_kinds}
-use Rattle.tsa_control.specs.Units.{unit_of}
+use Rattle.tsa_ground.specs.Units.{unit_of}
 use Rattle.tsa_lock.specs.Kinds.{kinds_of}
-use Rattle.tsa_control.proofs.Laying.{laid}
-use Rattle.tsa_control.specs.Finding.{IsFound}
-use Rattle.tsa_control.specs.Sites.{site_of}
+use Rattle.tsa_profile.proofs.Laying.{laid}
+use Rattle.tsa_site.specs.Finding.{IsFound}
+use Rattle.tsa_site.specs.Sites.{site_of}
 use Rattle.tsa_view.proofs.Handed.{mapped}
 use Rattle.tsa_view.proofs.NewView.{locks_are, never_none, view_there}
 use Rattle.tsa_view.proofs.content.RuleView.new.Goals as goal
