@@ -9,15 +9,15 @@ use crate::units::{Row, Shown, others};
 use std::alloc::Global;
 use std::test::Fail;
 use tsa_base::NoMemory;
-use tsa_flow::{FunctionFlow, flow_of};
-use tsa_marks::Numbers;
+use tsa_flow_function::{FunctionFlow, flow_of};
+use tsa_rules_table::Numbers;
 use tsa_path::{Named, PathTable};
 use tsa_place::Places;
 use tsa_profile::Fit;
 use tsa_rules::Statuses;
-use tsa_texts::PathTexts;
-use tsa_failures::RuleFailure;
-use tsa_warn::warnings_of;
+use tsa_warn_text::PathTexts;
+use tsa_warn_function::RuleFailure;
+use tsa_warn_function::warnings_of;
 
 // What the unit's functions see of it.
 const NAMES: Caller = Caller {

@@ -5,11 +5,11 @@ use crate::units::{Row, Shown, others};
 use std::alloc::Global;
 use std::test::Fail;
 use tsa_base::NoMemory;
-use tsa_graph::{Block, Edge, Graph, graph_of_body};
-use tsa_links::Outcome;
-use tsa_names::body_names;
+use tsa_graph::{GraphBlock, Edge, Graph, graph_of_body};
+use tsa_graph_edges::Outcome;
+use tsa_warn_text::body_names;
 use tsa_path::Named;
-use tsa_scope::{Scope, outset};
+use tsa_types_scope::{Scope, outset};
 use tsa_tree::Parsed;
 use tsa_tree::item::FnTree;
 use tsa_tree::kind::Kind;
@@ -36,7 +36,7 @@ fn put_edge(out: &mut Vec<u8>, edge: Edge) -> Result<(), Fail> {
 }
 
 // The edges into a block, its points, and the outcomes between them.
-fn put_block(out: &mut Vec<u8>, block: &Block) -> Result<(), Fail> {
+fn put_block(out: &mut Vec<u8>, block: &GraphBlock) -> Result<(), Fail> {
     put(out, b"(")?;
     for edge in &block.into {
         put_edge(out, *edge)?;

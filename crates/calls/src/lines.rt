@@ -2,7 +2,7 @@
 
 use crate::texts::put;
 use std::test::Fail;
-use tsa_lines::{Held, Subject, push_held, push_warning};
+use tsa_warn_text::{Held, Subject, push_held, push_warning};
 use tsa_rules::{Statuses, rule_of};
 
 // What the rule of a number says of a lock `m 'a'` in a function `f`.

@@ -1,8 +1,8 @@
 -- Balanced tokens, one by one.
 use Rattle.std.proofs.Common.{ℕ, suc, ◌+◌, ◌<◌, ◌≤◌, ◌≡◌, ◌∙◌, ap, sym, subst, refl, Bool, true, false, List, Some, None, Ok, Err, nat_eq}
 use Rattle.tsa_base.specs.Tokens.{Lexeme}
-use Rattle.tsa_forms.proofs.Cases.{chosen, other, goes}
-use Rattle.tsa_forms.specs.Reading.{Outcome, refuse, syntax, deep, then, choose}
+use Rattle.tsa_grammar.proofs.Cases.{chosen, other, goes}
+use Rattle.tsa_grammar.specs.Reading.{Outcome, refuse, syntax, deep, then, choose}
 use Rattle.tsa_tree.proofs.RowsRead.{read_steps}
 use Rattle.tsa_tree.specs.declared.sign.Sign.{Sign}
 use Rattle.tsa_tree.specs.declared.sign.Sign.TheVariants as sign

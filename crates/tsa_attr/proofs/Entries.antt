@@ -5,9 +5,9 @@ use Rattle.std.proofs.lemmas.Option.{slice_get_within}
 use Rattle.std.specs.List.{slice_get}
 use Rattle.tsa_base.specs.declared.token.Token.{Token}
 use Rattle.tsa_base.specs.Tokens.{Lexeme, lexeme}
-use Rattle.tsa_forms.proofs.Cases.{chosen, other, goes}
-use Rattle.tsa_forms.specs.Form.{token, part, limit, either}
-use Rattle.tsa_forms.specs.Reading.{Outcome, refuse, syntax, deep, barred, then, choose}
+use Rattle.tsa_grammar.proofs.Cases.{chosen, other, goes}
+use Rattle.tsa_grammar.specs.Form.{token, part, limit, either}
+use Rattle.tsa_grammar.specs.Reading.{Outcome, refuse, syntax, deep, barred, then, choose}
 use Rattle.tsa_tree.proofs.RowsRead.{read_steps}
 use Rattle.tsa_tree.specs.declared.attr.Attr.{Attr}
 use Rattle.tsa_tree.specs.declared.attr.AttrKind.{AttrKind}

@@ -11,7 +11,7 @@ use Rattle.tsa_expr.specs.declared.refusal.SyntaxRefusal.TheVariants.{At, Functi
 use Rattle.tsa_expr.specs.declared.refusal.SyntaxCode.TheVariants.{SY1, AT1, AT2, LM2, LM3, LM5}
 use Rattle.tsa_expr.specs.Gives.{Fails, Gives}
 use Rattle.tsa_attr.specs.Outcomes.{IsOfAttributes}
-use Rattle.tsa_forms.specs.Reading.{Outcome}
+use Rattle.tsa_grammar.specs.Reading.{Outcome}
 
 pub given_by : {Y : Type 0} (e : SyntaxRefusal) (r : Outcome Y) → Fails e r → IsOfAttributes e
 given_by (At SY1 token) r h = tt

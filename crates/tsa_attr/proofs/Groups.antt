@@ -1,9 +1,9 @@
 -- Groups of attributes, one by one.
 use Rattle.std.proofs.Common.{ℕ, ◌+◌, ◌≡◌, ◌∙◌, ap, sym, refl, Bool, true, false, List, [], ◌∷◌, ◌++◌, Result, Ok, Err, nat_eq}
 use Rattle.tsa_base.specs.Tokens.{Lexeme}
-use Rattle.tsa_forms.proofs.Cases.{chosen, other, goes}
-use Rattle.tsa_forms.specs.Form.{done, token, part, either}
-use Rattle.tsa_forms.specs.Reading.{Outcome, refuse, syntax, barred, then, choose}
+use Rattle.tsa_grammar.proofs.Cases.{chosen, other, goes}
+use Rattle.tsa_grammar.specs.Form.{done, token, part, either}
+use Rattle.tsa_grammar.specs.Reading.{Outcome, refuse, syntax, barred, then, choose}
 use Rattle.tsa_tree.proofs.RowsRead.{read_steps}
 use Rattle.tsa_tree.specs.declared.attr.Attr.{Attr}
 use Rattle.tsa_tree.specs.declared.attr.AttrKind.{AttrKind}

@@ -1,6 +1,6 @@
 -- Outcomes, one after another.
 use Rattle.std.proofs.Common.{ℕ, ◌+◌, ◌≡◌, ap, sym, refl, Bool, true, false, List, [], ◌∷◌, ◌++◌, Ok, Err}
-use Rattle.tsa_forms.specs.Reading.{Outcome, refuse, syntax, deep, then, choose}
+use Rattle.tsa_grammar.specs.Reading.{Outcome, refuse, syntax, deep, then, choose}
 use Rattle.tsa_tree.specs.declared.attr.Attr.{Attr}
 use Rattle.tsa_tree.specs.attributes.Syntax.{Attribute, attr_shape, attr_shapes}
 use Rattle.tsa_attr.specs.Outcomes.{after}

@@ -1,8 +1,8 @@
 -- Parentheses and other single tokens.
 use Rattle.std.proofs.Common.{ℕ, ◌+◌, ◌<◌, ◌≤◌, ◌≡◌, ◌≢◌, ◌∙◌, ap, List, Ok, Err, nat_eq}
 use Rattle.tsa_base.specs.Tokens.{Lexeme}
-use Rattle.tsa_forms.proofs.Cases.{chosen, other}
-use Rattle.tsa_forms.specs.Reading.{Outcome, refuse, syntax, deep, then, follow}
+use Rattle.tsa_grammar.proofs.Cases.{chosen, other}
+use Rattle.tsa_grammar.specs.Reading.{Outcome, refuse, syntax, deep, then, follow}
 use Rattle.tsa_tree.specs.declared.sign.Sign.TheVariants as sign
 use Rattle.tsa_tree.specs.expressions.Answers.{below_limit}
 use Rattle.tsa_tree.specs.Reads.{read}

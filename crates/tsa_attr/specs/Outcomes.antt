@@ -13,8 +13,8 @@ use Rattle.tsa_tree.specs.tokens.Signs.{Aliases, is_word_at, entry_meaning}
 use Rattle.tsa_expr.specs.declared.refusal.SyntaxRefusal.{SyntaxRefusal}
 use Rattle.tsa_expr.specs.declared.refusal.SyntaxRefusal.TheVariants.{At, NoMemory}
 use Rattle.tsa_expr.specs.declared.refusal.SyntaxCode.TheVariants.{SY1, AT1, AT2, LM2}
-use Rattle.tsa_forms.specs.Form.{done}
-use Rattle.tsa_forms.specs.Reading.{Outcome, refuse, syntax, deep, barred, then, choose, follow}
+use Rattle.tsa_grammar.specs.Form.{done}
+use Rattle.tsa_grammar.specs.Reading.{Outcome, refuse, syntax, deep, barred, then, choose, follow}
 
 -- the attributes after those that were there before
 abbrev pub after : List Attribute → Outcome (List Attribute) → Outcome (List Attribute)

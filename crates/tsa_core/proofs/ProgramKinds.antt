@@ -4,8 +4,8 @@ use Rattle.tsa_tree.specs.declared.kind.Kind.{Kind}
 use Rattle.tsa_tree.specs.types.DeclaredTypes.{thing_type}
 use Rattle.tsa_tree.specs.types.Units.{outset}
 use Rattle.tsa_tree.specs.units.Syntax.{UnitItem}
-use Rattle.tsa_layout.specs.Calls.{Layout}
-use Rattle.tsa_lead.specs.Leading.{HasPlaces}
+use Rattle.tsa_place_layout.specs.Calls.{Layout}
+use Rattle.tsa_place.specs.Leading.{HasPlaces}
 use Rattle.tsa_place.specs.Units.{placed_in}
 use Rattle.tsa_core.proofs.MappedLists.{map_at}
 use Rattle.tsa_core.specs.Bodies.{Body}

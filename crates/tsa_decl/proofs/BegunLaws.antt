@@ -2,8 +2,8 @@
 use Rattle.std.proofs.Common.{ℕ, ◌+◌, ◌≡◌, ◌∙◌, ap, sym, subst, List, [], ◌∷◌, ◌++◌, Bool, false, option_map, Some, None, Result, Ok, Err, IsOkAnd, MatchResult}
 use Rattle.std.specs.Result.{IsErrAnd}
 use Rattle.tsa_base.specs.Tokens.{Lexeme}
-use Rattle.tsa_forms.proofs.Cases.{goes}
-use Rattle.tsa_forms.specs.Reading.{Outcome, then}
+use Rattle.tsa_grammar.proofs.Cases.{goes}
+use Rattle.tsa_grammar.specs.Reading.{Outcome, then}
 use Rattle.tsa_tree.specs.declared.item.FnTree.{FnTree}
 use Rattle.tsa_tree.specs.declared.item.Item.{Item}
 use Rattle.tsa_tree.specs.declared.item.Item.TheVariants as item
@@ -16,11 +16,11 @@ use Rattle.tsa_expr.specs.declared.refusal.SyntaxRefusal.{SyntaxRefusal}
 use Rattle.tsa_expr.specs.Gives.{Fails, Gives, Leads}
 use Rattle.tsa_expr.proofs.Answering.{fails_then, fails_same}
 use Rattle.tsa_attr.proofs.Joining.{token-law}
-use Rattle.tsa_local.specs.Outcomes.{after, one_token}
+use Rattle.tsa_decl_declarators.specs.Outcomes.{after, one_token}
 use Rattle.tsa_decl.specs.declared.items.Begun.{Begun}
 use Rattle.tsa_decl.specs.Outcomes.{finished}
 use Rattle.tsa_decl.specs.Seen.{seen_begun}
-use Rattle.tsa_local.proofs.ListLaws.{map-push, after-over}
+use Rattle.tsa_decl_declarators.proofs.ListLaws.{map-push, after-over}
 
 -- what a `?` passes on
 pub leads_failed : {X Y Z : Type 0} (view : X → Y × ℕ) (r : Result X SyntaxRefusal) (e : SyntaxRefusal) (o : Outcome Z) (rest : Y → ℕ → Outcome Z)

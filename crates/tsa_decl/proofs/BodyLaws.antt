@@ -4,9 +4,9 @@ use Rattle.std.specs.Result.{IsErrAnd}
 use Rattle.std.specs.declared.option.Option.{Option}
 use Rattle.tsa_base.specs.Tokens.{Lexeme}
 use Rattle.tsa_base.specs.declared.token.Span.{Span}
-use Rattle.tsa_forms.proofs.Cases.{chosen, other, goes}
-use Rattle.tsa_forms.specs.Form.{done, part}
-use Rattle.tsa_forms.specs.Reading.{Outcome, refuse, syntax, then, choose}
+use Rattle.tsa_grammar.proofs.Cases.{chosen, other, goes}
+use Rattle.tsa_grammar.specs.Form.{done, part}
+use Rattle.tsa_grammar.specs.Reading.{Outcome, refuse, syntax, then, choose}
 use Rattle.tsa_tree.proofs.RowsRead.{read_steps}
 use Rattle.tsa_tree.specs.declared.decl.CType.{CType}
 use Rattle.tsa_tree.specs.declared.item.Item.{Item}
@@ -26,12 +26,12 @@ use Rattle.tsa_expr.specs.Gives.{Fails, Gives}
 use Rattle.tsa_expr.proofs.Answering.{fails_then, fails_same}
 use Rattle.tsa_attr.proofs.Joining.{then-then, then-same, token-law, passed_at}
 use Rattle.tsa_attr.specs.Outcomes as attributes
-use Rattle.tsa_local.specs.Outcomes.{after, one_token, opening_brace, name_at, tag_at}
+use Rattle.tsa_decl_declarators.specs.Outcomes.{after, one_token, opening_brace, name_at, tag_at}
 use Rattle.tsa_decl.specs.Outcomes.{going_items, body_at, alias_name_at, opening_at, structure_at, enumeration_at}
 use Rattle.tsa_decl.proofs.EnumeratorLaws.{brace_at}
-use Rattle.tsa_local.proofs.ListLaws.{map-push, after-nothing}
-use Rattle.tsa_local.proofs.Pieces.{attributes_then}
-use Rattle.tsa_local.proofs.TokenLaws.{not_open_brace}
+use Rattle.tsa_decl_declarators.proofs.ListLaws.{map-push, after-nothing}
+use Rattle.tsa_decl_declarators.proofs.Pieces.{attributes_then}
+use Rattle.tsa_decl_declarators.proofs.TokenLaws.{not_open_brace}
 
 -- what a `?` passes on
 pub gives_failed : {X Y : Type 0} (view : X → Y × ℕ) (r : Result X SyntaxRefusal) (e : SyntaxRefusal) (o : Outcome Y)

@@ -2,9 +2,9 @@
 use Rattle.std.proofs.Common.{ℕ, ◌+◌, ◌≡◌, ◌≢◌, ◌∙◌, ap, sym, refl, Bool, true, false, List, [], ◌∷◌, ◌++◌, Some, None, Ok, Err, nat_eq}
 use Rattle.std.specs.declared.option.Option.{Option}
 use Rattle.tsa_base.specs.Tokens.{Lexeme}
-use Rattle.tsa_forms.proofs.Cases.{chosen, other, goes}
-use Rattle.tsa_forms.specs.Form.{done, part}
-use Rattle.tsa_forms.specs.Reading.{Outcome, refuse, syntax, then, choose}
+use Rattle.tsa_grammar.proofs.Cases.{chosen, other, goes}
+use Rattle.tsa_grammar.specs.Form.{done, part}
+use Rattle.tsa_grammar.specs.Reading.{Outcome, refuse, syntax, then, choose}
 use Rattle.tsa_tree.proofs.RowsRead.{read_steps}
 use Rattle.tsa_tree.specs.declared.item.Enumerator.{Enumerator}
 use Rattle.tsa_tree.specs.declared.sign.Sign.TheVariants as sign
@@ -19,11 +19,11 @@ use Rattle.tsa_expr.specs.declared.refusal.SyntaxRefusal.{SyntaxRefusal}
 use Rattle.tsa_expr.specs.Gives.{Fails}
 use Rattle.tsa_expr.proofs.Answering.{fails_then, fails_same, gives_same, then_done, not_comma}
 use Rattle.tsa_attr.proofs.Joining.{opens-law}
-use Rattle.tsa_local.specs.Outcomes.{after, going, opening_brace, name_at}
+use Rattle.tsa_decl_declarators.specs.Outcomes.{after, going, opening_brace, name_at}
 use Rattle.tsa_decl.specs.Outcomes.{constant_at}
-use Rattle.tsa_local.proofs.ListLaws.{map-push, after-nothing, after-over, after-more}
-use Rattle.tsa_local.proofs.TokenLaws.{not_equals}
-use Rattle.tsa_local.proofs.ValueLaws.{not_close_brace}
+use Rattle.tsa_decl_declarators.proofs.ListLaws.{map-push, after-nothing, after-over, after-more}
+use Rattle.tsa_decl_declarators.proofs.TokenLaws.{not_equals}
+use Rattle.tsa_decl_declarators.proofs.ValueLaws.{not_close_brace}
 
 abbrev named : Identifier → Option Expression → EnumConstant
 named name v = record { name = name; value = v }

@@ -15,8 +15,8 @@ use Rattle.tsa_expr.specs.Gives.{Fails, Gives}
 use Rattle.tsa_expr.proofs.Answering.{fails_same}
 use Rattle.tsa_attr.specs.Outcomes.{IsOfAttributes}
 use Rattle.tsa_attr.proofs.Exact.{given_by}
-use Rattle.tsa_local.specs.Outcomes.{after}
-use Rattle.tsa_local.proofs.ListLaws.{after-nothing}
+use Rattle.tsa_decl_declarators.specs.Outcomes.{after}
+use Rattle.tsa_decl_declarators.proofs.ListLaws.{after-nothing}
 
 module _ {X : Type 0} (p : Part) (view : X → Node (sort_of p) × ℕ) (tokens : List Lexeme) (aliases : Aliases) (at : ℕ) where
   abbrev Given : Result X SyntaxRefusal → Type 0

@@ -1,8 +1,8 @@
 -- Globals, one after another.
 use Rattle.std.proofs.Common.{ℕ, ◌≡◌, ◌∙◌, ap, sym, refl, Bool, true, false, List, [], ◌∷◌, ◌++◌, map, Ok, Err}
 use Rattle.tsa_base.specs.Tokens.{Lexeme}
-use Rattle.tsa_forms.proofs.Cases.{chosen, other, goes}
-use Rattle.tsa_forms.specs.Reading.{Outcome, then, choose}
+use Rattle.tsa_grammar.proofs.Cases.{chosen, other, goes}
+use Rattle.tsa_grammar.specs.Reading.{Outcome, then, choose}
 use Rattle.tsa_tree.proofs.RowsRead.{read_steps}
 use Rattle.tsa_tree.specs.declared.decl.Decl.{Decl}
 use Rattle.tsa_tree.specs.declared.item.Item.{Item}
@@ -19,9 +19,9 @@ use Rattle.tsa_expr.specs.declared.refusal.SyntaxRefusal.{SyntaxRefusal}
 use Rattle.tsa_expr.specs.Gives.{Fails}
 use Rattle.tsa_expr.proofs.Answering.{fails_then, fails_same, gives_same}
 use Rattle.tsa_attr.proofs.Joining.{then-then, then-same}
-use Rattle.tsa_local.specs.Outcomes.{after}
+use Rattle.tsa_decl_declarators.specs.Outcomes.{after}
 use Rattle.tsa_decl.specs.Outcomes.{globals_at}
-use Rattle.tsa_local.proofs.ListLaws.{map-push, after-over, after-more}
+use Rattle.tsa_decl_declarators.proofs.ListLaws.{map-push, after-over, after-more}
 
 abbrev as_items : List Declaration → ℕ → Outcome (List UnitItem)
 as_items xs e = Ok (map global_item xs, e)

@@ -1,9 +1,9 @@
 -- Heads of functions, piece by piece.
 use Rattle.std.proofs.Common.{ℕ, ◌+◌, ◌≡◌, ◌∙◌, ap, sym, refl, Bool, true, false, List, Ok}
 use Rattle.tsa_base.specs.Tokens.{Lexeme}
-use Rattle.tsa_forms.proofs.Cases.{chosen, other, goes}
-use Rattle.tsa_forms.specs.Form.{done, part}
-use Rattle.tsa_forms.specs.Reading.{Outcome, then, choose}
+use Rattle.tsa_grammar.proofs.Cases.{chosen, other, goes}
+use Rattle.tsa_grammar.specs.Form.{done, part}
+use Rattle.tsa_grammar.specs.Reading.{Outcome, then, choose}
 use Rattle.tsa_tree.proofs.RowsRead.{read_steps}
 use Rattle.tsa_tree.specs.expressions.Answers.{below_limit}
 use Rattle.tsa_tree.specs.attributes.Syntax.{Attribute}
@@ -16,9 +16,9 @@ use Rattle.tsa_expr.specs.declared.refusal.SyntaxRefusal.{SyntaxRefusal}
 use Rattle.tsa_expr.specs.Gives.{Fails}
 use Rattle.tsa_expr.proofs.Answering.{fails_then, fails_same, gives_same, then_done}
 use Rattle.tsa_attr.proofs.Joining.{opens-law, then-same}
-use Rattle.tsa_local.specs.Outcomes.{going, opening}
+use Rattle.tsa_decl_declarators.specs.Outcomes.{going, opening}
 use Rattle.tsa_decl.specs.Outcomes.{storage_at, head_end_at}
-use Rattle.tsa_local.proofs.Pieces.{option-law, attributes_then}
+use Rattle.tsa_decl_declarators.proofs.Pieces.{option-law, attributes_then}
 
 abbrev signed : List Parameter → List Attribute → Signature
 signed ps xs = record { params = ps; attrs = xs }

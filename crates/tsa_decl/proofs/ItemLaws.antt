@@ -1,9 +1,9 @@
 -- Items by their first tokens: whether a function may have a body is told after its head alone.
 use Rattle.std.proofs.Common.{ℕ, ◌+◌, ◌≡◌, ◌≢◌, ◌∙◌, ap, sym, refl, List, Ok, Err, nat_eq, Bool, Some}
 use Rattle.tsa_base.specs.Tokens.{Lexeme}
-use Rattle.tsa_forms.proofs.Cases.{chosen, other, goes}
-use Rattle.tsa_forms.specs.Form.{done, part}
-use Rattle.tsa_forms.specs.Reading.{Outcome, then, choose}
+use Rattle.tsa_grammar.proofs.Cases.{chosen, other, goes}
+use Rattle.tsa_grammar.specs.Form.{done, part}
+use Rattle.tsa_grammar.specs.Reading.{Outcome, then, choose}
 use Rattle.tsa_tree.proofs.RowsRead.{read_steps}
 use Rattle.tsa_tree.specs.declared.item.FnTree.{FnTree}
 use Rattle.tsa_tree.specs.declared.item.Item.{Item}
@@ -21,9 +21,9 @@ use Rattle.tsa_expr.specs.declared.refusal.SyntaxRefusal.{SyntaxRefusal}
 use Rattle.tsa_expr.specs.Gives.{Fails}
 use Rattle.tsa_expr.proofs.Answering.{fails_then, fails_same, gives_same, not_open, then_done}
 use Rattle.tsa_attr.proofs.Joining.{then-then, then-same, then-ok}
-use Rattle.tsa_local.specs.Outcomes.{after, specified_at}
+use Rattle.tsa_decl_declarators.specs.Outcomes.{after, specified_at}
 use Rattle.tsa_decl.specs.Outcomes.{finished, going_items, storage_at, globals_at, head_end_at, other_item_at}
-use Rattle.tsa_local.proofs.Pieces.{consts_then}
+use Rattle.tsa_decl_declarators.proofs.Pieces.{consts_then}
 use Rattle.tsa_decl.proofs.HeadLaws.{storage_then}
 
 head-law : {B : Type 0} (r : Outcome Signature) (make : Signature → Head) (go : Head → ℕ → Outcome B)

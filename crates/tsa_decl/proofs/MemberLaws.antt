@@ -1,8 +1,8 @@
 -- Declarators after a type, one by one, and lists of members.
 use Rattle.std.proofs.Common.{ℕ, ◌+◌, ◌≡◌, ◌∙◌, ap, sym, refl, Bool, true, false, List, [], ◌∷◌, ◌++◌, Ok, Err}
 use Rattle.tsa_base.specs.Tokens.{Lexeme}
-use Rattle.tsa_forms.proofs.Cases.{chosen, other, goes}
-use Rattle.tsa_forms.specs.Reading.{Outcome, refuse, syntax, then, choose}
+use Rattle.tsa_grammar.proofs.Cases.{chosen, other, goes}
+use Rattle.tsa_grammar.specs.Reading.{Outcome, refuse, syntax, then, choose}
 use Rattle.tsa_tree.proofs.RowsRead.{read_steps}
 use Rattle.tsa_tree.specs.declared.decl.Decl.{Decl}
 use Rattle.tsa_tree.specs.declarations.Syntax.{Specified, Declarator, Declaration, Declared}
@@ -15,8 +15,8 @@ use Rattle.tsa_expr.specs.declared.refusal.SyntaxRefusal.{SyntaxRefusal}
 use Rattle.tsa_expr.specs.Gives.{Fails}
 use Rattle.tsa_expr.proofs.Answering.{fails_then, fails_same, gives_same, then_done}
 use Rattle.tsa_attr.proofs.Joining.{then-same}
-use Rattle.tsa_local.specs.Outcomes.{after}
-use Rattle.tsa_local.proofs.ListLaws.{map-push, after-over, after-then, after-after, after-none, after-more}
+use Rattle.tsa_decl_declarators.specs.Outcomes.{after}
+use Rattle.tsa_decl_declarators.proofs.ListLaws.{map-push, after-over, after-then, after-after, after-none, after-more}
 
 module _ (ts : List Lexeme) (aliases : Aliases) where
   -- after a declaration and its comma or `;`

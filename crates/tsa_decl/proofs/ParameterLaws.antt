@@ -4,9 +4,9 @@ use Rattle.std.proofs.lemmas.List.{length-map}
 use Rattle.tsa_base.specs.declared.token.Span.{Span}
 use Rattle.tsa_base.specs.declared.token.Token.{Token}
 use Rattle.tsa_base.specs.Tokens.{Lexeme, lexeme}
-use Rattle.tsa_forms.proofs.Cases.{chosen, other, goes}
-use Rattle.tsa_forms.specs.Form.{token, either}
-use Rattle.tsa_forms.specs.Reading.{Outcome, refuse, syntax, then, choose}
+use Rattle.tsa_grammar.proofs.Cases.{chosen, other, goes}
+use Rattle.tsa_grammar.specs.Form.{token, either}
+use Rattle.tsa_grammar.specs.Reading.{Outcome, refuse, syntax, then, choose}
 use Rattle.tsa_tree.proofs.RowFacts.{inside}
 use Rattle.tsa_tree.proofs.RowsRead.{read_steps}
 use Rattle.tsa_tree.specs.declared.item.Param.{Param}
@@ -24,10 +24,10 @@ use Rattle.tsa_expr.specs.declared.refusal.SyntaxRefusal.{SyntaxRefusal}
 use Rattle.tsa_expr.specs.Gives.{Fails}
 use Rattle.tsa_expr.proofs.Answering.{fails_then, fails_same, gives_same, then_done, not_name, not_comma, not_close}
 use Rattle.tsa_attr.proofs.Joining.{then-then, then-same}
-use Rattle.tsa_local.specs.Outcomes.{after, going, star_at}
+use Rattle.tsa_decl_declarators.specs.Outcomes.{after, going, star_at}
 use Rattle.tsa_decl.specs.Outcomes.{parameter_with, parameter_by, parameter_at}
-use Rattle.tsa_local.proofs.ListLaws.{map-push, after-nothing, after-over, after-more}
-use Rattle.tsa_local.proofs.Pieces.{star_then}
+use Rattle.tsa_decl_declarators.proofs.ListLaws.{map-push, after-nothing, after-over, after-more}
+use Rattle.tsa_decl_declarators.proofs.Pieces.{star_then}
 
 -- a name, or none, and what follows
 named-law : {B : Type 0} (b : Bool) (x y : Parameter) (m : ℕ) (f : Parameter → ℕ → Outcome B)

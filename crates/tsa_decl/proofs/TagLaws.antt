@@ -2,8 +2,8 @@
 use Rattle.std.proofs.Common.{ℕ, ◌+◌, ◌≡◌, ◌≢◌, ◌∙◌, ap, sym, subst, refl, Bool, true, false, List, [], option_map, Some, None, Ok, Err, nat_eq}
 use Rattle.std.specs.declared.option.Option.{Option}
 use Rattle.tsa_base.specs.Tokens.{Lexeme}
-use Rattle.tsa_forms.proofs.Cases.{chosen, other, goes}
-use Rattle.tsa_forms.specs.Reading.{Outcome, refuse, syntax, then, choose}
+use Rattle.tsa_grammar.proofs.Cases.{chosen, other, goes}
+use Rattle.tsa_grammar.specs.Reading.{Outcome, refuse, syntax, then, choose}
 use Rattle.tsa_tree.specs.declared.attr.Attr.{Attr}
 use Rattle.tsa_tree.specs.declared.expr.Name.{Name}
 use Rattle.tsa_tree.specs.declared.item.Item.{Item}
@@ -23,9 +23,9 @@ use Rattle.tsa_expr.specs.Gives.{Fails}
 use Rattle.tsa_expr.proofs.Answering.{fails_then, fails_same, gives_same}
 use Rattle.tsa_attr.proofs.Joining.{append-nil, after-nothing}
 use Rattle.tsa_attr.specs.Outcomes as marks
-use Rattle.tsa_local.specs.Outcomes.{after, tag_at}
+use Rattle.tsa_decl_declarators.specs.Outcomes.{after, tag_at}
 use Rattle.tsa_decl.specs.Outcomes.{going_items, opening_at, structure_at, enumeration_at}
-use Rattle.tsa_local.proofs.TokenLaws.{not_open_brace, not_semicolon}
+use Rattle.tsa_decl_declarators.proofs.TokenLaws.{not_open_brace, not_semicolon}
 
 -- a tag, and what depends on it
 tag-law : (b : Bool) (m : ℕ) (tag : Identifier) (x : Outcome (List UnitItem)) (go : Identifier → ℕ → Outcome (List UnitItem)) → x ≡ go tag (m + 1)

@@ -12,9 +12,9 @@ use Rattle.tsa_tree.specs.declarations.ItemSpelling.{parameter, parameter_start}
 use Rattle.tsa_tree.specs.Reads.{read}
 use Rattle.tsa_tree.specs.Rows.{an_expression, a_skip, a_specifier, a_declared, a_struct_body, a_signature, some_items, Row, expression, storage, specifier, declared_rest, struct_body, signature, declared, a_name, an_open_brace, an_equals, sees, behind_global, structure_end, structure_alias_end, enumeration_end, enumeration_alias_end, behind_storage, function_end}
 use Rattle.tsa_tree.specs.tokens.Signs.{Aliases, sign_at, identifier_at, is_storage}
-use Rattle.tsa_forms.specs.Form.{done, part}
-use Rattle.tsa_forms.specs.Reading.{Outcome, then, choose}
-use Rattle.tsa_local.specs.Outcomes.{after, going, name_at, tag_at, star_at}
+use Rattle.tsa_grammar.specs.Form.{done, part}
+use Rattle.tsa_grammar.specs.Reading.{Outcome, then, choose}
+use Rattle.tsa_decl_declarators.specs.Outcomes.{after, going, name_at, tag_at, star_at}
 
 -- a parameter of this type and these stars
 abbrev pub parameter_with : Specified → (pointer pointer_const : Bool) → Option Identifier → Span → Parameter

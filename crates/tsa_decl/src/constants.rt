@@ -5,13 +5,13 @@ ghost use Rattle.tsa_tree.specs.Reads.{read};
 ghost use Rattle.tsa_tree.specs.Rows.{some_constants, constants as constants_call, enum_body as body_call};
 ghost use Rattle.tsa_expr.specs.Source.{input, named};
 ghost use Rattle.tsa_expr.specs.Gives.{Gives};
-ghost use Rattle.tsa_local.specs.Outcomes.{after};
+ghost use Rattle.tsa_decl_declarators.specs.Outcomes.{after};
 ghost use Rattle.tsa_decl.specs.Outcomes.{constant_at as spec_constant};
 ghost use Rattle.tsa_decl.specs.Seen.{seen_constant};
 
 use bumpalo::Bump;
 use tsa_expr::{Reader, SyntaxCode, SyntaxRefusal, refuse};
-use tsa_local::{is_close_brace_at, keep, listed, name, open_brace};
+use tsa_decl_declarators::{is_close_brace_at, keep, listed, name, open_brace};
 use tsa_tree::item::Enumerator;
 use tsa_tree::sign::Sign;
 

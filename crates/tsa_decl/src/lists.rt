@@ -7,14 +7,14 @@ ghost use Rattle.tsa_tree.specs.Reads.{read};
 ghost use Rattle.tsa_tree.specs.Rows.{some_declarations, declarators as declarators_call, member_line as line_call, members as members_call};
 ghost use Rattle.tsa_expr.specs.Source.{input, named};
 ghost use Rattle.tsa_expr.specs.Gives.{Gives};
-ghost use Rattle.tsa_local.specs.Outcomes.{after};
+ghost use Rattle.tsa_decl_declarators.specs.Outcomes.{after};
 ghost use Rattle.tsa_decl.specs.Outcomes.{globals_at};
-ghost use Rattle.tsa_local.specs.Seen.{row_type, row_declarator};
+ghost use Rattle.tsa_decl_declarators.specs.Seen.{row_type, row_declarator};
 
 use crate::nodes::{cut_if_refused, keep_global, length_of};
 use bumpalo::Bump;
 use tsa_expr::{Reader, SyntaxRefusal};
-use tsa_local::{Declarator, Role, Specified, declarator_at, declared_rest, is_close_brace_at, keep, specifier};
+use tsa_decl_declarators::{Declarator, Role, Specified, declarator_at, declared_rest, is_close_brace_at, keep, specifier};
 use tsa_tree::decl::Decl;
 use tsa_tree::item::Item;
 

@@ -3,7 +3,7 @@ ghost use Rattle.std.specs.Prelude.{◌≡◌, ◌++◌, ◌∷◌, [], length, 
 
 use std::alloc::Allocator;
 use tsa_expr::SyntaxRefusal;
-use tsa_local::keep;
+use tsa_decl_declarators::keep;
 use tsa_tree::decl::Decl;
 use tsa_tree::item::{AliasDef, EnumDef, FnTree, Item, StructDef};
 

@@ -12,7 +12,7 @@ ghost use Rattle.tsa_tree.specs.Rows.{some_items, item as item_call};
 ghost use Rattle.tsa_expr.specs.Gives.{Gives};
 ghost use Rattle.tsa_expr.specs.Source.{input, named};
 ghost use Rattle.tsa_attr.specs.Outcomes.{IsOfAttributes};
-ghost use Rattle.tsa_local.specs.Outcomes.{after};
+ghost use Rattle.tsa_decl_declarators.specs.Outcomes.{after};
 ghost use Rattle.tsa_decl.specs.Outcomes.{finished};
 
 use crate::heads::head;
@@ -21,7 +21,7 @@ use crate::nodes::keep_function;
 use bumpalo::Bump;
 use tsa_base::Token;
 use tsa_expr::{Aliases, Reader, SyntaxCode, SyntaxRefusal};
-use tsa_local::{in_arena_read, read_locals, semicolon};
+use tsa_decl_declarators::{in_arena_read, read_locals, semicolon};
 use tsa_tree::decl::Decl;
 use tsa_tree::item::{FnTree, Item};
 

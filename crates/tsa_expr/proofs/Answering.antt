@@ -1,7 +1,7 @@
 -- Readers' answers: refusals go through, and what follows a choice.
 use Rattle.std.proofs.Common.{ℕ, ◌<◌, ◌≤◌, ◌≡◌, ◌≢◌, sym, subst, ap, refl, true, false, nat_eq, Result, Ok, Err}
 use Rattle.std.proofs.lemmas.Bool.{le-ltb, lt-ltb}
-use Rattle.tsa_forms.specs.Reading.{Outcome, then}
+use Rattle.tsa_grammar.specs.Reading.{Outcome, then}
 use Rattle.tsa_tree.specs.declared.sign.Sign.{Sign}
 use Rattle.tsa_tree.specs.declared.sign.Sign.TheVariants as sign
 use Rattle.tsa_tree.specs.expressions.Answers.{below_limit}

@@ -1,10 +1,10 @@
 -- Binary operators after a left operand.
 use Rattle.std.proofs.Common.{ℕ, ◌+◌, ◌<◌, ◌≤◌, ◌≡◌, ◌∙◌, ap, sym, refl, List, Option, Some, None, Ok, Err, nat_eq}
 use Rattle.tsa_base.specs.Tokens.{Lexeme}
-use Rattle.tsa_forms.proofs.Cases.{chosen, other, goes}
+use Rattle.tsa_grammar.proofs.Cases.{chosen, other, goes}
 use Rattle.std.proofs.lemmas.Bool.{le-leb, lt-leb}
-use Rattle.tsa_forms.specs.Form.{done}
-use Rattle.tsa_forms.specs.Reading.{Outcome, refuse, deep, then, follow}
+use Rattle.tsa_grammar.specs.Form.{done}
+use Rattle.tsa_grammar.specs.Reading.{Outcome, refuse, deep, then, follow}
 use Rattle.tsa_tree.proofs.RowsRead.{read_steps}
 use Rattle.tsa_tree.specs.declared.expr.BinaryOp.{BinaryOp}
 use Rattle.tsa_tree.specs.declared.sign.Sign.TheVariants as sign

@@ -12,7 +12,7 @@ use Rattle.tsa_expr.specs.declared.refusal.SyntaxRefusal.{SyntaxRefusal}
 use Rattle.tsa_expr.specs.declared.refusal.SyntaxRefusal.TheVariants.{At, Function, NoMemory}
 use Rattle.tsa_expr.specs.declared.refusal.SyntaxCode.TheVariants.{SY1, AT1, AT2, LM2, LM3, LM5}
 use Rattle.tsa_expr.specs.Gives.{Fails, IsOfExpressions}
-use Rattle.tsa_forms.specs.Reading.{Outcome, refuse, syntax, deep}
+use Rattle.tsa_grammar.specs.Reading.{Outcome, refuse, syntax, deep}
 
 same_refusal : {X : Type 0} (e f : SyntaxRefusal) → (let r : Result X SyntaxRefusal = Err e in r) ≡ Err f → e ≡ f
 same_refusal e f h = cc

@@ -1,9 +1,9 @@
 -- Operands by their first tokens.
 use Rattle.std.proofs.Common.{ℕ, ◌+◌, ◌<◌, ◌≤◌, ◌≡◌, ◌≢◌, ◌∙◌, ap, sym, refl, true, List, Option, Some, None, Ok, Err, nat_eq}
 use Rattle.tsa_base.specs.Tokens.{Lexeme}
-use Rattle.tsa_forms.proofs.Cases.{chosen, other, goes}
-use Rattle.tsa_forms.specs.Form.{done, token}
-use Rattle.tsa_forms.specs.Reading.{Outcome, refuse, syntax, deep, then, choose, follow}
+use Rattle.tsa_grammar.proofs.Cases.{chosen, other, goes}
+use Rattle.tsa_grammar.specs.Form.{done, token}
+use Rattle.tsa_grammar.specs.Reading.{Outcome, refuse, syntax, deep, then, choose, follow}
 use Rattle.tsa_tree.proofs.RowsRead.{read_steps}
 use Rattle.tsa_tree.specs.declared.expr.UnaryOp.{UnaryOp}
 use Rattle.tsa_tree.specs.declared.sign.Sign.{Sign}

@@ -5,7 +5,7 @@ use Rattle.std.proofs.lemmas.List.{length-map}
 use Rattle.std.proofs.lemmas.Option.{slice_get_past}
 use Rattle.tsa_base.specs.declared.token.Token.{Token}
 use Rattle.tsa_base.specs.Tokens.{Lexeme, lexeme}
-use Rattle.tsa_forms.proofs.Runs as runs
+use Rattle.tsa_grammar.proofs.Runs as runs
 use Rattle.tsa_tree.proofs.RowFacts.{First, Ends, Moves, inside}
 use Rattle.tsa_tree.proofs.RowsMeet.{good}
 use Rattle.tsa_tree.specs.declared.sign.Sign.{Sign}

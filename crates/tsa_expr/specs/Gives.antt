@@ -4,7 +4,7 @@ use Rattle.std.specs.declared.result.Result.{Result}
 use Rattle.tsa_expr.specs.declared.refusal.SyntaxRefusal.{SyntaxRefusal}
 use Rattle.tsa_expr.specs.declared.refusal.SyntaxRefusal.TheVariants.{At, Function, NoMemory}
 use Rattle.tsa_expr.specs.declared.refusal.SyntaxCode.TheVariants.{SY1, AT1, AT2, LM2}
-use Rattle.tsa_forms.specs.Reading.{Outcome, refuse, syntax, deep, barred}
+use Rattle.tsa_grammar.specs.Reading.{Outcome, refuse, syntax, deep, barred}
 use Rattle.tsa_tree.specs.attributes.Refusals.{left_out, lacking}
 
 -- a refusal of a token is the reading's, but want of memory may always come; no function is refused

@@ -1,6 +1,6 @@
 -- What the readers' results are without the arena.
 use Rattle.std.specs.Prelude.{ℕ, Ok}
-use Rattle.tsa_forms.specs.Reading.{Outcome, then}
+use Rattle.tsa_grammar.specs.Reading.{Outcome, then}
 use Rattle.tsa_tree.specs.expressions.Syntax.{Expression, Arguments, none, more}
 use Rattle.tsa_tree.specs.expressions.Shapes.{shape, shapes}
 use Rattle.tsa_expr.specs.declared.reading.ArgumentList.{ArgumentList}

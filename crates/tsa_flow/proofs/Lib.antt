@@ -1,6 +1,3 @@
-pub mod AlikeCourses
-pub mod Idling
-pub mod Flowing
-pub mod Assigning
-pub mod Numbered
-pub mod Beginning
+pub mod Passing
+pub mod Room
+pub mod Telling

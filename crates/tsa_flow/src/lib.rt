@@ -1,14 +1,10 @@
-//! The held sets of functions: what walks bring to their points, path by path.
+//! The held sets of a unit: what walks bring to the points of all its functions, in one walk along its items.
 #![tactic(auto)]
 
-mod asked;
-mod firsts;
-mod function;
-mod lanes;
-mod number;
-mod paths;
-mod table;
-mod working;
+mod unit_flow;
+mod passage;
+mod tables;
 
-pub use function::FunctionFlow;
-pub use number::flow_of;
+pub use unit_flow::{Flowed, flow};
+pub use passage::Pass;
+pub use tables::UnitTables;

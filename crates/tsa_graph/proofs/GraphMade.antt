@@ -3,12 +3,12 @@ use Rattle.std.proofs.Common.{◌≡◌, ◌∙◌, ℕ, zero, suc, ◌+◌, ◌
 use Rattle.std.proofs.Math.Seq.{take-suc}
 use Rattle.std.proofs.lemmas.Bool.Decides.{nat_tests}
 use Rattle.tsa_core.specs.Control.{Outcome, Edge, edge}
-use Rattle.tsa_links.specs.Links.{outcome_of}
-use Rattle.tsa_runs.specs.Runs.{step, first_of, last_of, IsChain, IsLongest, AreLongest, bit, times_in}
-use Rattle.tsa_runs.proofs.Paths.{not_true}
+use Rattle.tsa_graph_edges.specs.Links.{outcome_of}
+use Rattle.tsa_graph.specs.Runs.{step, first_of, last_of, IsChain, IsLongest, AreLongest, bit, times_in}
+use Rattle.tsa_graph.proofs.Paths.{not_true}
 use Rattle.tsa_graph.proofs.WaysMade.{way_inside, led_next, led_step}
 use Rattle.tsa_graph.specs.declared.arcs.Exit.{Exit}
-use Rattle.tsa_graph.specs.declared.blocks.Block.{Block}
+use Rattle.tsa_graph.specs.declared.blocks.GraphBlock.{GraphBlock}
 use Rattle.tsa_graph.specs.declared.blocks.Graph.{Graph}
 use Rattle.tsa_graph.specs.declared.entries.Edge as code
 use Rattle.tsa_graph.specs.Arcs.{exit_of, entry_of, AreArcs, to_one, next_by, next_in}
@@ -17,13 +17,13 @@ use Rattle.tsa_graph.specs.Graphs.{IsRun, IsBlock, AreBlocks, points_in, IsGraph
 use Rattle.tsa_graph.specs.Inner.{outcome_of_one, inner_of}
 use Rattle.tsa_graph.specs.Made.{IsMade, AreMade}
 
-pub made_push : (ins : List (List code.Edge)) (bs : List Block) (runs : List (List ℕ)) (b : Block) (run : List ℕ) → AreMade ins bs runs → IsMade ins b run → AreMade ins (bs ++ b ∷ []) (runs ++ run ∷ [])
+pub made_push : (ins : List (List code.Edge)) (bs : List GraphBlock) (runs : List (List ℕ)) (b : GraphBlock) (run : List ℕ) → AreMade ins bs runs → IsMade ins b run → AreMade ins (bs ++ b ∷ []) (runs ++ run ∷ [])
 made_push ins [] [] b run h g = (g, tt)
 made_push ins [] (r ∷ runs) b run h g = absurd h
 made_push ins (x ∷ bs) [] b run h g = absurd h
 made_push ins (x ∷ bs) (r ∷ runs) b run h g = (h.0, made_push ins bs runs b run h.1 g)
 
-pub points_made : (ins : List (List code.Edge)) (bs : List Block) (runs : List (List ℕ)) → AreMade ins bs runs → points_in bs ≡ runs
+pub points_made : (ins : List (List code.Edge)) (bs : List GraphBlock) (runs : List (List ℕ)) → AreMade ins bs runs → points_in bs ≡ runs
 points_made ins [] [] h = refl
 points_made ins [] (r ∷ runs) h = absurd h
 points_made ins (b ∷ bs) [] h = absurd h
@@ -88,7 +88,7 @@ module _ (n : ℕ) (es : List Edge) (outs : List Exit) (ins : List (List code.Ed
   run_of [] c = absurd c
   run_of (p ∷ ps) c = runs_on p ps c
 
-  is_block : (b : Block) (run : List ℕ) → IsLongest next run → IsMade ins b run → IsBlock es b
+  is_block : (b : GraphBlock) (run : List ℕ) → IsLongest next run → IsMade ins b run → IsBlock es b
   is_block b run l m = record {
     run = subst (λ ps. IsRun es ps b.inner.items) (sym m.points) (subst (λ os. IsRun es run os) (sym m.inner) (run_of run l.chain));
     longest = λ o q s.
@@ -96,13 +96,13 @@ module _ (n : ℕ) (es : List Edge) (outs : List Exit) (ins : List (List code.Ed
     into = ap₂ (λ ps xs. map (entry_of (first_of ps)) xs) m.points m.into ∙ begins (first_of run) ∙ ap (λ ps. edges_into (first_of ps) es) (sym m.points);
   }
 
-  pub are_blocks : (bs : List Block) (runs : List (List ℕ)) → AreLongest next runs → AreMade ins bs runs → AreBlocks es bs
+  pub are_blocks : (bs : List GraphBlock) (runs : List (List ℕ)) → AreLongest next runs → AreMade ins bs runs → AreBlocks es bs
   are_blocks [] [] l m = tt
   are_blocks [] (r ∷ runs) l m = absurd m
   are_blocks (b ∷ bs) [] l m = absurd m
   are_blocks (b ∷ bs) (r ∷ runs) l m = (is_block b r l.0 m.0, are_blocks bs runs l.1 m.1)
 
-pub next_made : (ins : List (List code.Edge)) (bs bs' : List Block) (runs : List (List ℕ)) (k : ℕ) (b : Block) (run : List ℕ) → k < length runs → run ≡ get_or runs k []
+pub next_made : (ins : List (List code.Edge)) (bs bs' : List GraphBlock) (runs : List (List ℕ)) (k : ℕ) (b : GraphBlock) (run : List ℕ) → k < length runs → run ≡ get_or runs k []
     → AreMade ins bs (take k runs) → IsMade ins b run → bs' ≡ bs ++ b ∷ [] → AreMade ins bs' (take (k + 1) runs)
 next_made ins bs bs' runs k b run within at h g is =
     let one : k + 1 ≡ suc k = omega arith in

@@ -4,15 +4,15 @@ use Rattle.std.proofs.lemmas.Bool.Decides.{nat_tests}
 use Rattle.std.proofs.lemmas.List.{map_push}
 use Rattle.std.proofs.Math.Seq.{take-suc}
 use Rattle.tsa_core.specs.Control.{Edge}
-use Rattle.tsa_links.specs.declared.link.Link.{Link}
-use Rattle.tsa_links.specs.Links.{edge_of}
+use Rattle.tsa_graph_edges.specs.declared.link.Link.{Link}
+use Rattle.tsa_graph_edges.specs.Links.{edge_of}
 use Rattle.tsa_graph.specs.declared.entries.Edge as code
 use Rattle.tsa_graph.specs.declared.arcs.Exit.{Exit}
 use Rattle.tsa_graph.specs.declared.arcs.Exit.TheVariants.{Nowhere}
 use Rattle.tsa_graph.specs.Arcs.{exit_of, more, entry_of, AreArcs}
 use Rattle.tsa_graph.specs.Edges.{edges_from, edges_into}
 use Rattle.tsa_graph.proofs.WaysMade.{equal}
-use Rattle.tsa_runs.proofs.Paths.{either, not_true}
+use Rattle.tsa_graph.proofs.Paths.{either, not_true}
 
 apart : (p q : ℕ) → (p ≡ q → ⊥) → nat_eq p q ≡ false
 apart p q other = not_true (nat_eq p q) (λ e. other (grind (arith, nat_tests, e)))

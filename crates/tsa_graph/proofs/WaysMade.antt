@@ -2,14 +2,14 @@
 use Rattle.std.proofs.Common.{◌≡◌, ◌∙◌, ℕ, zero, suc, ◌<◌, arith, Bool, true, false, nat_eq, ◌⊎◌, inl, inr, List, [], ◌∷◌, map, length, get_or, Option, Some, None, if◌then◌else◌, refl, sym, ap, subst}
 use Rattle.std.proofs.lemmas.Bool.Decides.{nat_tests}
 use Rattle.tsa_core.specs.Control.{Edge, edge}
-use Rattle.tsa_links.specs.Links.{outcome_of}
+use Rattle.tsa_graph_edges.specs.Links.{outcome_of}
 use Rattle.tsa_graph.specs.declared.entries.Edge as code
 use Rattle.tsa_graph.specs.declared.arcs.Exit.{Exit}
 use Rattle.tsa_graph.specs.declared.arcs.Exit.TheVariants.{Nowhere, To, Many}
 use Rattle.tsa_graph.specs.Arcs.{exit_of, entry_of, AreArcs, to_one, next_by, next_in, back_by, from_one, back_in}
 use Rattle.tsa_graph.specs.Edges.{edges_from, edges_into, IsStep}
-use Rattle.tsa_runs.specs.Runs.{step, AreWays}
-use Rattle.tsa_runs.proofs.Paths.{never, some_same, some_none, not_true}
+use Rattle.tsa_graph.specs.Runs.{step, AreWays}
+use Rattle.tsa_graph.proofs.Paths.{never, some_same, some_none, not_true}
 
 pub equal : (p q : ℕ) → p ≡ q → nat_eq p q ≡ true
 equal p q e = grind (arith, nat_tests, e)

@@ -2,7 +2,7 @@
 use Rattle.std.specs.Prelude.{ℕ, ◌≡◌, ◌<◌, ◌≤◌, nat_eq, List, [], ◌∷◌, map, length, slice_index_or, Option, Some, None, if◌then◌else◌}
 use Rattle.tsa_core.specs.Control as control
 use Rattle.tsa_core.specs.Control.{edge}
-use Rattle.tsa_links.specs.Links.{outcome_of}
+use Rattle.tsa_graph_edges.specs.Links.{outcome_of}
 use Rattle.tsa_graph.specs.declared.entries.Edge.{Edge}
 use Rattle.tsa_graph.specs.declared.arcs.Exit.{Exit}
 use Rattle.tsa_graph.specs.declared.arcs.Exit.TheVariants.{Nowhere, To, Many}

@@ -1,10 +1,10 @@
 -- The control of a body as blocks: longest runs of points, each of which leads to the next one alone.
 use Rattle.std.specs.Prelude.{ℕ, ◌≡◌, nat_lt, List, [], ◌∷◌, map}
 use Rattle.tsa_core.specs.Control as control
-use Rattle.tsa_links.specs.declared.link.Outcome.{Outcome}
-use Rattle.tsa_links.specs.Links.{outcome_of}
-use Rattle.tsa_runs.specs.Runs.{first_of, last_of, bit, times_in}
-use Rattle.tsa_graph.specs.declared.blocks.Block.{Block}
+use Rattle.tsa_graph_edges.specs.declared.link.Outcome.{Outcome}
+use Rattle.tsa_graph_edges.specs.Links.{outcome_of}
+use Rattle.tsa_graph.specs.Runs.{first_of, last_of, bit, times_in}
+use Rattle.tsa_graph.specs.declared.blocks.GraphBlock.{GraphBlock}
 use Rattle.tsa_graph.specs.declared.blocks.Graph.{Graph}
 use Rattle.tsa_graph.specs.Arcs.{entry_of}
 use Rattle.tsa_graph.specs.Edges.{edges_into, IsStep}
@@ -19,17 +19,17 @@ IsRun es (p ∷ q ∷ ps) (o ∷ os) = IsStep es p (outcome_of o) q × IsRun es 
 
 -- A block is a run that can't go on: its last point leads alone to no point but its own first one. The other edges are those into its first
 -- point, in their order.
-pub record IsBlock (es : List control.Edge) (b : Block) : Type 0 where
+pub record IsBlock (es : List control.Edge) (b : GraphBlock) : Type 0 where
   pub run : IsRun es b.points.items b.inner.items
   pub longest : (o : control.Outcome) (q : ℕ) → IsStep es (last_of b.points.items) o q → q ≡ first_of b.points.items
   pub into : map (entry_of (first_of b.points.items)) b.into.items ≡ edges_into (first_of b.points.items) es
 
-abbrev pub AreBlocks : List control.Edge → List Block → Type 0
+abbrev pub AreBlocks : List control.Edge → List GraphBlock → Type 0
 AreBlocks es [] = Unit {0}
 AreBlocks es (b ∷ bs) = IsBlock es b × AreBlocks es bs
 
 -- the points of blocks
-abbrev pub points_in : List Block → List (List ℕ)
+abbrev pub points_in : List GraphBlock → List (List ℕ)
 points_in [] = []
 points_in (b ∷ bs) = b.points.items ∷ points_in bs
 

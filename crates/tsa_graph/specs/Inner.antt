@@ -1,7 +1,7 @@
 -- The outcomes inside a run, by the edges that are kept.
 use Rattle.std.specs.Prelude.{ℕ, List, [], ◌∷◌, map, slice_index_or}
-use Rattle.tsa_links.specs.declared.link.Outcome.{Outcome}
-use Rattle.tsa_links.specs.declared.link.Outcome.TheVariants.{Next}
+use Rattle.tsa_graph_edges.specs.declared.link.Outcome.{Outcome}
+use Rattle.tsa_graph_edges.specs.declared.link.Outcome.TheVariants.{Next}
 use Rattle.tsa_graph.specs.declared.entries.Edge.{Edge}
 
 abbrev pub outcome_of_one : List Edge → Outcome

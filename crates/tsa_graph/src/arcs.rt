@@ -2,12 +2,12 @@
 ghost use Rattle.std.specs.Prelude.{◌≡◌, ◌<◌, length, map, slice_set, slice_index_or, IfOk, OnOk};
 ghost use Rattle.tsa_graph.specs.Arcs.{more as spec_more, AreArcs};
 ghost use Rattle.tsa_graph.specs.declared.arcs.Exit.TheVariants.{Nowhere};
-ghost use Rattle.tsa_links.specs.Links.{edge_of};
+ghost use Rattle.tsa_graph_edges.specs.Links.{edge_of};
 
 use crate::entries::{Edge, Entries};
 use std::alloc::Global;
 use tsa_base::NoMemory;
-use tsa_links::Link;
+use tsa_graph_edges::Link;
 
 /// How a point is left: by no edge, by one alone, or by more.
 #[derive(Clone, Copy)]

@@ -1,16 +1,16 @@
 //! The control of a body as a graph with longest blocks.
 ghost use Rattle.std.specs.Prelude.{◌≡◌, [], length, map, slice_index_or, IfOk, OnOk};
 ghost use Rattle.tsa_graph.specs.Inner.{outcome_of_one, inner_of};
-ghost use Rattle.tsa_runs.specs.Runs.{first_of as spec_first_of};
+ghost use Rattle.tsa_graph.specs.Runs.{first_of as spec_first_of};
 
 use crate::entries::{Edge, Entries};
 use std::alloc::Global;
 use tsa_base::NoMemory;
-use tsa_links::Outcome;
+use tsa_graph_edges::Outcome;
 
 /// A longest run of points: the outcomes of the edges from each of them to the next, and the edges into the first one.
 #[derive(Drop)]
-pub struct Block {
+pub struct GraphBlock {
     pub points: Vec<u32>,
     pub inner: Vec<Outcome>,
     pub into: Vec<Edge>,
@@ -19,7 +19,7 @@ pub struct Block {
 /// The control of a body: its blocks.
 #[derive(Drop)]
 pub struct Graph {
-    pub blocks: Vec<Block>,
+    pub blocks: Vec<GraphBlock>,
 }
 
 /// A copy of points.
@@ -75,12 +75,12 @@ fn first_of(run: &[u32]) -> u32
 }
 
 /// The block of a run.
-pub fn block_of(alloc: Global, ins: &Entries, run: &[u32]) -> Result<Block, NoMemory>
+pub fn block_of(alloc: Global, ins: &Entries, run: &[u32]) -> Result<GraphBlock, NoMemory>
     ensures points { IfOk result (λ block. block.points.items ≡ run.now) }
     ensures inner { IfOk result (λ block. block.inner.items ≡ inner_of ins.now run.now) }
     ensures into { IfOk result (λ block. block.into.items ≡ slice_index_or ins.now (spec_first_of run.now) []) }
 {
-    Ok(Block {
+    Ok(GraphBlock {
         points: copied(alloc, run)?,
         inner: inner_outcomes(alloc, ins, run)?,
         into: copied_edges(alloc, ins.at(first_of(run)))?,

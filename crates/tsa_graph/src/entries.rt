@@ -4,7 +4,7 @@ ghost use Rattle.std.specs.Prelude.{◌≡◌, ◌<◌, ◌++◌, ◌∷◌, ℕ
 use std::alloc::Global;
 use std::marker::Model;
 use tsa_base::NoMemory;
-use tsa_links::Outcome;
+use tsa_graph_edges::Outcome;
 
 /// An edge into a point, by the point from which it leads.
 #[derive(Clone, Copy, Debug, PartialEq, Eq)]

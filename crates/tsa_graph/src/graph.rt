@@ -3,22 +3,22 @@ ghost use Rattle.std.specs.Prelude.{◌≡◌, ◌+◌, map, IfOk};
 ghost use Rattle.tsa_core.specs.Control.{body_edges, count_all};
 ghost use Rattle.tsa_graph.specs.Graphs.{IsGraph};
 ghost use Rattle.tsa_graph.specs.Made.{AreMade};
-ghost use Rattle.tsa_links.specs.Links.{edge_of};
+ghost use Rattle.tsa_graph_edges.specs.Links.{edge_of};
 ghost use Rattle.tsa_tree.specs.statements.Shapes.{stmt_shapes};
 
 use crate::arcs::arcs_of;
-use crate::blocks::{Block, Graph, block_of};
+use crate::blocks::{GraphBlock, Graph, block_of};
 use crate::entries::Entries;
 use crate::ways::{backs, nexts};
 use std::alloc::Global;
 use tsa_base::NoMemory;
-use tsa_links::{Link, body_links};
-use tsa_runs::{Runs, Ways, longest_runs};
-use tsa_scope::Scope;
+use tsa_graph_edges::{Link, body_links};
+use crate::{Runs, Ways, longest_runs};
+use tsa_types_scope::Scope;
 use tsa_tree::stmt::Stmt;
 
 /// A block of each run.
-fn blocks_in(alloc: Global, ins: &Entries, runs: &Runs) -> Result<Vec<Block>, NoMemory>
+fn blocks_in(alloc: Global, ins: &Entries, runs: &Runs) -> Result<Vec<GraphBlock>, NoMemory>
     ensures { IfOk result (λ blocks. AreMade ins.now blocks.items runs.now) }
 {
     let mut blocks = Vec::new(alloc);

@@ -6,10 +6,10 @@ mod gaps;
 mod laws;
 mod numbers;
 mod puncts;
-mod reserved;
+mod keywords;
 mod scan;
 mod tokens;
 
 pub use laws::quick_tokens_are_tokens;
-pub use reserved::is_reserved;
+pub use keywords::is_reserved;
 pub use tokens::{LexRefusal, lex};

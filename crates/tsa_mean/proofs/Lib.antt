@@ -14,3 +14,4 @@ pub mod WorkedFurther
 pub mod WorkedOrder
 pub mod WorkedPlaces
 pub mod Unsound
+pub mod Schedules

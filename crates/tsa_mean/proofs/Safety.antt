@@ -5,9 +5,9 @@ use Rattle.std.specs.List.{list_all}
 use Rattle.std.specs.Prelude.{All, IsSome, ◌↔◌}
 use Rattle.tsa_base.specs.declared.value.Value.{Value}
 use Rattle.tsa_base.proofs.Truths.{both}
-use Rattle.tsa_layout.specs.Calls.{guards_of}
-use Rattle.tsa_layout.specs.declared.place.Guard.{Guard}
-use Rattle.tsa_layout.specs.declared.place.Guard.TheVariants.{Lock, Nothing}
+use Rattle.tsa_place_layout.specs.Calls.{guards_of}
+use Rattle.tsa_place_layout.specs.declared.place.Guard.{Guard}
+use Rattle.tsa_place_layout.specs.declared.place.Guard.TheVariants.{Lock, Nothing}
 use Rattle.tsa_core.specs.Programs.{Attr, Program}
 use Rattle.tsa_locks.specs.Locks.{Mode, Exclusive, Shared}
 use Rattle.tsa_mean.specs.Acts.{to_read, to_write, to_step, to_set, to_branch, to_choose, to_take, to_try, to_give, to_ask, to_enter, to_leave, to_trap}

@@ -21,3 +21,4 @@ pub mod FurtherTraces
 pub mod OrderTraces
 pub mod TracePlaces
 pub mod Examples
+pub mod Schedules

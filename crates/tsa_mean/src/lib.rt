@@ -2,6 +2,7 @@
 #![tactic(auto)]
 
 mod laws;
+mod worked_runs;
 
 pub use laws::{
     answers_come, calls_are_answered, first_states_are_starts, holders_take_their_lock_again,
@@ -12,3 +13,4 @@ pub use laws::{
     transfers_lock_their_accounts, turns_are_atomic, turns_tell_their_acts,
     unlocked_writes_are_unsound, unlocked_writes_are_violations, violations_are_unsafe,
 };
+pub use worked_runs::{accepted_units_run_safely, transfers_can_start};

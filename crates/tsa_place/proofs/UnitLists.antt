@@ -10,12 +10,12 @@ use Rattle.tsa_tree.specs.types.Enums.{enumerator_entry}
 use Rattle.tsa_tree.specs.types.Scopes.{Scope, Members, is_taken, is_named_taken, with_name, with_named, with_struct}
 use Rattle.tsa_tree.specs.units.Shapes.{item_shape, item_shapes}
 use Rattle.tsa_tree.specs.units.Syntax.{UnitItem, structure_item, alias_item, enumeration_item, global_item, function_item, body_item}
-use Rattle.tsa_fill.specs.declared.refusal.PlaceRefusal.{PlaceRefusal}
-use Rattle.tsa_fill.specs.declared.refusal.PlaceRefusal.TheVariants.{TooMany, NoMemory}
+use Rattle.tsa_place.specs.declared.refusal.PlaceRefusal.{PlaceRefusal}
+use Rattle.tsa_place.specs.declared.refusal.PlaceRefusal.TheVariants.{TooMany, NoMemory}
 use Rattle.tsa_place.specs.Answers.{Places, GivesAll}
-use Rattle.tsa_layout.specs.Calls.{Layout}
-use Rattle.tsa_layout.specs.Parts.{unless, unless_taken, members_after}
-use Rattle.tsa_item.specs.Items.{worth, enumerators_behind, behind_data}
+use Rattle.tsa_place_layout.specs.Calls.{Layout}
+use Rattle.tsa_place_layout.specs.Parts.{unless, unless_taken, members_after}
+use Rattle.tsa_place.specs.Items.{worth, enumerators_behind, behind_data}
 use Rattle.tsa_place.specs.Units.{data_placed, too_many_at, or_behind, placed_behind}
 
 -- names change no struct

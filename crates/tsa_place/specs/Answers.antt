@@ -3,10 +3,10 @@ use Rattle.std.specs.Prelude.{◌≡◌, Some, None, Result, Ok, Err, ⊤}
 use Rattle.tsa_base.specs.declared.token.Span.{Span}
 use Rattle.tsa_tree.specs.types.Scopes.{Scope}
 use Rattle.tsa_tree.specs.units.Syntax.{UnitItem}
-use Rattle.tsa_fill.specs.declared.refusal.PlaceRefusal.{PlaceRefusal}
-use Rattle.tsa_fill.specs.declared.refusal.PlaceRefusal.TheVariants.{TooMany, NoMemory}
-use Rattle.tsa_layout.specs.Calls.{Layout}
-use Rattle.tsa_item.specs.Items.{behind_data}
+use Rattle.tsa_place.specs.declared.refusal.PlaceRefusal.{PlaceRefusal}
+use Rattle.tsa_place.specs.declared.refusal.PlaceRefusal.TheVariants.{TooMany, NoMemory}
+use Rattle.tsa_place_layout.specs.Calls.{Layout}
+use Rattle.tsa_place.specs.Items.{behind_data}
 use Rattle.tsa_place.specs.Units.{data_placed, too_many_at}
 
 -- an item is gone through, or there are too many places at a declarator in it

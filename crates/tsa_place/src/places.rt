@@ -1,7 +1,7 @@
 //! The places of a unit, with all that is asked of them (C11 6.2.4).
 ghost use Rattle.std.specs.Prelude.{◌≡◌, ◌<◌, length, Some, None, slice_get, option_map, IfOk};
 ghost use Rattle.tsa_place.specs.Answers.{Gives};
-ghost use Rattle.tsa_layout.specs.Calls.{declarator_of, element_place, evaluated, global_place, guards_of, is_addressable as spec_is_addressable, is_lock_kind, member_place, place_kind, text_of};
+ghost use Rattle.tsa_place_layout.specs.Calls.{declarator_of, element_place, evaluated, global_place, guards_of, is_addressable as spec_is_addressable, is_lock_kind, member_place, place_kind, text_of};
 ghost use Rattle.tsa_place.specs.Units.{placed_in};
 ghost use Rattle.tsa_tree.specs.units.Shapes.{item_shapes};
 
@@ -9,9 +9,9 @@ use crate::unit::placed;
 use std::alloc::Global;
 use std::marker::Model;
 use tsa_base::{NoMemory, Span, Value};
-use tsa_fill::{Globals, PlaceRefusal};
-use tsa_layout::{Guard, Layout, PlaceKind, Placed};
-use tsa_way::Path;
+use crate::{Globals, PlaceRefusal};
+use tsa_place_layout::{Guard, Layout, PlaceKind, Placed};
+use tsa_place_paths::Path;
 use tsa_tree::item::UnitTree;
 use tsa_tree::kind::Kind;
 
@@ -22,7 +22,7 @@ pub struct Places {
 }
 
 impl Model for Places {
-    ghost use Rattle.tsa_layout.specs.Calls.{Layout};
+    ghost use Rattle.tsa_place_layout.specs.Calls.{Layout};
 
     ghost Value = { Layout };
 

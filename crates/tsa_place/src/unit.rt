@@ -7,9 +7,9 @@ ghost use Rattle.tsa_tree.specs.units.Shapes.{item_shape, item_shapes};
 ghost use Rattle.tsa_tree.specs.units.Syntax.{global_item};
 
 use std::alloc::Global;
-use tsa_fill::{Globals, PlaceRefusal};
-use tsa_scope::{Scope, outset};
-use tsa_item::{know_alias, know_enum, know_global};
+use crate::{Globals, PlaceRefusal};
+use tsa_types_scope::{Scope, outset};
+use crate::{know_alias, know_enum, know_global};
 use tsa_tree::decl::Decl;
 use tsa_tree::item::Item;
 

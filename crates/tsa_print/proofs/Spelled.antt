@@ -13,7 +13,7 @@ use Rattle.tsa_tree.specs.tokens.Signs as signs
 use Rattle.tsa_tree.specs.expressions.Spelling.{IsExpression, of_unary, of_binary, of_postfix, of_prefix, IsPostfix, of_primary, of_field, of_index, of_number, of_null, of_name, of_call, of_parentheses, IsArguments, of_none, of_some, IsSeries, of_last, of_further}
 use Rattle.tsa_tree.specs.expressions.Answers.{an_expression, Spells}
 use Rattle.tsa_tree.specs.expressions.Sound.{is_name, is_sound, are_sound}
-use Rattle.tsa_forms.specs.Reading.{all}
+use Rattle.tsa_grammar.specs.Reading.{all}
 use Rattle.tsa_print.specs.declared.mark.Mark.TheVariants as marks
 use Rattle.tsa_print.specs.Canonical.{Piece, word, numeral, operator, prefix, access, mark, wrapped, pieces, arguments, further}
 use Rattle.tsa_print.proofs.Apart.{AreTokens}

@@ -9,7 +9,7 @@ use Rattle.tsa_tree.specs.expressions.Syntax.{Arguments, none, more, nowhere, pl
 use Rattle.tsa_tree.specs.tokens.Signs.{Aliases, identifier_at}
 use Rattle.tsa_tree.specs.expressions.Spelling.{IsExpression}
 use Rattle.tsa_tree.specs.attributes.Sound.{SoundTaken, SoundAttributes}
-use Rattle.tsa_forms.specs.Reading.{all}
+use Rattle.tsa_grammar.specs.Reading.{all}
 use Rattle.tsa_print.specs.declared.mark.Mark.TheVariants as marks
 use Rattle.tsa_print.specs.Canonical.{quoted, mark, pieces, arguments, further}
 use Rattle.tsa_print.specs.DeclarationPieces.{taken, attribute_pieces, attributes_pieces}

@@ -10,7 +10,7 @@ use Rattle.tsa_tree.specs.declarations.Plain.{plain_type, plain_initialiser, pla
 use Rattle.tsa_tree.specs.tokens.Signs.{Aliases, identifier_at, span_over}
 use Rattle.tsa_tree.specs.attributes.Sound.{SoundAttributes}
 use Rattle.tsa_tree.specs.declarations.Sound.{SoundDeclarator, SoundLocalInit, SoundMembers, SoundGlobal, SoundLocal}
-use Rattle.tsa_forms.specs.Reading.{all}
+use Rattle.tsa_grammar.specs.Reading.{all}
 use Rattle.tsa_print.specs.declared.mark.Mark.TheVariants as marks
 use Rattle.tsa_print.specs.Canonical.{word, mark}
 use Rattle.tsa_print.specs.DeclarationPieces.{type_pieces, length_pieces, attributes_pieces, init_pieces, declaration_pieces, members_pieces}

@@ -11,7 +11,7 @@ use Rattle.tsa_tree.specs.declarations.Plain.{plain_type, plain_parameter, plain
 use Rattle.tsa_tree.specs.tokens.Signs.{Aliases, identifier_at}
 use Rattle.tsa_tree.specs.expressions.Sound.{SoundOptional, is_name}
 use Rattle.tsa_tree.specs.declarations.Sound.{SoundHead, SoundEachConstant, SoundConstants}
-use Rattle.tsa_forms.specs.Reading.{all}
+use Rattle.tsa_grammar.specs.Reading.{all}
 use Rattle.tsa_print.specs.declared.mark.Mark.TheVariants as marks
 use Rattle.tsa_print.specs.Canonical.{word, mark}
 use Rattle.tsa_print.specs.DeclarationPieces.{type_pieces, attributes_pieces, parameters_pieces, head_pieces, value_pieces, constant_pieces, further_constants, constants_pieces}

@@ -9,7 +9,7 @@ use Rattle.tsa_tree.specs.declarations.Spelling.{Role, a_member, a_global, IsIni
 use Rattle.tsa_tree.specs.declarations.Plain.{plain_initialiser, plain_initialisers}
 use Rattle.tsa_tree.specs.tokens.Signs.{Aliases, punctuator_signs, punctuator_sign, sign_at, span_over}
 use Rattle.tsa_tree.specs.declarations.Sound.{SoundInitialiser, SoundInitialisers, SoundInit}
-use Rattle.tsa_forms.specs.Reading.{all}
+use Rattle.tsa_grammar.specs.Reading.{all}
 use Rattle.tsa_print.specs.declared.mark.Mark.TheVariants as marks
 use Rattle.tsa_print.specs.Canonical.{assigned, mark}
 use Rattle.tsa_print.specs.DeclarationPieces.{initialiser_pieces, further_pieces, init_pieces}

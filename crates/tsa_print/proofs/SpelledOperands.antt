@@ -6,7 +6,7 @@ use Rattle.tsa_tree.specs.expressions.Syntax.{Expression, Arguments, number, nul
 use Rattle.tsa_tree.specs.tokens.Signs.{Aliases, span_over, level}
 use Rattle.tsa_tree.specs.expressions.Spelling.{IsUnary, of_postfix, of_prefix, IsSeries}
 use Rattle.tsa_tree.specs.expressions.Sound.{is_sound, are_sound}
-use Rattle.tsa_forms.specs.Reading.{all}
+use Rattle.tsa_grammar.specs.Reading.{all}
 use Rattle.tsa_print.specs.Canonical.{operator, pieces, further}
 use Rattle.tsa_print.proofs.PieceSigns.{prefix_seen}
 use Rattle.tsa_print.proofs.Runs.{Run, run_split, run_shows, run_long}

@@ -11,7 +11,7 @@ use Rattle.tsa_tree.specs.statements.Syntax.{Simple, evaluation, assignment, For
 use Rattle.tsa_tree.specs.statements.Spelling.{IsSimple, of_evaluation, of_assignment, IsOptional, no_expression, an_expression, IsTest, of_test, IsForInit, of_no_init, of_simple_init, of_local_init, IsForStep, of_no_step, of_step}
 use Rattle.tsa_tree.specs.expressions.Sound.{SoundExpression, SoundOptional}
 use Rattle.tsa_tree.specs.statements.Sound.{SoundSimple, SoundForInit, SoundForStep}
-use Rattle.tsa_forms.specs.Reading.{all}
+use Rattle.tsa_grammar.specs.Reading.{all}
 use Rattle.tsa_print.specs.declared.mark.Mark.TheVariants as marks
 use Rattle.tsa_print.specs.Canonical.{Piece, word, assigned, mark, pieces}
 use Rattle.tsa_print.specs.UnitPieces.{simple_pieces, optional_pieces, test_pieces, for_init_pieces, for_step_pieces}

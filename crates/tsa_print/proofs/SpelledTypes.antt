@@ -10,7 +10,7 @@ use Rattle.tsa_tree.specs.declarations.Plain.{plain_base, plain_type}
 use Rattle.tsa_tree.specs.tokens.Signs.{Aliases, identifier_at}
 use Rattle.tsa_tree.specs.expressions.Sound.{SoundOptional}
 use Rattle.tsa_tree.specs.declarations.Sound.{SoundBase, SoundType}
-use Rattle.tsa_forms.specs.Reading.{all}
+use Rattle.tsa_grammar.specs.Reading.{all}
 use Rattle.tsa_print.specs.declared.mark.Mark.TheVariants as marks
 use Rattle.tsa_print.specs.Canonical.{mark, pieces}
 use Rattle.tsa_print.specs.DeclarationPieces.{base_pieces, const_pieces, specifier_pieces, star_pieces, type_pieces, length_pieces}

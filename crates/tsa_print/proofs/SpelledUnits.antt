@@ -8,7 +8,7 @@ use Rattle.tsa_tree.specs.units.Answers.{Spells}
 use Rattle.tsa_tree.specs.units.Syntax.{UnitItem, structure_item, alias_item, enumeration_item, global_item, function_item, body_item, names_of_item, names_of}
 use Rattle.tsa_tree.specs.units.Spelling.{IsItems, no_items, of_items}
 use Rattle.tsa_tree.specs.units.Sound.{SoundItems}
-use Rattle.tsa_forms.specs.Reading.{all}
+use Rattle.tsa_grammar.specs.Reading.{all}
 use Rattle.tsa_print.specs.UnitPieces.{item_pieces, unit_pieces}
 use Rattle.tsa_print.proofs.Apart.{AreTokens}
 use Rattle.tsa_print.proofs.Runs.{Run, run_split, whole_run}

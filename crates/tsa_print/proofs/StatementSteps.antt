@@ -15,7 +15,7 @@ use Rattle.tsa_tree.specs.statements.Spelling.{IsStatement, of_block, of_empty, 
 use Rattle.tsa_tree.specs.expressions.Sound.{SoundOptional, is_name}
 use Rattle.tsa_tree.specs.declarations.Sound.{SoundLocal}
 use Rattle.tsa_tree.specs.statements.Sound.{SoundSimple}
-use Rattle.tsa_forms.specs.Reading.{all}
+use Rattle.tsa_grammar.specs.Reading.{all}
 use Rattle.tsa_print.specs.declared.mark.Mark.TheVariants as marks
 use Rattle.tsa_print.specs.Canonical.{word, mark}
 use Rattle.tsa_print.specs.DeclarationPieces.{declaration_pieces}

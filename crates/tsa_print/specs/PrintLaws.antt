@@ -4,7 +4,7 @@ use Rattle.tsa_base.specs.Tokens.{Lexeme, tokens_of}
 use Rattle.tsa_tree.specs.expressions.Syntax.{Expression, plain}
 use Rattle.tsa_tree.specs.tokens.Signs.{Aliases}
 use Rattle.tsa_tree.specs.expressions.Answers.{Part, an_expression, Spells}
-use Rattle.tsa_forms.specs.Reading.{all}
+use Rattle.tsa_grammar.specs.Reading.{all}
 use Rattle.tsa_print.specs.Canonical.{canonical}
 use Rattle.tsa_print.specs.Writable.{is_writable, has_plain_bases}
 

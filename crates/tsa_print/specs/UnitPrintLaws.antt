@@ -5,7 +5,7 @@ use Rattle.tsa_tree.specs.units.Plain.{plain_item}
 use Rattle.tsa_tree.specs.units.Answers.{Spells}
 use Rattle.tsa_tree.specs.units.Syntax.{UnitItem}
 use Rattle.tsa_tree.specs.units.Sound.{SoundItems}
-use Rattle.tsa_forms.specs.Reading.{all}
+use Rattle.tsa_grammar.specs.Reading.{all}
 use Rattle.tsa_print.specs.UnitBases.{HasPlainBases}
 use Rattle.tsa_print.specs.UnitPieces.{canonical_unit}
 

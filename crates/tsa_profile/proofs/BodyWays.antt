@@ -10,20 +10,20 @@ use Rattle.tsa_tree.specs.statements.Syntax.{Statements}
 use Rattle.tsa_tree.specs.types.DeclaredTypes.{thing_type}
 use Rattle.tsa_tree.specs.types.Scopes.{Scope, further}
 use Rattle.tsa_tree.specs.types.Targets.{declared_in_all}
-use Rattle.tsa_way.specs.Ways.{Way}
+use Rattle.tsa_place_paths.specs.Ways.{Way}
 use Rattle.tsa_core.specs.Bodies.{Known, knows, Point, known_in_body, declared, point_of, body_of}
 use Rattle.tsa_core.specs.Meanings.{Call}
 use Rattle.tsa_core.specs.Programs.{Attr, Function, Program, Declared}
 use Rattle.tsa_core.specs.Uses.{Uses, uses_of}
 use Rattle.tsa_core.proofs.MappedLists.{map_at}
-use Rattle.tsa_lead.proofs.Laid.{front_at}
-use Rattle.tsa_points.specs.CoreLaws.{known_of}
-use Rattle.tsa_points.specs.Points.{PlacedPoint, placed, placed_all}
-use Rattle.tsa_points.proofs.Known.{points_are_of_the_core, uses_are_of_the_core}
-use Rattle.tsa_node.specs.Expressions.{attributes_at}
-use Rattle.tsa_deed.specs.Bodies.{Around}
-use Rattle.tsa_deed.specs.Ways as deed
-use Rattle.tsa_deed.specs.Ways.{init_value, function_called, called_at, substituted_ways, ways_at}
+use Rattle.tsa_place.proofs.Laid.{front_at}
+use Rattle.tsa_core_points.specs.CoreLaws.{known_of}
+use Rattle.tsa_core_points.specs.Points.{PlacedPoint, placed, placed_all}
+use Rattle.tsa_core_points.proofs.Known.{points_are_of_the_core, uses_are_of_the_core}
+use Rattle.tsa_profile_accesses.specs.Expressions.{attributes_at}
+use Rattle.tsa_profile_points.specs.Bodies.{Around}
+use Rattle.tsa_profile_points.specs.Ways as deed
+use Rattle.tsa_profile_points.specs.Ways.{init_value, function_called, called_at, substituted_ways, ways_at}
 use Rattle.tsa_profile.specs.Paths.{called_in, called, point_ways, points_ways}
 use Rattle.tsa_profile.proofs.FunctionScopes.{KnowsFunctions}
 use Rattle.tsa_profile.proofs.KnownCalls.{Reaches, points_reach}

@@ -15,13 +15,13 @@ use Rattle.tsa_tree.specs.types.Expressions.{type_of}
 use Rattle.tsa_tree.specs.types.Runnable.{has_call, have_call, is_free, is_whole, is_call, is_compared, is_comparison, is_condition}
 use Rattle.tsa_tree.specs.types.Scopes.{context_of}
 use Rattle.tsa_core.proofs.KindTests.{and_true, or_left}
-use Rattle.tsa_seen.specs.declared.premise.ProfileCode.TheVariants.{PF1}
-use Rattle.tsa_seen.specs.Premises.{first}
-use Rattle.tsa_seen.specs.declared.standing.Standing.{Standing}
-use Rattle.tsa_seen.specs.declared.standing.Standing.TheVariants.{Whole, Begins, Test, Operand, Inside}
-use Rattle.tsa_seen.specs.Standing.{under_not, beside}
-use Rattle.tsa_node.specs.Expressions.{View, constant, own, parts, arguments, expression}
-use Rattle.tsa_use.proofs.NoneFails.{none_of_both, none_of_first}
+use Rattle.tsa_profile_accesses.specs.declared.premise.ProfileCode.TheVariants.{PF1}
+use Rattle.tsa_profile_accesses.specs.Premises.{first}
+use Rattle.tsa_profile_accesses.specs.declared.standing.Standing.{Standing}
+use Rattle.tsa_profile_accesses.specs.declared.standing.Standing.TheVariants.{Whole, Begins, Test, Operand, Inside}
+use Rattle.tsa_profile_accesses.specs.Standing.{under_not, beside}
+use Rattle.tsa_profile_accesses.specs.Expressions.{View, constant, own, parts, arguments, expression}
+use Rattle.tsa_profile_guards.proofs.NoneFails.{none_of_both, none_of_first}
 
 -- nothing fails at an expression or in its parts
 abbrev pub Keeps : View → Standing → Bool → Expression → Type 0

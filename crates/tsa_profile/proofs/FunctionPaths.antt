@@ -9,14 +9,14 @@ use Rattle.tsa_tree.specs.types.Scopes.{Scope}
 use Rattle.tsa_tree.specs.types.Symbols.{number_of}
 use Rattle.tsa_tree.specs.types.Units.{outset}
 use Rattle.tsa_tree.specs.units.Syntax.{UnitItem}
-use Rattle.tsa_way.specs.LockPaths.{stable_in}
-use Rattle.tsa_way.specs.Ways.{Way}
+use Rattle.tsa_place_paths.specs.LockPaths.{stable_in}
+use Rattle.tsa_place_paths.specs.Ways.{Way}
 use Rattle.tsa_core.specs.Bodies.{known_in_body, body_of}
 use Rattle.tsa_core.specs.Programs.{Bodied, Declared, Function, Program, attrs_of, bodied_function, declared_functions, function_in, function_of, program_of, stable_locals}
 use Rattle.tsa_core.specs.Uses.{uses_of}
-use Rattle.tsa_deed.specs.Ways.{each_once, named_ways, present, unless_many}
+use Rattle.tsa_profile_points.specs.Ways.{each_once, named_ways, present, unless_many}
 use Rattle.tsa_profile.specs.Paths.{paths_if, paths_of, points_ways}
-use Rattle.tsa_ground.specs.Units.{Unit, around, attributes_by, paths_at, points_in, unit_of}
+use Rattle.tsa_profile_context.specs.Units.{Unit, around, attributes_by, paths_at, points_in, unit_of}
 use Rattle.tsa_profile.proofs.AddedNames.{adds_inside}
 use Rattle.tsa_profile.proofs.BodyWays.{attributes_of, body_ways}
 use Rattle.tsa_profile.proofs.FunctionScopes.{KnowsFunctions, knows_data}

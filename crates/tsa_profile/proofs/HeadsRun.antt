@@ -16,13 +16,13 @@ use Rattle.tsa_tree.specs.types.Scopes.{Scope, found}
 use Rattle.tsa_tree.specs.units.Syntax.{UnitItem}
 use Rattle.tsa_core.proofs.BodyScopes.{SameTypes, through, with_param_types, small_kept}
 use Rattle.tsa_core.proofs.KindTests.{neither, not_false, and_true}
-use Rattle.tsa_way.specs.Ways.{Way}
-use Rattle.tsa_seen.specs.declared.premise.ProfileCode.TheVariants.{PF1, PF2, PF4, PF6, PF7, PF9}
-use Rattle.tsa_seen.specs.Premises.{premise, first}
-use Rattle.tsa_seen.specs.declared.standing.Standing.TheVariants.{Inside}
-use Rattle.tsa_node.specs.Expressions.{View, own, parts}
-use Rattle.tsa_ask.specs.Declarations.{way, is_order, is_named_once, is_among, is_call, argument, with_way, ways_behind, attribute_arguments, guard_premises, misfits, attribute_premises, param_premises, is_nothing, head_premises}
-use Rattle.tsa_use.proofs.NoneFails.{none_of_both, none_of_first}
+use Rattle.tsa_place_paths.specs.Ways.{Way}
+use Rattle.tsa_profile_accesses.specs.declared.premise.ProfileCode.TheVariants.{PF1, PF2, PF4, PF6, PF7, PF9}
+use Rattle.tsa_profile_accesses.specs.Premises.{premise, first}
+use Rattle.tsa_profile_accesses.specs.declared.standing.Standing.TheVariants.{Inside}
+use Rattle.tsa_profile_accesses.specs.Expressions.{View, own, parts}
+use Rattle.tsa_profile_declarations.specs.Declarations.{way, is_order, is_named_once, is_among, is_call, argument, with_way, ways_behind, attribute_arguments, guard_premises, misfits, attribute_premises, param_premises, is_nothing, head_premises}
+use Rattle.tsa_profile_guards.proofs.NoneFails.{none_of_both, none_of_first}
 use Rattle.tsa_profile.proofs.CallsStand.{neither_has, keeps_free}
 use Rattle.tsa_base.proofs.Truths.{never}
 

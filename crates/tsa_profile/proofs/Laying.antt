@@ -1,7 +1,7 @@
 -- The places of a unit are those of its core program.
 use Rattle.std.proofs.Common.{◌≡◌, List, Ok, ap, sym}
 use Rattle.tsa_tree.specs.units.Syntax.{UnitItem}
-use Rattle.tsa_layout.specs.Calls.{Layout}
+use Rattle.tsa_place_layout.specs.Calls.{Layout}
 use Rattle.tsa_place.specs.Units.{placed_in}
 use Rattle.tsa_core.specs.Programs.{layout_or_none, program_of}
 

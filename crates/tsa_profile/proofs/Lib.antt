@@ -23,3 +23,10 @@ pub mod UnitsRun
 pub mod Worked
 pub mod Laying
 pub mod EachOnce
+pub mod Attributes
+pub mod Cells
+pub mod Declared
+pub mod EndingScopes
+pub mod Items
+pub mod Parameters
+pub mod ArgumentsWorked

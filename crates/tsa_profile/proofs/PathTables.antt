@@ -19,7 +19,7 @@ use Rattle.tsa_tree.specs.types.Symbols.{number_of}
 use Rattle.tsa_tree.specs.types.Units.{outset, around_body, body_premises, behind_item, item_premises, items_premises}
 use Rattle.tsa_tree.specs.units.Syntax.{UnitItem, structure_item, alias_item, enumeration_item, global_item, function_item, body_item}
 use Rattle.tsa_tree.proofs.types.UnitNodes.{premises_tell_it}
-use Rattle.tsa_way.specs.Ways.{Way}
+use Rattle.tsa_place_paths.specs.Ways.{Way}
 use Rattle.tsa_core.specs.Programs.{Bodied, Declared, Program, unless_known, first_head, declared_by, declared_functions, bodied_by, bodied_function, function_in, function_of, program_of}
 use Rattle.tsa_core.specs.Programs as program
 use Rattle.tsa_core.proofs.NoFailure.{none_of_both}
@@ -27,9 +27,9 @@ use Rattle.tsa_core.proofs.TypedTerms.{some_same}
 use Rattle.tsa_core.proofs.UnitScopes.{declared_told}
 use Rattle.tsa_core.proofs.BodiesAgree.{Means}
 use Rattle.tsa_profile.specs.Paths.{paths_if}
-use Rattle.tsa_ground.specs.Tables.{with_declared, tables_behind, tables_of_all}
+use Rattle.tsa_profile_context.specs.Tables.{with_declared, tables_behind, tables_of_all}
 use Rattle.tsa_profile.specs.Tables.{PathsAreThoseOfTheCore}
-use Rattle.tsa_ground.specs.Units.{Unit, attributes_by, attributes_behind, paths_at, points_in, unit_of}
+use Rattle.tsa_profile_context.specs.Units.{Unit, attributes_by, attributes_behind, paths_at, points_in, unit_of}
 use Rattle.tsa_profile.proofs.AddedNames.{adds_structure, adds_alias, adds_enumeration, adds_global}
 use Rattle.tsa_profile.proofs.FunctionPaths.{functions_are, body_paths}
 use Rattle.tsa_profile.proofs.FunctionScopes.{Bodies, IsMarked, Stands, TellsBody, stands_data, one_meant, head_stands, none_came, body_told}

@@ -25,14 +25,14 @@ use Rattle.tsa_core.proofs.DeedsTold.{init_told}
 use Rattle.tsa_core.proofs.KindTests.{not_false, and_true}
 use Rattle.tsa_core.proofs.NoFailure as typing
 use Rattle.tsa_core.proofs.ValuesServe.{constant_free}
-use Rattle.tsa_points.specs.Points.{PlacedPoint, placed, placed_simple, placed_init, placed_step, placed_test, placed_for, placed_in, placed_all}
-use Rattle.tsa_seen.specs.declared.premise.ProfileCode.TheVariants.{PF4, PF7}
-use Rattle.tsa_seen.specs.Premises.{first}
-use Rattle.tsa_seen.specs.declared.standing.Standing.TheVariants.{Whole, Inside}
-use Rattle.tsa_node.specs.Expressions.{expression}
-use Rattle.tsa_deed.specs.Bodies.{Around, view_at, begins_a_try, standing_of, value_misfits, point_premises, points_premises}
-use Rattle.tsa_deed.specs.Bodies as profile
-use Rattle.tsa_use.proofs.NoneFails.{none_of_both, none_of_two, none_of_first}
+use Rattle.tsa_core_points.specs.Points.{PlacedPoint, placed, placed_simple, placed_init, placed_step, placed_test, placed_for, placed_in, placed_all}
+use Rattle.tsa_profile_accesses.specs.declared.premise.ProfileCode.TheVariants.{PF4, PF7}
+use Rattle.tsa_profile_accesses.specs.Premises.{first}
+use Rattle.tsa_profile_accesses.specs.declared.standing.Standing.TheVariants.{Whole, Inside}
+use Rattle.tsa_profile_accesses.specs.Expressions.{expression}
+use Rattle.tsa_profile_points.specs.Bodies.{Around, view_at, begins_a_try, standing_of, value_misfits, point_premises, points_premises}
+use Rattle.tsa_profile_points.specs.Bodies as profile
+use Rattle.tsa_profile_guards.proofs.NoneFails.{none_of_both, none_of_two, none_of_first}
 use Rattle.tsa_profile.proofs.CallsStand.{inside_free, whole_stands, begun_stands, test_stands}
 
 -- the points of two parts, and the first of some points

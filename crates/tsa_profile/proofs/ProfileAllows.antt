@@ -8,24 +8,24 @@ use Rattle.tsa_tree.specs.types.Globals.{with_global}
 use Rattle.tsa_tree.specs.types.Scopes.{Scope}
 use Rattle.tsa_tree.specs.types.Units.{behind_item}
 use Rattle.tsa_tree.specs.units.Syntax.{UnitItem, structure_item, alias_item, enumeration_item, global_item, function_item, body_item}
-use Rattle.tsa_layout.specs.declared.place.Placed.{Placed}
-use Rattle.tsa_layout.specs.Calls.{Layout, is_structure, is_addressable}
+use Rattle.tsa_place_layout.specs.declared.place.Placed.{Placed}
+use Rattle.tsa_place_layout.specs.Calls.{Layout, is_structure, is_addressable}
 use Rattle.tsa_core.specs.Programs.{Attr}
 use Rattle.tsa_core.proofs.KindTests.{and_true}
-use Rattle.tsa_seen.specs.declared.premise.ProfileCode.{ProfileCode}
-use Rattle.tsa_seen.specs.declared.premise.ProfileCode.TheVariants.{PF3}
-use Rattle.tsa_ask.specs.Declarations as profile
-use Rattle.tsa_ask.specs.Declarations.{guard_premises, given_init, init_premises}
-use Rattle.tsa_node.specs.Expressions.{own, parts}
-use Rattle.tsa_seen.specs.Premises.{Premise, premise, failure_of, first}
-use Rattle.tsa_seen.specs.declared.standing.Standing.TheVariants.{Inside}
-use Rattle.tsa_ground.specs.Units.{Unit, attributes_behind, view_in, item_premises, items_premises}
+use Rattle.tsa_profile_accesses.specs.declared.premise.ProfileCode.{ProfileCode}
+use Rattle.tsa_profile_accesses.specs.declared.premise.ProfileCode.TheVariants.{PF3}
+use Rattle.tsa_profile_declarations.specs.Declarations as profile
+use Rattle.tsa_profile_declarations.specs.Declarations.{guard_premises, given_init, init_premises}
+use Rattle.tsa_profile_accesses.specs.Expressions.{own, parts}
+use Rattle.tsa_profile_accesses.specs.Premises.{Premise, premise, failure_of, first}
+use Rattle.tsa_profile_accesses.specs.declared.standing.Standing.TheVariants.{Inside}
+use Rattle.tsa_profile_context.specs.Units.{Unit, attributes_behind, view_in, item_premises, items_premises}
 use Rattle.tsa_profile.proofs.CellsFit.{Allows}
 use Rattle.tsa_profile.proofs.ConstantPlaces.{guarded}
 use Rattle.tsa_profile.proofs.InitialisersFit.{AllowedInitialiser, AllowedItems, AllowedInit}
 use Rattle.tsa_profile.proofs.StartsTyped.{AllowedItem, AllowedAll}
-use Rattle.tsa_use.proofs.Failures.{first_append}
-use Rattle.tsa_use.proofs.NoneFails.{neither_fails}
+use Rattle.tsa_profile_guards.proofs.Failures.{first_append}
+use Rattle.tsa_profile_guards.proofs.NoneFails.{neither_fails}
 
 -- no premise of two lists fails
 pub none_of_both : (xs ys : List Premise) → first (xs ++ ys) ≡ None → (first xs ≡ None) × (first ys ≡ None)

@@ -13,18 +13,18 @@ use Rattle.tsa_tree.specs.types.Scopes.{Scope}
 use Rattle.tsa_tree.specs.types.Units.{outset, behind_item, refusal_of_types}
 use Rattle.tsa_tree.specs.units.Sound.{SoundItems}
 use Rattle.tsa_tree.specs.units.Syntax.{UnitItem, structure_item, alias_item, enumeration_item, global_item, function_item, body_item}
-use Rattle.tsa_layout.specs.declared.place.Placed.{Placed}
-use Rattle.tsa_layout.specs.Calls.{Layout, is_structure, is_addressable}
-use Rattle.tsa_layout.specs.Stores.{may_point, is_value_of, start}
-use Rattle.tsa_lead.specs.Leading.{HasPlaces}
-use Rattle.tsa_lead.proofs.Laid.{nothing_laid}
-use Rattle.tsa_fill.specs.Units.{no_places}
+use Rattle.tsa_place_layout.specs.declared.place.Placed.{Placed}
+use Rattle.tsa_place_layout.specs.Calls.{Layout, is_structure, is_addressable}
+use Rattle.tsa_place_layout.specs.Stores.{may_point, is_value_of, start}
+use Rattle.tsa_place.specs.Leading.{HasPlaces}
+use Rattle.tsa_place.proofs.Laid.{nothing_laid}
+use Rattle.tsa_place.specs.GlobalPlaces.{no_places}
 use Rattle.tsa_core.proofs.LaidScopes.{Fits, MembersFit}
 use Rattle.tsa_core.specs.Programs.{layout_or_none, program_of}
 use Rattle.tsa_path.proofs.StandDeclared.{no_heads}
 use Rattle.tsa_profile.specs.Starts.{is_object_of, has_kind, StartValuesHaveTheirKinds, StartsAreWellTyped}
-use Rattle.tsa_ground.specs.Units as profile
-use Rattle.tsa_ground.specs.Units.{unit_of, tries_limits, paths_limits}
+use Rattle.tsa_profile_context.specs.Units as profile
+use Rattle.tsa_profile_context.specs.Units.{unit_of, tries_limits, paths_limits}
 use Rattle.tsa_profile.proofs.CellsFit.{Allows}
 use Rattle.tsa_profile.proofs.EachPlace.{every_at}
 use Rattle.tsa_profile.proofs.GoodValues.{may, good, GoodCell}

@@ -1,13 +1,13 @@
 -- The examples, worked out.
 use Rattle.std.proofs.Common.{refl}
 use Rattle.tsa_core.proofs.Worked.{worked}
-use Rattle.tsa_points.specs.Points.{placed_in, placed_all}
-use Rattle.tsa_seen.specs.Premises.{first}
-use Rattle.tsa_node.specs.Expressions.{parts, arguments}
-use Rattle.tsa_ask.specs.Declarations.{ways_behind, attribute_arguments, guard_premises, attribute_premises, param_premises, init_premises, item_premises}
-use Rattle.tsa_deed.specs.Bodies.{points_premises}
-use Rattle.tsa_deed.specs.Ways.{points_ways}
-use Rattle.tsa_ground.specs.Units.{member_premises, items_premises, tries_limits, paths_limits}
+use Rattle.tsa_core_points.specs.Points.{placed_in, placed_all}
+use Rattle.tsa_profile_accesses.specs.Premises.{first}
+use Rattle.tsa_profile_accesses.specs.Expressions.{parts, arguments}
+use Rattle.tsa_profile_declarations.specs.Declarations.{ways_behind, attribute_arguments, guard_premises, attribute_premises, param_premises, init_premises, item_premises}
+use Rattle.tsa_profile_points.specs.Bodies.{points_premises}
+use Rattle.tsa_profile_points.specs.Ways.{points_ways}
+use Rattle.tsa_profile_context.specs.Units.{member_premises, items_premises, tries_limits, paths_limits}
 use Rattle.tsa_profile.specs.Examples.{ProfilesAreAsWritten}
 
 -- to unfold this is to unfold all of it

@@ -2,10 +2,10 @@
 use Rattle.std.specs.Prelude.{◌≡◌, ℕ, ◌+◌, List, ◌++◌, length, Option, Some, None, option_map, codes}
 use Rattle.tsa_lex.specs.Quick.{quick_tokens_of}
 use Rattle.tsa_tree.specs.types.Texts.{unit_in}
-use Rattle.tsa_seen.specs.declared.premise.Failure.{Failure}
-use Rattle.tsa_seen.specs.declared.premise.ProfileCode.{ProfileCode}
-use Rattle.tsa_seen.specs.declared.premise.ProfileCode.TheVariants.{PF1, PF2, PF3, PF4, PF5, PF6, PF7, PF8, PF9}
-use Rattle.tsa_ground.specs.Units.{refusal_of_profile}
+use Rattle.tsa_profile_accesses.specs.declared.premise.Failure.{Failure}
+use Rattle.tsa_profile_accesses.specs.declared.premise.ProfileCode.{ProfileCode}
+use Rattle.tsa_profile_accesses.specs.declared.premise.ProfileCode.TheVariants.{PF1, PF2, PF3, PF4, PF5, PF6, PF7, PF8, PF9}
+use Rattle.tsa_profile_context.specs.Units.{refusal_of_profile}
 
 -- locks, functions that take and try them, and what they guard
 abbrev prelude : List ℕ

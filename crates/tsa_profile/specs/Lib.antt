@@ -4,3 +4,6 @@ pub mod Starts
 pub mod Examples
 pub mod Running
 pub mod Tables
+pub mod Arguments
+pub mod ArgumentExamples
+pub mod ArgumentLaws

@@ -2,13 +2,13 @@
 -- reads and writes, in order of the text, and those that the function which it calls names, as they are here.
 use Rattle.std.specs.Prelude.{List, [], ◌∷◌, ◌++◌, map, Option, Some, None, option_and_then, slice_get}
 use Rattle.std.specs.List.{flat_map}
-use Rattle.tsa_way.specs.Ways.{Way}
+use Rattle.tsa_place_paths.specs.Ways.{Way}
 use Rattle.tsa_core.specs.Bodies.{Body, Point}
 use Rattle.tsa_core.specs.Meanings.{Call}
 use Rattle.tsa_core.specs.Programs.{Function, Program}
 use Rattle.tsa_core.specs.Uses.{Uses}
 use Rattle.tsa_path.specs.Substitution.{substituted}
-use Rattle.tsa_deed.specs.Ways.{present, each_once, unless_many}
+use Rattle.tsa_profile_points.specs.Ways.{present, each_once, unless_many}
 
 -- the locks that a function names, as its caller has them
 abbrev pub called_in : List (Option Way) → Option Function → List (Option Way)

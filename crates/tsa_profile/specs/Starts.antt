@@ -8,11 +8,11 @@ use Rattle.tsa_tree.specs.types.Arithmetic.{is_int}
 use Rattle.tsa_tree.specs.types.Units.{refusal_of_types}
 use Rattle.tsa_tree.specs.units.Sound.{SoundItems}
 use Rattle.tsa_tree.specs.units.Syntax.{UnitItem}
-use Rattle.tsa_layout.specs.declared.place.Placed.{Placed}
-use Rattle.tsa_layout.specs.Calls.{Layout, is_structure}
-use Rattle.tsa_layout.specs.Stores.{is_of, IsWellTyped, start}
-use Rattle.tsa_lead.specs.Leading.{HasPlaces}
-use Rattle.tsa_ground.specs.Units.{refusal_of_profile}
+use Rattle.tsa_place_layout.specs.declared.place.Placed.{Placed}
+use Rattle.tsa_place_layout.specs.Calls.{Layout, is_structure}
+use Rattle.tsa_place_layout.specs.Stores.{is_of, IsWellTyped, start}
+use Rattle.tsa_place.specs.Leading.{HasPlaces}
+use Rattle.tsa_profile_context.specs.Units.{refusal_of_profile}
 
 -- an object of a struct, which is const only where the type says so, guarded or not
 abbrev pub is_object_of : ℕ → Bool → Option Placed → Bool

@@ -1,8 +1,8 @@
 //! Typed units are in the profile, or a node or a function of them is refused.
 ghost use Rattle.std.specs.Prelude.{◌≡◌, [], Ok, map, IfOk};
 ghost use Rattle.tsa_core.specs.Programs.{program_of};
-ghost use Rattle.tsa_ground.specs.Judged.{Judges, forget};
-ghost use Rattle.tsa_ground.specs.Units.{refusal_of_profile, refusal_with};
+ghost use Rattle.tsa_profile_context.specs.ItemJudgements.{Judges, forget};
+ghost use Rattle.tsa_profile_context.specs.Units.{refusal_of_profile, refusal_with};
 ghost use Rattle.tsa_place.specs.Units.{placed_in};
 ghost use Rattle.tsa_profile.specs.Paths.{paths_if};
 ghost use Rattle.tsa_tree.specs.units.Shapes.{item_shapes};
@@ -10,10 +10,10 @@ ghost use Rattle.tsa_tree.specs.units.Shapes.{item_shapes};
 use crate::unit::Fit;
 use std::alloc::Global;
 use tsa_base::NoMemory;
-use tsa_function::Bodies;
-use tsa_ground::{Ground, ProfileRefusal};
+use tsa_core_environment::Bodies;
+use tsa_profile_context::{Ground, ProfileRefusal};
 use tsa_types::Typed;
-use tsa_judge::judge;
+use tsa_profile_items::judge;
 use tsa_path::PathTable;
 use tsa_place::Places;
 

@@ -1,15 +1,15 @@
 //! Units in the profile.
 ghost use Rattle.std.specs.Prelude.{◌≡◌, None, Ok, map, option_map, option_and_then, slice_get, IfOk};
-ghost use Rattle.tsa_argument.specs.Arguments.{argument_of};
+ghost use Rattle.tsa_profile.specs.Arguments.{argument_of};
 ghost use Rattle.tsa_core.specs.Programs.{program_of};
 ghost use Rattle.tsa_place.specs.Units.{placed_in};
 ghost use Rattle.tsa_profile.specs.Paths.{paths_if};
-ghost use Rattle.tsa_ground.specs.Units.{refusal_with};
+ghost use Rattle.tsa_profile_context.specs.Units.{refusal_with};
 ghost use Rattle.tsa_tree.specs.expressions.Shapes.{shape};
 ghost use Rattle.tsa_tree.specs.units.Shapes.{item_shapes};
 
 use std::alloc::Global;
-use tsa_argument::{Parameter, Unit};
+use crate::{Parameter, Unit};
 use tsa_base::{NoMemory, Value};
 use tsa_types::Typed;
 use tsa_path::PathTable;

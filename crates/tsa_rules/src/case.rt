@@ -1,10 +1,10 @@
 //! The case of a path at a point: all that the rules go by there.
 ghost use Rattle.std.specs.Prelude.{◌≡◌};
 ghost use Rattle.tsa_rules.specs.Cases.{answer_told, is_variable, of_the_call};
-ghost use Rattle.tsa_links.specs.Links.{outcome_of};
+ghost use Rattle.tsa_graph_edges.specs.Links.{outcome_of};
 
 use crate::mark::{Claim, Mark};
-use tsa_links::Outcome;
+use tsa_graph_edges::Outcome;
 
 /// What a function says of a lock: whether its holder may take it again, and the first of the function's own attributes that claims it.
 #[derive(Clone, Copy)]

@@ -1,14 +1,14 @@
 //! What a point makes of sets of statuses, and whether some of them break a rule there.
 ghost use Rattle.std.specs.Prelude.{◌≡◌, ◌↔◌, ◌⊎◌, IsTrue};
 ghost use Rattle.tsa_rules.specs.Cases.{effect_in, fails_in, IsSmall};
-ghost use Rattle.tsa_links.specs.Links.{outcome_of};
+ghost use Rattle.tsa_graph_edges.specs.Links.{outcome_of};
 ghost use Rattle.tsa_rules.specs.Sets.{Has, HasPlace, HasSome, IsImage};
 
 use crate::case::Case;
 use crate::rule::Rule;
 use crate::status::Status;
 use crate::statuses::Statuses;
-use tsa_links::Outcome;
+use tsa_graph_edges::Outcome;
 
 impl Case {
     /// Some statuses, and what the point makes of one more.

@@ -8,11 +8,11 @@ use Rattle.tsa_tree.specs.declared.attr.AttrKind.TheVariants as attr
 use Rattle.tsa_tree.specs.declared.kind.Kind.{Kind}
 use Rattle.tsa_tree.specs.declared.kind.Kind.TheVariants as type
 use Rattle.tsa_tree.specs.declared.number.Number.TheVariants as numeral
-use Rattle.tsa_way.specs.Ways.{Way}
-use Rattle.tsa_item.specs.Items as cell
+use Rattle.tsa_place_paths.specs.Ways.{Way}
+use Rattle.tsa_place.specs.Items as cell
 use Rattle.tsa_core.specs.Kinds.{scalar_kind}
 use Rattle.tsa_core.specs.Programs.{Attr, Program}
-use Rattle.tsa_layout.specs.Stores.{is_value_of}
+use Rattle.tsa_place_layout.specs.Stores.{is_value_of}
 use Rattle.tsa_path.specs.Values.{of_truth}
 use Rattle.tsa_rules.specs.declared.status.Status.TheVariants.{Free}
 use Rattle.tsa_rules.specs.Attributes.{all_as_called, as_called, is_try}

@@ -1,7 +1,7 @@
 -- Sums over paths, by the attributes of a call that claim them.
 use Rattle.std.proofs.Common.{◌≡◌, ◌∙◌, ℕ, zero, suc, ◌+◌, ◌≤◌, nat_eq, Bool, true, false, ◌&&◌, List, [], ◌∷◌, length, map, filter, Option, Some, None, option_and_then, if◌then◌else◌, refl, ap, sym, arith}
 use Rattle.std.specs.Prelude.{All, AllPairs, Contains, cond}
-use Rattle.tsa_way.specs.Ways.{Way}
+use Rattle.tsa_place_paths.specs.Ways.{Way}
 use Rattle.tsa_core.specs.Programs.{Attr, Program}
 use Rattle.tsa_path.specs.Sameness.{same_way}
 use Rattle.tsa_path.proofs.Same.{way_equal, way_itself}

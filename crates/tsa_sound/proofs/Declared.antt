@@ -8,15 +8,15 @@ use Rattle.tsa_tree.specs.declared.attr.AttrKind.TheVariants as attr
 use Rattle.tsa_tree.specs.declared.kind.Kind.{Kind}
 use Rattle.tsa_tree.specs.declared.kind.Kind.TheVariants as type
 use Rattle.tsa_tree.specs.types.Operands.{integer_kind}
-use Rattle.tsa_way.specs.Ways.{Way}
+use Rattle.tsa_place_paths.specs.Ways.{Way}
 use Rattle.tsa_core.specs.Bodies.{can_have, declare}
-use Rattle.tsa_layout.specs.Calls.{Layout}
+use Rattle.tsa_place_layout.specs.Calls.{Layout}
 use Rattle.tsa_core.specs.Control.{Next}
 use Rattle.tsa_core.specs.Kinds.{Setting, conversion_kind, if_so, scalar_kind, value_kind}
 use Rattle.tsa_core.specs.Meanings.{Call}
 use Rattle.tsa_core.specs.PointKinds.{ActionHolds}
 use Rattle.tsa_core.specs.Programs.{Attr, Function, Program}
-use Rattle.tsa_layout.specs.Stores.{is_value_of}
+use Rattle.tsa_place_layout.specs.Stores.{is_value_of}
 use Rattle.tsa_core.specs.Terms.{Term, answer, converted}
 use Rattle.tsa_rules.specs.declared.rule.Rule.TheVariants.{TS12}
 use Rattle.tsa_rules.specs.declared.status.Status.{Status}

@@ -10,14 +10,14 @@ use Rattle.tsa_tree.specs.declared.kind.Kind.{Kind}
 use Rattle.tsa_tree.specs.declared.kind.Kind.TheVariants as type
 use Rattle.tsa_tree.specs.declared.number.Number.{Number}
 use Rattle.tsa_tree.specs.declared.number.Number.TheVariants as numeral
-use Rattle.tsa_way.specs.Ways.{Way}
+use Rattle.tsa_place_paths.specs.Ways.{Way}
 use Rattle.tsa_core.specs.Bodies.{give}
-use Rattle.tsa_layout.specs.Calls.{Layout}
+use Rattle.tsa_place_layout.specs.Calls.{Layout}
 use Rattle.tsa_core.specs.Kinds.{Setting, scalar_kind, value_kind}
 use Rattle.tsa_core.specs.Meanings.{of_number}
 use Rattle.tsa_core.specs.PointKinds.{ActionHolds}
 use Rattle.tsa_core.specs.Programs.{Attr, Program}
-use Rattle.tsa_layout.specs.Stores.{is_value_of}
+use Rattle.tsa_place_layout.specs.Stores.{is_value_of}
 use Rattle.tsa_rules.specs.declared.rule.Rule.TheVariants.{TS09}
 use Rattle.tsa_rules.specs.declared.status.Status.{Status}
 use Rattle.tsa_rules.specs.declared.status.Status.TheVariants as status

@@ -3,7 +3,7 @@ use Rattle.std.proofs.Common.{◌≡◌, ◌∙◌, ℕ, zero, suc, ◌<◌, ◌
 use Rattle.std.specs.Prelude.{All, Contains, IsSome, cond}
 use Rattle.tsa_tree.specs.declared.attr.AttrKind.{AttrKind}
 use Rattle.tsa_tree.specs.declared.attr.AttrKind.TheVariants as attr
-use Rattle.tsa_way.specs.Ways.{Way}
+use Rattle.tsa_place_paths.specs.Ways.{Way}
 use Rattle.tsa_core.specs.Meanings.{Call}
 use Rattle.tsa_core.specs.Programs.{Attr, Program}
 use Rattle.tsa_path.proofs.Same.{way_equal, way_itself}

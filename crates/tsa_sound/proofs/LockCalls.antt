@@ -7,16 +7,16 @@ use Rattle.tsa_tree.specs.declared.attr.AttrKind.{AttrKind}
 use Rattle.tsa_tree.specs.declared.attr.AttrKind.TheVariants as attr
 use Rattle.tsa_tree.specs.declared.kind.Kind.{Kind}
 use Rattle.tsa_tree.specs.declared.kind.Kind.TheVariants as type
-use Rattle.tsa_layout.specs.declared.evaluation.Spot.TheVariants.{Place}
-use Rattle.tsa_way.specs.Ways.{Way}
-use Rattle.tsa_layout.specs.Calls.{Layout, place_in, pointee, take_root}
+use Rattle.tsa_place_layout.specs.declared.evaluation.Spot.TheVariants.{Place}
+use Rattle.tsa_place_paths.specs.Ways.{Way}
+use Rattle.tsa_place_layout.specs.Calls.{Layout, place_in, pointee, take_root}
 use Rattle.tsa_core.specs.KindLaws.{signatures}
 use Rattle.tsa_core.specs.Kinds.{Setting, scalar_kind}
 use Rattle.tsa_core.specs.Meanings.{Call}
-use Rattle.tsa_layout.specs.declared.place.Placed.{Placed}
+use Rattle.tsa_place_layout.specs.declared.place.Placed.{Placed}
 use Rattle.tsa_core.specs.PointKinds.{ArgsServe, CallHolds, Serves}
 use Rattle.tsa_core.specs.Programs.{Attr, Function, Program}
-use Rattle.tsa_layout.specs.Stores.{is_value_of, may_point}
+use Rattle.tsa_place_layout.specs.Stores.{is_value_of, may_point}
 use Rattle.tsa_core.specs.Terms.{Term}
 use Rattle.tsa_path.specs.Substitution.{as_pointer, further, given, substituted}
 use Rattle.tsa_path.specs.Values.{of_truth, pointed_place}

@@ -3,10 +3,10 @@ use Rattle.std.proofs.Common.{◌≡◌, ◌∙◌, ℕ, ◌+◌, Bool, true, Li
 use Rattle.std.specs.List.{list_any}
 use Rattle.std.specs.Prelude.{All, Contains, IsSome}
 use Rattle.tsa_base.specs.declared.value.Value.{Value}
-use Rattle.tsa_way.specs.Ways.{Way}
+use Rattle.tsa_place_paths.specs.Ways.{Way}
 use Rattle.tsa_core.specs.Kinds.{scalar_kind}
 use Rattle.tsa_core.specs.Programs.{Attr, Program}
-use Rattle.tsa_layout.specs.Stores.{is_value_of}
+use Rattle.tsa_place_layout.specs.Stores.{is_value_of}
 use Rattle.tsa_rules.specs.declared.status.Status.TheVariants.{Free}
 use Rattle.tsa_rules.specs.Attributes.{all_as_called, as_called, is_try}
 use Rattle.tsa_rules.specs.Effects.{exit_with}

@@ -1,9 +1,9 @@
 -- From a state with the invariant no run tells of a violation, and none leads to a race.
 use Rattle.std.proofs.Common.{◌≡◌, pos, false, List, [], ◌∷◌, Some, refl, sym, subst, arith}
 use Rattle.std.specs.Prelude.{All}
-use Rattle.tsa_layout.specs.Calls.{guards_of}
-use Rattle.tsa_layout.specs.declared.place.Guard.{Guard}
-use Rattle.tsa_layout.specs.declared.place.Guard.TheVariants.{Lock, Nothing}
+use Rattle.tsa_place_layout.specs.Calls.{guards_of}
+use Rattle.tsa_place_layout.specs.declared.place.Guard.{Guard}
+use Rattle.tsa_place_layout.specs.declared.place.Guard.TheVariants.{Lock, Nothing}
 use Rattle.tsa_core.specs.Programs.{Program}
 use Rattle.tsa_locks.specs.Locks.{Exclusive}
 use Rattle.tsa_locks.proofs.Takings.{locks_are_taken_where_they_can_be}

@@ -6,12 +6,12 @@ use Rattle.tsa_base.specs.declared.value.Value.{Value}
 use Rattle.tsa_tree.specs.declared.attr.AttrKind.{AttrKind}
 use Rattle.tsa_tree.specs.declared.attr.AttrKind.TheVariants as attr
 use Rattle.tsa_tree.specs.declared.kind.ThingType.{ThingType}
-use Rattle.tsa_way.specs.Ways.{Way}
-use Rattle.tsa_layout.specs.Calls.{Layout, evaluated}
-use Rattle.tsa_item.specs.Items.{zero_of}
-use Rattle.tsa_layout.specs.declared.place.Placed.{Placed}
+use Rattle.tsa_place_paths.specs.Ways.{Way}
+use Rattle.tsa_place_layout.specs.Calls.{Layout, evaluated}
+use Rattle.tsa_place.specs.Items.{zero_of}
+use Rattle.tsa_place_layout.specs.declared.place.Placed.{Placed}
 use Rattle.tsa_core.specs.Programs.{Attr, Function, Program}
-use Rattle.tsa_layout.specs.Stores.{is_value_of}
+use Rattle.tsa_place_layout.specs.Stores.{is_value_of}
 use Rattle.tsa_core.proofs.MappedLists.{map_length}
 use Rattle.tsa_rules.specs.declared.status.Status.{Status}
 use Rattle.tsa_rules.specs.declared.status.Status.TheVariants.{Free, Lent, Pending}

@@ -1,7 +1,7 @@
 -- Sums of holds over paths.
 use Rattle.std.proofs.Common.{◌≡◌, ◌∙◌, ℕ, suc, nat_eq, Bool, true, false, List, [], ◌∷◌, Option, Some, None, ◌⊎◌, inl, inr, if◌then◌else◌, refl, ap, sym, arith}
 use Rattle.std.specs.Prelude.{Contains}
-use Rattle.tsa_way.specs.Ways.{Way}
+use Rattle.tsa_place_paths.specs.Ways.{Way}
 use Rattle.tsa_core.specs.Programs.{Program}
 use Rattle.tsa_rules.specs.declared.status.Status.{Status}
 use Rattle.tsa_rules.specs.declared.status.Status.TheVariants.{Free}

@@ -4,12 +4,12 @@ use Rattle.tsa_base.specs.declared.limits.TheConstants.{INPUT_LIMIT}
 use Rattle.tsa_tree.specs.units.Syntax.{UnitItem}
 use Rattle.tsa_expr.specs.declared.refusal.SyntaxCode.{SyntaxCode}
 use Rattle.tsa_expr.specs.declared.refusal.SyntaxCode.TheVariants.{SY1, AT1, AT2, LM2, LM3, LM5}
-use Rattle.tsa_seen.specs.declared.premise.ProfileCode.{ProfileCode}
-use Rattle.tsa_seen.specs.declared.premise.ProfileCode.TheVariants.{PF1, PF2, PF3, PF4, PF5, PF6, PF7, PF8, PF9, LM4, LM7}
+use Rattle.tsa_profile_accesses.specs.declared.premise.ProfileCode.{ProfileCode}
+use Rattle.tsa_profile_accesses.specs.declared.premise.ProfileCode.TheVariants.{PF1, PF2, PF3, PF4, PF5, PF6, PF7, PF8, PF9, LM4, LM7}
 use Rattle.tsa_core.specs.Programs.{program_of}
 use Rattle.tsa_rules.specs.Warnings.{HasNoWarnings}
-use Rattle.tsa_report.specs.Warned.{Warned}
-use Rattle.tsa_report.proofs.Quiet.{units_without_lines, units_without_warnings}
+use Rattle.tsa_warn.specs.WarningLines.{Warned}
+use Rattle.tsa_warn.proofs.Quiet.{units_without_lines, units_without_warnings}
 use Rattle.tsa_tool.specs.Checks.{fit_in}
 use Rattle.tsa_tool.specs.Reports.{IsCheckOf, IsReportBy, OfUnit, Report, accepted, profile_status, refused_report, syntax_status, warned_report}
 use Rattle.tsa_tool.specs.Units.{AcceptedUnitsBreakNoRule, IsAccepted, UnitsThatBreakNoRuleAreAccepted}

@@ -6,16 +6,16 @@ use Rattle.tsa_tree.specs.expressions.Syntax.{Identifier}
 use Rattle.tsa_tree.specs.units.Answers.{read_unit}
 use Rattle.tsa_tree.specs.units.Syntax.{UnitItem}
 use Rattle.tsa_tree.specs.units.Limits.{past_functions, past_points}
-use Rattle.tsa_forms.specs.Reading.{Outcome}
+use Rattle.tsa_grammar.specs.Reading.{Outcome}
 use Rattle.tsa_expr.specs.declared.refusal.SyntaxRefusal.{SyntaxRefusal}
 use Rattle.tsa_expr.specs.declared.refusal.SyntaxRefusal.TheVariants.{At, Function, NoMemory}
 use Rattle.tsa_unit.specs.Parsing.{within_points, within_limits, parsed_of, unit_of}
 use Rattle.tsa_tree.specs.declared.premise.Failure.{Failure}
 use Rattle.tsa_tree.specs.types.FirstFailing.{first_failing}
-use Rattle.tsa_layout.specs.Calls.{Layout}
+use Rattle.tsa_place_layout.specs.Calls.{Layout}
 use Rattle.tsa_place.specs.Units.{placed_in}
-use Rattle.tsa_seen.specs.declared.premise.Failure.{Failure as Misfit}
-use Rattle.tsa_ground.specs.Units.{refusal_of_profile}
+use Rattle.tsa_profile_accesses.specs.declared.premise.Failure.{Failure as Misfit}
+use Rattle.tsa_profile_context.specs.Units.{refusal_of_profile}
 use Rattle.tsa_tool.specs.declared.check.Refusal.{Refusal}
 use Rattle.tsa_tool.specs.declared.check.Refusal.TheVariants.{Lex, Types, Places, Profile}
 use Rattle.tsa_tool.specs.Checks.{fit_in, refusal_of, sized_in, tree_in, typed_in}

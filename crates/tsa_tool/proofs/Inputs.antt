@@ -9,7 +9,7 @@ use Rattle.tsa_base.specs.declared.limits.TheConstants.{INPUT_LIMIT}
 use Rattle.tsa_tool.specs.Reports.{IsAnswerTo, IsReport, IsReportBy, Report, input_read, too_long, words_refused}
 use Rattle.tsa_tool.specs.Runs.{Gives, OfInput, ReadsItsInput, WritesFront}
 use Rattle.tsa_tool.specs.declared.answer.Status.{Status}
-use Rattle.tsa_tool.specs.declared.ask.Trouble.{Trouble}
+use Rattle.tsa_tool.specs.declared.exchange.Trouble.{Trouble}
 use Rattle.tsa_tool.specs.declared.command.Command.{Command}
 
 -- what holds of all bytes holds of an input

@@ -1,7 +1,7 @@
 -- What is printed is printed again.
 use Rattle.std.proofs.Common.{ℕ, ◌≡◌, ◌∙◌, ap, sym, subst, refl, List, [], Option, Some, None, Result, Ok, Err, length}
 use Rattle.tsa_base.specs.Tokens.{BadByte, Lexeme, tokens_of}
-use Rattle.tsa_forms.specs.Reading.{Outcome, all}
+use Rattle.tsa_grammar.specs.Reading.{Outcome, all}
 use Rattle.tsa_tree.specs.expressions.Syntax.{Identifier}
 use Rattle.tsa_tree.specs.units.Answers.{Spells, IsAnswer, read_unit}
 use Rattle.tsa_tree.specs.units.Syntax.{UnitItem}

@@ -6,18 +6,18 @@ use Rattle.tsa_tree.specs.units.Syntax.{UnitItem}
 use Rattle.tsa_tree.proofs.units.Read.{unit_sound}
 use Rattle.tsa_expr.specs.declared.refusal.SyntaxCode.{SyntaxCode}
 use Rattle.tsa_expr.specs.declared.refusal.SyntaxCode.TheVariants.{SY1, AT1, AT2, LM2, LM3, LM5}
-use Rattle.tsa_seen.specs.declared.premise.ProfileCode.{ProfileCode}
-use Rattle.tsa_seen.specs.declared.premise.ProfileCode.TheVariants.{PF1, PF2, PF3, PF4, PF5, PF6, PF7, PF8, PF9, LM4, LM7}
-use Rattle.tsa_accepted.specs.terms.Units.{IsInProfile}
-use Rattle.tsa_report.specs.Warned.{Warned}
-use Rattle.tsa_accepted.proofs.Accepted.{units_without_warnings_are_sound}
+use Rattle.tsa_profile_accesses.specs.declared.premise.ProfileCode.{ProfileCode}
+use Rattle.tsa_profile_accesses.specs.declared.premise.ProfileCode.TheVariants.{PF1, PF2, PF3, PF4, PF5, PF6, PF7, PF8, PF9, LM4, LM7}
+use Rattle.tsa_sound_accepted.specs.terms.Units.{IsInProfile}
+use Rattle.tsa_warn.specs.WarningLines.{Warned}
+use Rattle.tsa_sound_accepted.proofs.Accepted.{units_without_warnings_are_sound}
 use Rattle.tsa_tool.specs.Checks.{fit_in}
 use Rattle.tsa_tool.specs.Reports.{IsCheckOf, IsReport, IsReportBy, OfUnit, Report, accepted, profile_status, refused_report, status_number, syntax_status, warned_report}
 use Rattle.tsa_tool.specs.Runs.{Gives, OfInput, ReadsItsInput}
 use Rattle.tsa_tool.specs.Units.{AcceptedUnitsAreSound, IsAccepted, IsFit, SpellsSoundUnit}
 use Rattle.tsa_tool.specs.declared.answer.Status.{Status}
 use Rattle.tsa_tool.specs.declared.answer.Status.TheVariants.{Accepted, Warned as Warns}
-use Rattle.tsa_tool.specs.declared.ask.Trouble.{Trouble}
+use Rattle.tsa_tool.specs.declared.exchange.Trouble.{Trouble}
 use Rattle.tsa_tool.specs.declared.check.Refusal.{Refusal}
 use Rattle.tsa_tool.specs.declared.check.Refusal.TheVariants.{Lex, Syntax, Types, Places, Profile}
 use Rattle.tsa_tool.specs.declared.command.Command.{Command}

@@ -1,12 +1,12 @@
 -- What an answer of types, of places or of the profile says of an input.
 use Rattle.std.proofs.Common.{◌≡◌, List, Option, Some, None, Result, Ok, Err, ap}
-use Rattle.tsa_layout.specs.Calls.{Layout}
+use Rattle.tsa_place_layout.specs.Calls.{Layout}
 use Rattle.tsa_base.specs.declared.token.Span.{Span}
 use Rattle.tsa_tree.specs.units.Syntax.{UnitItem}
 use Rattle.tsa_tree.specs.declared.premise.TypeCode.{TypeCode}
 use Rattle.tsa_tree.specs.declared.premise.Failure.{Failure}
-use Rattle.tsa_seen.specs.declared.premise.ProfileCode.{ProfileCode}
-use Rattle.tsa_seen.specs.declared.premise.Failure.{Failure as Misfit}
+use Rattle.tsa_profile_accesses.specs.declared.premise.ProfileCode.{ProfileCode}
+use Rattle.tsa_profile_accesses.specs.declared.premise.Failure.{Failure as Misfit}
 use Rattle.tsa_tool.specs.declared.check.Refusal.TheVariants.{Types, Places, Profile}
 use Rattle.tsa_tool.specs.Checks.{or_failing, or_too_many, or_misfit}
 

@@ -3,8 +3,8 @@ use Rattle.std.proofs.Common.{◌≡◌, ℕ, List, Option, Result, Ok, Err, ref
 use Rattle.std.specs.Io.KnownBytes.{Appends}
 use Rattle.tsa_base.specs.Transfer.{AppendsFront}
 use Rattle.tsa_tree.specs.units.Syntax.{UnitItem}
-use Rattle.tsa_show.specs.Held.{IsHeld}
-use Rattle.tsa_show.proofs.Fronts.{nothing_yet}
+use Rattle.tsa_tool_held.specs.Held.{IsHeld}
+use Rattle.tsa_tool_held.proofs.Fronts.{nothing_yet}
 use Rattle.tsa_tool.specs.Checks.{fit_in}
 use Rattle.tsa_tool.specs.Reports.{IsHeldOf, OfUnit, Report, refused_report}
 use Rattle.tsa_tool.specs.Runs.{Gives, WritesFront}

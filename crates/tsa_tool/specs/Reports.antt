@@ -7,16 +7,16 @@ use Rattle.std.specs.Fmt.{decimal}
 use Rattle.tsa_print.specs.UnitPieces.{canonical_unit}
 use Rattle.tsa_tree.specs.units.Syntax.{UnitItem}
 use Rattle.tsa_tool.specs.Checks.{fit_in, tree_in}
-use Rattle.tsa_show.specs.Held.{IsHeld}
-use Rattle.tsa_report.specs.Warned.{IsWarned, Warned}
+use Rattle.tsa_tool_held.specs.Held.{IsHeld}
+use Rattle.tsa_warn.specs.WarningLines.{IsWarned, Warned}
 use Rattle.tsa_base.specs.declared.token.LexCode.{LexCode}
 use Rattle.tsa_base.specs.declared.token.LexCode.TheVariants.{LX1, LX2, LX3, LX4, LX5}
 use Rattle.tsa_expr.specs.declared.refusal.SyntaxCode.{SyntaxCode}
 use Rattle.tsa_expr.specs.declared.refusal.SyntaxCode.TheVariants.{SY1, AT1, AT2, LM2, LM3, LM5}
 use Rattle.tsa_tree.specs.declared.premise.TypeCode.{TypeCode}
 use Rattle.tsa_tree.specs.declared.premise.TypeCode.TheVariants.{TY1, TY2, TY3, TY4, TY5, TY6, TY7, TY8, TY9}
-use Rattle.tsa_seen.specs.declared.premise.ProfileCode.{ProfileCode}
-use Rattle.tsa_seen.specs.declared.premise.ProfileCode.TheVariants.{PF1, PF2, PF3, PF4, PF5, PF6, PF7, PF8, PF9, LM4, LM7}
+use Rattle.tsa_profile_accesses.specs.declared.premise.ProfileCode.{ProfileCode}
+use Rattle.tsa_profile_accesses.specs.declared.premise.ProfileCode.TheVariants.{PF1, PF2, PF3, PF4, PF5, PF6, PF7, PF8, PF9, LM4, LM7}
 use Rattle.tsa_base.specs.Places.{place_at, place_text}
 use Rattle.tsa_tool.specs.declared.answer.Status.{Status}
 use Rattle.tsa_tool.specs.declared.answer.Status.TheVariants.{Accepted, Printed, Shown, Warned as Warns, Refused, WordsRefused, LimitPassed}

@@ -4,7 +4,7 @@ ghost use Rattle.tsa_base.specs.declared.limits.TheConstants.{INPUT_LIMIT};
 ghost use Rattle.tsa_tool.specs.Checks.{fit_in, tree_in};
 ghost use Rattle.tsa_tool.specs.Reports.{IsCheckOf, IsPrintOf, OfUnit, status_number, words_refused, too_long, accepted, warned_report, refused_report, lex_text, syntax_text, syntax_status, type_text, profile_text, profile_status, line};
 ghost use Rattle.tsa_tool.specs.Answer.{report_of};
-ghost use Rattle.tsa_report.specs.Lined.{warned_of};
+ghost use Rattle.tsa_warn.specs.OneBody.{warned_of};
 ghost use Rattle.tsa_tree.specs.units.Shapes.{HaveTheirPoints, item_shapes};
 ghost use Rattle.std.specs.Fmt.{decimal};
 ghost use Rattle.tsa_base.specs.Places.{place_at, place_text};
@@ -14,8 +14,8 @@ use bumpalo::Bump;
 use std::alloc::Global;
 use tsa_base::{LexCode, LineStarts, NoMemory};
 use tsa_expr::SyntaxCode;
-use tsa_seen::ProfileCode;
-use tsa_report::{Ready, UnitLines, unit_lines};
+use tsa_profile_accesses::ProfileCode;
+use tsa_warn::{Ready, UnitLines, unit_lines};
 use tsa_tree::premise::TypeCode;
 
 /// How an answer ends the program.

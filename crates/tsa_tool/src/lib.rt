@@ -2,7 +2,7 @@
 #![tactic(auto)]
 
 mod answer;
-mod ask;
+mod exchange;
 mod check;
 mod command;
 mod laws;

@@ -8,7 +8,7 @@ ghost use Rattle.tsa_tool.specs.Runs.{OfInput, IsAnswer, Answers, ReadsItsInput,
 ghost use Rattle.tsa_tool.specs.Units.{SpellsSoundUnit};
 ghost use Rattle.tsa_tool.specs.declared.command.Command.TheVariants.{Check};
 
-use crate::ask::{Trouble, ask};
+use crate::exchange::{Trouble, ask};
 use crate::command::command_from;
 use std::alloc::Global;
 use tsa_base::{Sink, Source};

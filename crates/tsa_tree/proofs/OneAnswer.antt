@@ -2,7 +2,7 @@
 use Rattle.std.proofs.Common.{ℕ, ◌≤◌, ◌≡◌, ap, subst, Bool, Ok, Err, arith}
 use Rattle.tsa_tree.specs.expressions.Answers.{below_limit}
 use Rattle.tsa_tree.specs.Verdicts as verdicts
-use Rattle.tsa_forms.specs.Reading.{Code, syntax, deep, barred, refuse, Outcome, all}
+use Rattle.tsa_grammar.specs.Reading.{Code, syntax, deep, barred, refuse, Outcome, all}
 
 module _ {T : Type 0} (Spelled : (ℕ → Bool) → T → ℕ → Type 0) (Begun : (ℕ → Bool) → ℕ → Type 0) (Refused : (ℕ → Bool) → (i q : ℕ) → Type 0) where
   abbrev Longest : T → ℕ → Type 0

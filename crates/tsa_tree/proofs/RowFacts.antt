@@ -14,7 +14,7 @@ use Rattle.tsa_tree.specs.attributes.Syntax.{try_value}
 use Rattle.tsa_tree.specs.declarations.Syntax.{Initialiser, value, list, Declaration}
 use Rattle.tsa_tree.specs.statements.Syntax.{Ending, by_expression, by_operand, by_step, Statement, ends_short}
 use Rattle.tsa_tree.specs.Rows.{Sort, Node, Call, expression, operation, operand, postfix, series, attributes, group, entries, balanced, consts, storage, specifier, declarator, initialiser, initialisers, declared_rest, declarators, member_line, members, variable, variables, locals, parameter_list, parameters, signature, head, struct_body, constants, enum_body, declared, item, items, simple, for_init, statement, statements, rank, mark, Kind, kind, a_word, a_result, a_plain, a_keyword, a_tag, a_storage_word, a_star, an_assignment, is_assignment, nothing, a_name, an_open, an_open_bracket, an_open_brace, an_equals, a_comma, is_keyword, is_given, sees, is_postfix, is_attribute_sign, is_past, Row}
-use Rattle.tsa_forms.proofs.Good as g
+use Rattle.tsa_grammar.proofs.Good as g
 use Rattle.tsa_tree.proofs.tokens.Facts.{is_plain, plain_no_postfix, plain_no_operator, plain_no_open}
 
 pub begins_no_close : (s : Sign) → begins_operand s ≡ true → nat_eq (mark s) 7 ≡ false

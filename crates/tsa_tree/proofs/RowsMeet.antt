@@ -9,7 +9,7 @@ use Rattle.tsa_tree.specs.declared.sign.Sign.TheVariants as sign
 use Rattle.tsa_tree.specs.expressions.Syntax.{Expression, number, null, named, call, binary, field, index, none}
 use Rattle.tsa_tree.specs.tokens.Signs.{Aliases, sign_at, span_at, span_over, identifier_at, value_at, unsigned_at, operator, prefix, prefix_of, level, entry_meaning}
 use Rattle.tsa_tree.specs.Rows.{Sort, an_expression, some_arguments, Call, expression, operation, operand, postfix, series, attributes, group, entries, balanced, consts, storage, specifier, declarator, initialiser, initialisers, declared_rest, declarators, member_line, members, variable, variables, locals, parameter_list, parameters, signature, head, struct_body, constants, enum_body, declared, item, items, simple, for_init, statement, statements, rank, mark, Kind, a_name, an_open, a_close, a_comma, a_not, a_flip, an_operator, sees, is_postfix, tightest, climb_on, operation_row, post, postfix_row, prefix_row, call_row, operand_row, rule}
-use Rattle.tsa_forms.specs.Form.{done}
+use Rattle.tsa_grammar.specs.Form.{done}
 use Rattle.tsa_tree.proofs.tokens.Facts.{is_plain, operator_mark, operator_no_postfix, operator_no_open, postfix_no_open, close_plain, bracket_plain, comma_plain, plain_no_name, close_no_comma, level_low}
 use Rattle.tsa_tree.proofs.RowFacts.{begins_no_close, lone, Ended, Loose, Ends, Next, Good, never, ended, no_callee, is_lone}
 use Rattle.tsa_tree.proofs.declarations.Meet.{good_consts, good_specifier, good_declarator, good_initialiser, good_initialisers}

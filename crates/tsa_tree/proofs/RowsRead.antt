@@ -10,14 +10,14 @@ use Rattle.tsa_tree.specs.tokens.Signs.{Aliases, sign_at, operator, prefix, pref
 use Rattle.tsa_tree.specs.Rows.{Sort, an_expression, some_arguments, Node, Call, expression, operation, operand, postfix, series, rank, Kind, a_not, a_flip, an_operator, sees, Row, tightest, climb_on, operation_row, postfix_row, prefix_row, operand_row, rule}
 use Rattle.tsa_tree.specs.expressions.Answers.{below_limit}
 use Rattle.tsa_tree.specs.Reads.{read}
-use Rattle.tsa_forms.specs.Form.{done, bar, token, part, limit, only, either}
-use Rattle.tsa_forms.specs.Reading.{Code, syntax, deep, barred, refuse, Outcome, stop, follow, run, all}
-use Rattle.tsa_forms.specs.Spelling.{Spells, Begins, begins_rule, Starts, starts_here, starts_barred, starts_bar, starts_token, starts_in, starts_over, starts_limit, starts_only, starts_left, starts_right}
-use Rattle.tsa_forms.specs.Exact.{Exact, ExactAt}
-use Rattle.tsa_forms.proofs.Reach.{Reached, Far}
-use Rattle.tsa_forms.proofs.Runs as runs
-use Rattle.tsa_forms.proofs.Complete as pieces
-use Rattle.tsa_forms.proofs.Exactly as answers
+use Rattle.tsa_grammar.specs.Form.{done, bar, token, part, limit, only, either}
+use Rattle.tsa_grammar.specs.Reading.{Code, syntax, deep, barred, refuse, Outcome, stop, follow, run, all}
+use Rattle.tsa_grammar.specs.Spelling.{Spells, Begins, begins_rule, Starts, starts_here, starts_barred, starts_bar, starts_token, starts_in, starts_over, starts_limit, starts_only, starts_left, starts_right}
+use Rattle.tsa_grammar.specs.Exact.{Exact, ExactAt}
+use Rattle.tsa_grammar.proofs.Reach.{Reached, Far}
+use Rattle.tsa_grammar.proofs.Runs as runs
+use Rattle.tsa_grammar.proofs.Complete as pieces
+use Rattle.tsa_grammar.proofs.Exactly as answers
 use Rattle.tsa_tree.proofs.RowFacts.{First, Ends, Moves, inside}
 use Rattle.tsa_tree.proofs.statements.BlocksMeet.{moves}
 use Rattle.tsa_tree.proofs.RowsBegin.{firsts}

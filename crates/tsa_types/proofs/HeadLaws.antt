@@ -10,12 +10,12 @@ use Rattle.tsa_tree.specs.types.Heads.{is_another, behind_head, params_premises,
 use Rattle.tsa_tree.specs.types.Premises.{Premise, or_else, first}
 use Rattle.tsa_tree.specs.types.Scopes.{Scope, context_of, found, with_locals}
 use Rattle.tsa_tree.specs.types.Symbols.{names_in_params, names_in_attributes, names_in_head}
-use Rattle.tsa_resolve.specs.declared.refusal.TypeRefusal.{TypeRefusal}
-use Rattle.tsa_resolve.specs.Judged.{Judges}
-use Rattle.tsa_resolve.proofs.Steps.{first_append}
-use Rattle.tsa_resolve.proofs.SymbolLaws.{Notes, noted, noted_append, noted_first}
-use Rattle.tsa_resolve.proofs.Sequences.{judged_some}
-use Rattle.tsa_data.proofs.Judging.{judged_rest}
+use Rattle.tsa_types_expressions.specs.declared.refusal.TypeRefusal.{TypeRefusal}
+use Rattle.tsa_types_expressions.specs.Judged.{Judges}
+use Rattle.tsa_types_expressions.proofs.Steps.{first_append}
+use Rattle.tsa_types_expressions.proofs.SymbolLaws.{Notes, noted, noted_append, noted_first}
+use Rattle.tsa_types_expressions.proofs.Sequences.{judged_some}
+use Rattle.tsa_types_declarations.proofs.Judging.{judged_rest}
 
 module _ (here : Scope) (head : Head) (with_body : Bool) where
   -- the parts of its premises

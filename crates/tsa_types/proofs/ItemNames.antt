@@ -5,9 +5,9 @@ use Rattle.tsa_tree.specs.types.Scopes.{Scope}
 use Rattle.tsa_tree.specs.types.Symbols.{Names, names_in_item}
 use Rattle.tsa_tree.specs.types.Units.{behind_item, names_in_unit_items}
 use Rattle.tsa_tree.specs.units.Shapes.{item_shape, item_shapes}
-use Rattle.tsa_resolve.proofs.SymbolLaws.{Notes, noted}
+use Rattle.tsa_types_expressions.proofs.SymbolLaws.{Notes, noted}
 use Rattle.tsa_base.proofs.Numbers.{plus_one}
-use Rattle.tsa_body.proofs.StatementNames.{nothing, step}
+use Rattle.tsa_types_statements.proofs.StatementNames.{nothing, step}
 
 module _ (notes : Notes) (here : Scope) (items : List Item) (i : ℕ) where
   abbrev items_from : Scope → ℕ → Names

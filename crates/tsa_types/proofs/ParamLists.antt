@@ -8,10 +8,10 @@ use Rattle.tsa_tree.specs.types.Heads.{with_param, params_premises, inside_param
 use Rattle.tsa_tree.specs.types.Premises.{Premise, first}
 use Rattle.tsa_tree.specs.types.Scopes.{Scope, is_named_taken}
 use Rattle.tsa_tree.specs.types.Symbols.{Names, names_in_param, names_in_params}
-use Rattle.tsa_resolve.specs.declared.refusal.TypeRefusal.{TypeRefusal}
-use Rattle.tsa_resolve.specs.Judged.{Judges}
-use Rattle.tsa_resolve.proofs.SymbolLaws.{Notes, noted}
-use Rattle.tsa_data.proofs.Lists.{premises_end, premises_stop, premises_next, behind_end, behind_next, names_end, names_next}
+use Rattle.tsa_types_expressions.specs.declared.refusal.TypeRefusal.{TypeRefusal}
+use Rattle.tsa_types_expressions.specs.Judged.{Judges}
+use Rattle.tsa_types_expressions.proofs.SymbolLaws.{Notes, noted}
+use Rattle.tsa_types_declarations.proofs.Lists.{premises_end, premises_stop, premises_next, behind_end, behind_next, names_end, names_next}
 
 -- what is known, and the number of the next parameter
 abbrev Counting : Type 0

@@ -9,9 +9,9 @@ use Rattle.tsa_tree.specs.declarations.Shapes.{head_shape}
 use Rattle.tsa_tree.specs.statements.Shapes.{stmt_shapes}
 use Rattle.tsa_tree.specs.units.Syntax.{UnitItem}
 use Rattle.tsa_tree.specs.units.Shapes.{shape_with, function_shape, item_shape, item_shapes}
-use Rattle.tsa_resolve.specs.declared.refusal.TypeRefusal.{TypeRefusal}
+use Rattle.tsa_types_expressions.specs.declared.refusal.TypeRefusal.{TypeRefusal}
 use Rattle.tsa_tree.specs.types.Heads.{head_premises, behind_head, inside}
-use Rattle.tsa_resolve.specs.Judged.{Judges}
+use Rattle.tsa_types_expressions.specs.Judged.{Judges}
 use Rattle.tsa_tree.specs.types.Premises.{Premise, or_else, first}
 use Rattle.tsa_tree.specs.declared.premise.Failure.{Failure}
 use Rattle.tsa_tree.specs.types.DeclaredTypes.{thing_type}
@@ -20,9 +20,9 @@ use Rattle.tsa_tree.specs.types.Symbols.{number_of, names_in_head, names_in_stat
 use Rattle.tsa_tree.specs.types.Statements.{statements_premises}
 use Rattle.tsa_tree.specs.declared.kind.ThingType.{ThingType}
 use Rattle.tsa_tree.specs.types.Units.{outermost, body_premises, item_premises, behind_item, items_premises}
-use Rattle.tsa_resolve.proofs.Sequences.{judges_some, judged_some, judged_rest}
-use Rattle.tsa_resolve.proofs.Steps.{first_append}
-use Rattle.tsa_resolve.proofs.SymbolLaws.{Notes, noted, noted_append}
+use Rattle.tsa_types_expressions.proofs.Sequences.{judges_some, judged_some, judged_rest}
+use Rattle.tsa_types_expressions.proofs.Steps.{first_append}
+use Rattle.tsa_types_expressions.proofs.SymbolLaws.{Notes, noted, noted_append}
 use Rattle.tsa_base.proofs.Numbers.{plus_one}
 
 module _ (here : Scope) (items : List Item) (i : ℕ) where

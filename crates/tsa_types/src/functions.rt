@@ -1,6 +1,6 @@
 //! Functions by their declarations (C11 6.7.6.3, 6.9.1): a later one beside the first, and what is known from each on.
 ghost use Rattle.std.specs.Prelude.{◌≡◌, ◌&&◌, not, false, slice_get, IfOk, OnOk, is_some};
-ghost use Rattle.tsa_resolve.specs.Judged.{Judges};
+ghost use Rattle.tsa_types_expressions.specs.Judged.{Judges};
 ghost use Rattle.tsa_tree.specs.declarations.Shapes.{param_shapes, head_shape};
 ghost use Rattle.tsa_tree.specs.types.DeclaredTypes.{resolve as spec_resolve, declared_premises};
 ghost use Rattle.tsa_tree.specs.types.Heads.{params_of, same_kind as spec_same_kind, agrees as spec_agrees, agree, differs as spec_differs, is_another as spec_is_another, behind_head};
@@ -10,9 +10,9 @@ ghost use Rattle.tsa_tree.specs.types.Symbols.{meant_function as spec_meant_func
 ghost use Rattle.tsa_types.specs.Functions.{first_known};
 
 use tsa_base::NoMemory;
-use tsa_data::judge_type;
-use tsa_resolve::{TypeRefusal, View, judged};
-use tsa_scope::{FunctionTypes, Scope, Symbols};
+use tsa_types_declarations::judge_type;
+use tsa_types_expressions::{TypeRefusal, View, judged};
+use tsa_types_scope::{FunctionTypes, Scope, Symbols};
 use tsa_tree::item::{FnTree, Param};
 use tsa_tree::kind::{Declaring, Kind, Resolved, ThingType};
 use tsa_tree::meaning::{Entry, Meaning};

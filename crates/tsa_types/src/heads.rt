@@ -1,6 +1,6 @@
 //! Heads of functions (C11 6.7.6.3, 6.9.1): their parameters are known one after the other, and then in the attributes and the body.
 ghost use Rattle.std.specs.Prelude.{◌≡◌, ◌++◌, length, option_map, is_some, IfOk, OnOk};
-ghost use Rattle.tsa_resolve.specs.Judged.{Judges};
+ghost use Rattle.tsa_types_expressions.specs.Judged.{Judges};
 ghost use Rattle.tsa_tree.specs.declarations.Shapes.{param_shape, param_shapes, head_shape};
 ghost use Rattle.tsa_tree.specs.expressions.Shapes.{name_shape};
 ghost use Rattle.tsa_tree.specs.types.DeclaredTypes.{declared_premises};
@@ -11,9 +11,9 @@ ghost use Rattle.tsa_tree.specs.types.Symbols.{param_name, names_in_param, names
 
 use crate::functions::declare_function;
 use tsa_base::NoMemory;
-use tsa_data::judge_type;
-use tsa_resolve::{TypeRefusal, View, judged};
-use tsa_scope::{Scope, Symbols, next_number};
+use tsa_types_declarations::judge_type;
+use tsa_types_expressions::{TypeRefusal, View, judged};
+use tsa_types_scope::{Scope, Symbols, next_number};
 use tsa_tree::expr::Name;
 use tsa_tree::item::{FnTree, Param};
 use tsa_tree::kind::Declaring;

@@ -1,15 +1,15 @@
 //! Units that are typed (C11 6.5, 6.7, 6.8).
 ghost use Rattle.std.specs.Prelude.{◌≡◌, [], None, IfOk};
 ghost use Rattle.tsa_tree.specs.units.Shapes.{item_shapes};
-ghost use Rattle.tsa_resolve.specs.Judged.{Judges, forget};
+ghost use Rattle.tsa_types_expressions.specs.Judged.{Judges, forget};
 ghost use Rattle.tsa_tree.specs.types.Symbols.{symbol_in};
 ghost use Rattle.tsa_tree.specs.types.FirstFailing.{first_failing};
 ghost use Rattle.tsa_tree.specs.types.Units.{names_in_unit};
 
 use crate::unit::judge;
 use std::alloc::Global;
-use tsa_resolve::TypeRefusal;
-use tsa_scope::Symbols;
+use tsa_types_expressions::TypeRefusal;
+use tsa_types_scope::Symbols;
 use tsa_tree::Parsed;
 use tsa_tree::expr::Name;
 use tsa_tree::item::UnitTree;

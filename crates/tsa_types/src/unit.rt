@@ -1,6 +1,6 @@
 //! Functions with their bodies, and the items of a unit one by one (C11 6.9).
 ghost use Rattle.std.specs.Prelude.{◌≡◌, ◌++◌, [], OnOk, IfOk, length, is_some};
-ghost use Rattle.tsa_resolve.specs.Judged.{Judges, forget};
+ghost use Rattle.tsa_types_expressions.specs.Judged.{Judges, forget};
 ghost use Rattle.tsa_tree.specs.declarations.Shapes.{head_shape};
 ghost use Rattle.tsa_tree.specs.statements.Shapes.{stmt_shapes};
 ghost use Rattle.tsa_tree.specs.types.DeclaredTypes.{thing_type};
@@ -15,11 +15,11 @@ use crate::functions::function_number;
 use crate::heads::declare_head;
 use std::alloc::Global;
 use tsa_base::NoMemory;
-use tsa_body::Walk;
-use tsa_data::{declare_alias, declare_enum, declare_global, declare_struct};
-use tsa_jump::{Around, collect_all_labels};
-use tsa_resolve::{TypeRefusal, View};
-use tsa_scope::{Cases, Names, Scope, Symbols, outset};
+use tsa_types_statements::Walk;
+use tsa_types_declarations::{declare_alias, declare_enum, declare_global, declare_struct};
+use tsa_types_simple::{Around, collect_all_labels};
+use tsa_types_expressions::{TypeRefusal, View};
+use tsa_types_scope::{Cases, Names, Scope, Symbols, outset};
 use tsa_tree::item::{FnTree, Item};
 use tsa_tree::kind::ThingType;
 use tsa_tree::stmt::Stmt;

@@ -3,8 +3,8 @@ use Rattle.std.proofs.Common.{ℕ, ◌+◌, ◌-◌, ◌≡◌, ◌≢◌, ◌�
 use Rattle.std.specs.Borrow.{Bor}
 use Rattle.tsa_base.specs.declared.token.Span.{Span}
 use Rattle.tsa_base.specs.Tokens.{Lexeme}
-use Rattle.tsa_forms.proofs.Cases.{goes, chosen, other}
-use Rattle.tsa_forms.specs.Reading.{Outcome, then}
+use Rattle.tsa_grammar.proofs.Cases.{goes, chosen, other}
+use Rattle.tsa_grammar.specs.Reading.{Outcome, then}
 use Rattle.tsa_tree.specs.declared.item.FnTree.{FnTree}
 use Rattle.tsa_tree.specs.declared.item.Item.{Item}
 use Rattle.tsa_tree.specs.declared.item.Item.TheVariants as item
@@ -25,13 +25,13 @@ use Rattle.tsa_tree.specs.units.Shapes.{shape_with, function_shape, item_shape, 
 use Rattle.tsa_expr.specs.declared.refusal.SyntaxRefusal.{SyntaxRefusal}
 use Rattle.tsa_expr.specs.Gives.{Fails, Gives}
 use Rattle.tsa_expr.proofs.Answering.{fails_then, fails_same, gives_same}
-use Rattle.tsa_local.specs.Outcomes.{after, opening_brace}
+use Rattle.tsa_decl_declarators.specs.Outcomes.{after, opening_brace}
 use Rattle.tsa_decl.specs.Outcomes.{going_items, finished}
-use Rattle.tsa_local.proofs.ListLaws.{map-push}
-use Rattle.tsa_local.proofs.TokenLaws.{not_semicolon}
+use Rattle.tsa_decl_declarators.proofs.ListLaws.{map-push}
+use Rattle.tsa_decl_declarators.proofs.TokenLaws.{not_semicolon}
 use Rattle.tsa_decl.proofs.BegunLaws.{more_pointed}
-use Rattle.tsa_leaf.specs.Pointed.{ArePointed}
-use Rattle.tsa_leaf.proofs.RowLaws.{opens_law}
+use Rattle.tsa_unit_simple.specs.Pointed.{ArePointed}
+use Rattle.tsa_unit_simple.proofs.RowLaws.{opens_law}
 
 -- the last point is the end
 end_push : (ps : List Point) (p : Point) → end_of (ps ++ p ∷ []) ≡ p.span

@@ -4,9 +4,9 @@ use Rattle.std.proofs.lemmas.List.{length-map}
 use Rattle.tsa_base.specs.declared.token.Span.{Span}
 use Rattle.tsa_base.specs.declared.token.Token.{Token}
 use Rattle.tsa_base.specs.Tokens.{Lexeme, lexeme}
-use Rattle.tsa_forms.proofs.Cases.{on_choose}
-use Rattle.tsa_forms.specs.Exact as exact
-use Rattle.tsa_forms.specs.Reading.{Outcome, all}
+use Rattle.tsa_grammar.proofs.Cases.{on_choose}
+use Rattle.tsa_grammar.specs.Exact as exact
+use Rattle.tsa_grammar.specs.Reading.{Outcome, all}
 use Rattle.tsa_tree.specs.expressions.Answers.{below_limit}
 use Rattle.tsa_tree.specs.attributes.Refusals as reason
 use Rattle.tsa_tree.specs.declared.item.Item.{Item}

@@ -7,7 +7,7 @@ use Rattle.tsa_base.specs.Tokens.{Lexeme}
 use Rattle.tsa_base.specs.Words.{is_reserved}
 use Rattle.tsa_base.specs.declared.token.TokenKind.{TokenKind}
 use Rattle.tsa_base.specs.declared.token.TokenKind.TheVariants.{Word, Number, Text, Punct}
-use Rattle.tsa_forms.specs.Exact as forms
+use Rattle.tsa_grammar.specs.Exact as forms
 use Rattle.tsa_tree.specs.declared.sign.Sign.{Sign}
 use Rattle.tsa_tree.specs.declared.sign.Sign.TheVariants as sign
 use Rattle.tsa_tree.specs.expressions.Answers.{below_limit}

@@ -4,8 +4,8 @@ use Rattle.std.proofs.lemmas.Bool.{le-leb, lt-leb}
 use Rattle.std.proofs.lemmas.List.{length-map, length-append}
 use Rattle.tsa_base.specs.Tokens.{Lexeme, lexeme}
 use Rattle.tsa_base.specs.declared.token.Token.{Token}
-use Rattle.tsa_forms.proofs.Cases.{chosen, other, goes}
-use Rattle.tsa_forms.specs.Reading.{Outcome, Refusal, stop, then, choose}
+use Rattle.tsa_grammar.proofs.Cases.{chosen, other, goes}
+use Rattle.tsa_grammar.specs.Reading.{Outcome, Refusal, stop, then, choose}
 use Rattle.tsa_tree.specs.declared.item.Item.{Item}
 use Rattle.tsa_tree.specs.Reads.{read}
 use Rattle.tsa_tree.specs.Rows.{some_items, item, items, is_past}
@@ -20,8 +20,8 @@ use Rattle.tsa_expr.specs.declared.refusal.SyntaxRefusal.TheVariants as refusal
 use Rattle.tsa_expr.specs.Gives.{Fails}
 use Rattle.tsa_expr.proofs.Answering.{fails_then, fails_same}
 use Rattle.tsa_attr.proofs.Joining.{then-same}
-use Rattle.tsa_local.specs.Outcomes.{after}
-use Rattle.tsa_local.proofs.ListLaws.{after-nothing, after-none, after-after, after-over}
+use Rattle.tsa_decl_declarators.specs.Outcomes.{after}
+use Rattle.tsa_decl_declarators.proofs.ListLaws.{after-nothing, after-none, after-after, after-over}
 use Rattle.tsa_unit.specs.Items.{items_at, on_from}
 use Rattle.tsa_unit.specs.Names.{with_names}
 use Rattle.tsa_unit.proofs.TypeNames.{names_of_read}

@@ -7,8 +7,8 @@ use Rattle.tsa_tree.specs.Rows.{some_items, items, is_past}
 use Rattle.tsa_tree.specs.tokens.Signs.{Aliases}
 use Rattle.tsa_tree.specs.units.Syntax.{UnitItem}
 use Rattle.tsa_tree.specs.units.Shapes.{item_shapes}
-use Rattle.tsa_local.specs.Outcomes.{after}
-use Rattle.tsa_forms.specs.Reading.{Outcome, choose}
+use Rattle.tsa_decl_declarators.specs.Outcomes.{after}
+use Rattle.tsa_grammar.specs.Reading.{Outcome, choose}
 
 -- the items from a place on up to the last token, any number, where these names of types are known
 unfoldable pub items_at : List Lexeme → Aliases → (at : ℕ) → Outcome (List UnitItem)

@@ -17,7 +17,7 @@ use Rattle.tsa_expr.specs.declared.refusal.SyntaxCode.TheVariants.{SY1, AT1, AT2
 use Rattle.tsa_expr.specs.declared.refusal.SyntaxRefusal.{SyntaxRefusal}
 use Rattle.tsa_expr.specs.declared.refusal.SyntaxRefusal.TheVariants.{At, Function, NoMemory}
 use Rattle.tsa_expr.specs.Gives.{Fails}
-use Rattle.tsa_forms.specs.Reading.{Code, syntax, deep, barred, Outcome}
+use Rattle.tsa_grammar.specs.Reading.{Code, syntax, deep, barred, Outcome}
 
 -- the code of a refused token
 abbrev pub code_of : Code → SyntaxCode

@@ -4,7 +4,7 @@ ghost use Rattle.std.proofs.Props.{props};
 ghost use Rattle.tsa_base.specs.declared.limits.TheConstants.{INPUT_LIMIT};
 ghost use Rattle.tsa_tree.specs.tokens.Signs.{lexemes};
 ghost use Rattle.tsa_tree.specs.tokens.Texts.{AreOfText};
-ghost use Rattle.tsa_header.specs.Near.{AreNear};
+ghost use Rattle.tsa_unit_heads.specs.Near.{AreNear};
 
 use tsa_base::Token;
 

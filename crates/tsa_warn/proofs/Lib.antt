@@ -1,3 +1,10 @@
-pub mod Comparing
-pub mod Sorting
-pub mod Telling
+pub mod SortedOnce
+pub mod Unique
+pub mod Having
+pub mod Beside
+pub mod Told
+pub mod Quiet
+pub mod Lines
+pub mod OneLine
+pub mod Progress
+pub mod Named

@@ -1,2 +1,5 @@
-pub mod Orders
-pub mod Comparisons
+pub mod Lines
+pub mod Laws
+pub mod WarningLines
+pub mod OneBody
+pub mod CoverageLaws

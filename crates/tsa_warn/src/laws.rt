@@ -1,9 +1,19 @@
-//! Laws of the order in which rules that fail are told.
-ghost use Rattle.tsa_warn.specs.Orders.{NotBothAreFirst, OneIsFirst, PrecedingIsTransitive};
+//! Laws of the lines of a unit.
+ghost use Rattle.tsa_warn.specs.Laws.{RulesThatFailAreTold, UnitsWithoutLinesHaveNoWarnings, UnitsWithoutWarningsHaveNoLines};
 
-/// Of two different rules that fail exactly one is told before the other, and one that is told before another is told before all that follow it.
-pub fn failures_are_told_in_one_order()
-    ensures one { OneIsFirst }
-    ensures not_both { NotBothAreFirst }
-    ensures transitive { PrecedingIsTransitive }
+/// In a typed unit every rule that fails on some walk, at any point of any function and for any path, is told in the body of its function.
+#[tactic(auto, using(crate::proofs::Told::rules_that_fail_are_told))]
+pub fn rules_that_fail_are_told()
+    ensures { RulesThatFailAreTold }
+{}
+
+/// Where no line is told of a typed unit, no rule fails in its program.
+pub fn units_without_lines_have_no_warnings()
+    ensures { UnitsWithoutLinesHaveNoWarnings }
+{}
+
+/// Where no rule fails in the program of a unit, no line is told of it.
+#[tactic(auto, using(crate::proofs::Quiet::units_without_warnings))]
+pub fn units_without_warnings_have_no_lines()
+    ensures { UnitsWithoutWarningsHaveNoLines }
 {}

@@ -1,8 +1,17 @@
-//! The rules that fail in a function, in the order in which they are told.
+//! What is reported of a unit in the profile: the lines of its warnings.
 #![tactic(auto)]
 
+mod body;
+mod coverage;
 mod laws;
-mod order;
+mod unit;
+mod warning_lines;
 
-pub use laws::failures_are_told_in_one_order;
-pub use order::warnings_of;
+pub use body::push_place;
+pub use coverage::rules_fail_for_paths_of_functions;
+pub use laws::{
+    rules_that_fail_are_told, units_without_lines_have_no_warnings,
+    units_without_warnings_have_no_lines,
+};
+pub use unit::Ready;
+pub use warning_lines::{UnitLines, unit_lines};

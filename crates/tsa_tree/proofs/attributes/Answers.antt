@@ -17,9 +17,9 @@ use Rattle.tsa_tree.specs.tokens.Signs.{Aliases, sign_at}
 use Rattle.tsa_tree.proofs.attributes.Same.{attributes_spell, attributes_begin, attributes_refuse}
 use Rattle.tsa_tree.proofs.expressions.RowsToProductions.{production_of}
 use Rattle.tsa_tree.proofs.RowsRead.{reading, reading_exact, completed, broken_free}
-use Rattle.tsa_forms.proofs.Cases.{on_choose}
-use Rattle.tsa_forms.specs.Exact as forms
-use Rattle.tsa_forms.specs.Reading.{Code, syntax, deep, barred, Refusal, refuse, Outcome, all}
+use Rattle.tsa_grammar.proofs.Cases.{on_choose}
+use Rattle.tsa_grammar.specs.Exact as forms
+use Rattle.tsa_grammar.specs.Reading.{Code, syntax, deep, barred, Refusal, refuse, Outcome, all}
 
 module _ (tokens : List Lexeme) (aliases : Aliases) (fits : ℕ → Bool) where
   group_starts : {d : ℕ} {xs : List Attribute} {a b : ℕ} → IsGroup tokens aliases fits d xs a b → is_attribute_sign (sign_at tokens aliases a) ≡ true

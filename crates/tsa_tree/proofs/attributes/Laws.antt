@@ -19,7 +19,7 @@ use Rattle.tsa_tree.proofs.RowsRead.{one_reading, piece_begins, one_bar}
 use Rattle.tsa_tree.proofs.RowsFree.{free_spelled, free_begun, begun_to_bar}
 use Rattle.tsa_tree.proofs.OneAnswer as verdicts
 use Rattle.tsa_tree.proofs.expressions.RowsToProductions.{production_of}
-use Rattle.tsa_forms.specs.Reading.{all}
+use Rattle.tsa_grammar.specs.Reading.{all}
 
 pub spell_the_same : SpellTheSame
 spell_the_same tokens aliases fits d xs a b = ((λ lt i. attributes_rows tokens aliases fits i lt), (λ sp. production_of tokens fits sp tt))

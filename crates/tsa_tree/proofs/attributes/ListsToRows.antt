@@ -15,9 +15,9 @@ use Rattle.tsa_tree.proofs.tokens.ProductionSigns.{seen}
 use Rattle.tsa_tree.proofs.Inductions.{begins_whole}
 use Rattle.tsa_tree.proofs.attributes.ToRows.{and_both, lacks_true, attribute_goes, attribute_starts, attribute_begins}
 use Rattle.tsa_tree.proofs.attributes.SkipsToRows.{balanced_rows, balanced_begins}
-use Rattle.tsa_forms.specs.Form.{done, token, part, either}
-use Rattle.tsa_forms.specs.Spelling as forms
-use Rattle.tsa_forms.specs.Spelling.{by_rule, goes_done, goes_token, goes_part, goes_limit, goes_left, goes_right, begins_rule, starts_here, starts_barred, starts_token, starts_in, starts_over, starts_limit, starts_left, starts_right}
+use Rattle.tsa_grammar.specs.Form.{done, token, part, either}
+use Rattle.tsa_grammar.specs.Spelling as forms
+use Rattle.tsa_grammar.specs.Spelling.{by_rule, goes_done, goes_token, goes_part, goes_limit, goes_left, goes_right, begins_rule, starts_here, starts_barred, starts_token, starts_in, starts_over, starts_limit, starts_left, starts_right}
 
 module _ (tokens : List Lexeme) (aliases : Aliases) (fits : ℕ → Bool) where
   abbrev Goes : Row some_attributes → List Attribute → (a b : ℕ) → Type 0

@@ -12,7 +12,7 @@ use Rattle.tsa_tree.proofs.tokens.NamesAndNumbers.{AreTokensOfKinds}
 use Rattle.tsa_tree.proofs.tokens.SignsRead.{text_at}
 use Rattle.tsa_tree.proofs.expressions.ReadSound.{expression_sound, series_sound}
 use Rattle.tsa_tree.proofs.attributes.Negatives.{of_negative, other_taking, excluded_sound}
-use Rattle.tsa_forms.specs.Reading.{all}
+use Rattle.tsa_grammar.specs.Reading.{all}
 
 pub attributes_append : (aliases : Aliases) (xs ys : List Attribute) → SoundAttributes aliases xs → SoundAttributes aliases ys → SoundAttributes aliases (xs ++ ys)
 attributes_append aliases [] ys h k = k

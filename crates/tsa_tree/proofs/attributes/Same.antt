@@ -11,7 +11,7 @@ use Rattle.tsa_tree.proofs.attributes.Meanings.{Needs}
 use Rattle.tsa_tree.proofs.expressions.RowsToProductions.{production_of}
 use Rattle.tsa_tree.proofs.expressions.RowsToBeginnings.{beginning_of, refusal_of}
 use Rattle.tsa_tree.proofs.attributes.ListsToRows.{attributes_rows, attributes_begins, attributes_refused}
-use Rattle.tsa_forms.specs.Spelling as forms
+use Rattle.tsa_grammar.specs.Spelling as forms
 
 -- Where tokens are there, they are whole attributes by the rows where they are so by the productions.
 pub attributes_spell : (tokens : List Lexeme) (aliases : Aliases) (fits : ℕ → Bool) (d : ℕ) (xs : List Attribute) (a b : ℕ) → a < b

@@ -9,7 +9,7 @@ use Rattle.tsa_tree.specs.attributes.Beginnings.{BeginsBalanced, begins_balanced
 use Rattle.tsa_tree.specs.Rows.{a_skip, balanced, Closer, balanced_row, rule}
 use Rattle.tsa_tree.proofs.attributes.Meanings.{Begun, Opens}
 use Rattle.tsa_tree.proofs.attributes.Kept.{and_balanced, closed_parentheses, closed_brackets, closed_braces}
-use Rattle.tsa_forms.specs.Form.{done, part}
+use Rattle.tsa_grammar.specs.Form.{done, part}
 
 -- What begins balanced tokens begins more of them.
 pub then_balanced : {tokens : List Lexeme} {aliases : Aliases} {fits : ℕ → Bool} {d a m b : ℕ}

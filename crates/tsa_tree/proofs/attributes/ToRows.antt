@@ -15,8 +15,8 @@ use Rattle.tsa_tree.specs.Rows.{some_attributes, Kind, kind, a_result, is_given,
 use Rattle.tsa_tree.proofs.tokens.ProductionSigns.{seen}
 use Rattle.tsa_tree.proofs.expressions.ToRows.{expression_rows, series_rows}
 use Rattle.tsa_tree.proofs.expressions.BeginningsToRows.{expression_begins, series_begins}
-use Rattle.tsa_forms.specs.Spelling as forms
-use Rattle.tsa_forms.specs.Spelling.{goes_token, goes_part, goes_bar, goes_limit, goes_left, starts_here, starts_bar, starts_token, starts_in, starts_over, starts_limit, starts_left}
+use Rattle.tsa_grammar.specs.Spelling as forms
+use Rattle.tsa_grammar.specs.Spelling.{goes_token, goes_part, goes_bar, goes_limit, goes_left, starts_here, starts_bar, starts_token, starts_in, starts_over, starts_limit, starts_left}
 
 -- one of two tests holds where either does
 pub or_left : (p q : Bool) → p ≡ true → (p || q) ≡ true

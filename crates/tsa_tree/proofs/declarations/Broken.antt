@@ -22,10 +22,10 @@ use Rattle.tsa_tree.proofs.tokens.ProductionSigns.{seen}
 use Rattle.tsa_tree.proofs.expressions.ToRows.{expression_rows}
 use Rattle.tsa_tree.proofs.RowFacts.{Ends, EndsVariable, EndsVariables, EndsLocals, Bare}
 use Rattle.tsa_tree.proofs.expressions.Same.{begin_the_same}
-use Rattle.tsa_forms.specs.Form.{done, token, part, either}
-use Rattle.tsa_forms.specs.Spelling as forms
-use Rattle.tsa_forms.specs.Spelling.{by_rule, goes_done, goes_token, begins_rule, starts_here, starts_token, starts_in, starts_over, starts_limit, starts_left, starts_right}
-use Rattle.tsa_forms.specs.Reading.{all}
+use Rattle.tsa_grammar.specs.Form.{done, token, part, either}
+use Rattle.tsa_grammar.specs.Spelling as forms
+use Rattle.tsa_grammar.specs.Spelling.{by_rule, goes_done, goes_token, begins_rule, starts_here, starts_token, starts_in, starts_over, starts_limit, starts_left, starts_right}
+use Rattle.tsa_grammar.specs.Reading.{all}
 
 module _ (tokens : List Lexeme) (aliases : Aliases) where
   abbrev pub Begins : (s : Sort) → Call s → (a b : ℕ) → Option ℕ → Type 0

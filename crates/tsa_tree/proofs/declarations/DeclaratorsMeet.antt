@@ -11,8 +11,8 @@ use Rattle.tsa_tree.proofs.tokens.Facts.{is_plain, comma_plain}
 use Rattle.tsa_tree.proofs.RowFacts.{begins_rest, First, Ends, Moves, Next, Start, Good, EndsValue, EndsLocal, EndsVariable, EndsVariables, Bare}
 use Rattle.tsa_tree.proofs.declarations.Facts.{semicolon_plain, plain_no_bracket, equals_no_bracket, attribute_no_bracket, plain_no_attribute, equals_no_attribute, plain_no_equals, semicolon_no_comma, type_no_brace, bracket_rest, attribute_rest, equals_rest, comma_rest, semicolon_rest, not_true, not_false}
 use Rattle.tsa_tree.proofs.declarations.Meet.{settled_declarator, good_behind_length, good_behind_attributes, value_over}
-use Rattle.tsa_forms.specs.Form.{done, token, part, either}
-use Rattle.tsa_forms.proofs.Good as g
+use Rattle.tsa_grammar.specs.Form.{done, token, part, either}
+use Rattle.tsa_grammar.proofs.Good as g
 
 module _ (tokens : List Lexeme) where
   -- A comma or a `;` stands there.

@@ -18,7 +18,7 @@ use Rattle.tsa_tree.proofs.tokens.SignsRead.{tag_at}
 use Rattle.tsa_tree.proofs.expressions.ReadSound.{expression_sound}
 use Rattle.tsa_tree.proofs.attributes.Read.{attributes_sound}
 use Rattle.tsa_tree.proofs.declarations.Read.{specifier_sound, star_sound, declarator_sound}
-use Rattle.tsa_forms.specs.Reading.{all}
+use Rattle.tsa_grammar.specs.Reading.{all}
 
 -- Only a bare `void` is one.
 

@@ -13,9 +13,9 @@ use Rattle.tsa_tree.proofs.attributes.Facts.{both}
 use Rattle.tsa_tree.proofs.declarations.ToRows.{specifier_rows, star_goes, declarator_rows, attributes_goes, members_rows}
 use Rattle.tsa_tree.proofs.tokens.ProductionSigns.{seen}
 use Rattle.tsa_tree.proofs.expressions.ToRows.{expression_rows}
-use Rattle.tsa_forms.specs.Form.{done, token, part, either}
-use Rattle.tsa_forms.specs.Spelling as forms
-use Rattle.tsa_forms.specs.Spelling.{by_rule, goes_done, goes_token, goes_part, goes_limit, goes_only, goes_left, goes_right}
+use Rattle.tsa_grammar.specs.Form.{done, token, part, either}
+use Rattle.tsa_grammar.specs.Spelling as forms
+use Rattle.tsa_grammar.specs.Spelling.{by_rule, goes_done, goes_token, goes_part, goes_limit, goes_only, goes_left, goes_right}
 
 void_keyword : (s : Sign) → is_void s ≡ true → is_keyword key.Void s ≡ true
 void_keyword (sign.Keyword key.Void) e = refl

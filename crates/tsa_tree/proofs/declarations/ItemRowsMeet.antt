@@ -13,7 +13,7 @@ use Rattle.tsa_tree.proofs.RowFacts.{begins_declarator, Ends, Next, Good, Settle
 use Rattle.tsa_tree.proofs.declarations.Facts.{declarator_no_keyword, plain_no_attribute, name_no_attribute, semicolon_plain, declarator_no_brace, keyword_no_brace, declarator_no_semicolon, keyword_no_semicolon, tag_no_brace, tag_no_attribute, brace_no_attribute, semicolon_no_open_brace}
 use Rattle.tsa_tree.proofs.declarations.Meet.{settled_declarator, good_behind_consts}
 use Rattle.tsa_tree.proofs.declarations.ItemsMeet.{good_behind_storage}
-use Rattle.tsa_forms.specs.Form.{done, part}
+use Rattle.tsa_grammar.specs.Form.{done, part}
 
 module _ (tokens : List Lexeme) (aliases : Aliases) (bodies : Bool) (m : ℕ) where
   abbrev GoodItem : (fresh : Bool) → Row some_items → ℕ → Type 0

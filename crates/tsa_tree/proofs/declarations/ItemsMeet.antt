@@ -11,8 +11,8 @@ use Rattle.tsa_tree.proofs.tokens.Facts.{is_plain, comma_plain, close_plain, clo
 use Rattle.tsa_tree.proofs.RowFacts.{begins_type, First, Ends, Moves, Next, Start, Good, Settled, Bare, never, ended}
 use Rattle.tsa_tree.proofs.declarations.Facts.{plain_no_keyword, name_no_keyword, plain_no_star, name_no_star, plain_no_attribute, plain_no_equals, semicolon_plain, star_begins, brace_plain, brace_no_comma, type_no_close, void_no_close, type_no_storage, name_no_brace, rest_no_open, brace_no_attribute, open_brace_no_semicolon, not_true, not_false}
 use Rattle.tsa_tree.proofs.declarations.Meet.{settled_declarator, good_behind_star, good_behind_attributes}
-use Rattle.tsa_forms.specs.Form.{done, token, part, either}
-use Rattle.tsa_forms.proofs.Good as g
+use Rattle.tsa_grammar.specs.Form.{done, token, part, either}
+use Rattle.tsa_grammar.proofs.Good as g
 
 module _ (tokens : List Lexeme) where
   pub good_storage : (aliases : Aliases) (m : ℕ) → Good tokens a_skip (storage aliases) true (rule tokens a_skip (storage aliases) m) m

@@ -24,9 +24,9 @@ use Rattle.tsa_tree.proofs.tokens.ProductionSigns.{seen}
 use Rattle.tsa_tree.specs.statements.Syntax.{Statements}
 use Rattle.tsa_tree.specs.statements.Spelling.{IsStatements}
 use Rattle.tsa_tree.proofs.statements.BlocksToRows.{statements_rows}
-use Rattle.tsa_forms.specs.Form.{done, token, part, either}
-use Rattle.tsa_forms.specs.Spelling as forms
-use Rattle.tsa_forms.specs.Spelling.{by_rule, goes_done, goes_token, goes_part, goes_only, goes_left, goes_right, goes_limit}
+use Rattle.tsa_grammar.specs.Form.{done, token, part, either}
+use Rattle.tsa_grammar.specs.Spelling as forms
+use Rattle.tsa_grammar.specs.Spelling.{by_rule, goes_done, goes_token, goes_part, goes_only, goes_left, goes_right, goes_limit}
 
 -- a sign at which an item begins with storage words or a type, and not with a struct or an enum
 abbrev begins_type : Sign → Bool

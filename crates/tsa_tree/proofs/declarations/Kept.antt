@@ -17,7 +17,7 @@ use Rattle.tsa_tree.specs.Rows.{Sort, an_expression, a_skip, a_specifier, a_decl
 use Rattle.tsa_tree.proofs.tokens.ProductionSigns.{shows_name, shows_close_bracket, shows_comma, shows_close_brace}
 use Rattle.tsa_tree.proofs.declarations.Signs.{shows_open_bracket, shows_open_brace, shows_semicolon, shows_equals, shows_keyword, shows_star}
 use Rattle.tsa_tree.proofs.expressions.RowsToProductions.{production_of}
-use Rattle.tsa_forms.specs.Form.{done, token, part, either}
+use Rattle.tsa_grammar.specs.Form.{done, token, part, either}
 use Rattle.tsa_tree.proofs.declarations.Meanings.{Closed, delimiter_sign, Keeps, Means}
 
 module _ (tokens : List Lexeme) (aliases : Aliases) (fits : ℕ → Bool) where

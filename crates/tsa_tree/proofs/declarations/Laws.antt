@@ -19,8 +19,8 @@ use Rattle.tsa_tree.proofs.RowsRead.{reading, reading_exact, one_reading, piece_
 use Rattle.tsa_tree.proofs.RowsFree.{free_spelled, free_begun, begun_to_bar}
 use Rattle.tsa_tree.proofs.OneAnswer as verdicts
 use Rattle.tsa_tree.proofs.declarations.RowsToProductions.{declaration_of}
-use Rattle.tsa_forms.specs.Exact as forms
-use Rattle.tsa_forms.specs.Reading.{Code, syntax, deep, barred, Refusal, refuse, Outcome, all}
+use Rattle.tsa_grammar.specs.Exact as forms
+use Rattle.tsa_grammar.specs.Reading.{Code, syntax, deep, barred, Refusal, refuse, Outcome, all}
 
 module _ (tokens : List Lexeme) (aliases : Aliases) (fits : ℕ → Bool) where
   to_rows : (p : Part) (x : Node (sort_of p)) (a b : ℕ) → Spells tokens aliases fits p x a b → RowsSpell tokens aliases fits p x a b

@@ -13,7 +13,7 @@ use Rattle.tsa_tree.specs.statements.Spelling.{IsSimple, IsForInit, IsStatement,
 use Rattle.tsa_tree.specs.tokens.Signs.{Aliases, sign_at, span_at}
 use Rattle.tsa_tree.specs.Rows.{Sort, Node, Call, consts, storage, specifier, declarator, initialiser, initialisers, declared_rest, declarators, member_line, members, variable, variables, locals, parameter_list, parameters, signature, head, struct_body, constants, enum_body, declared, item, items, simple, for_init, statement, statements, is_past, sees, Row, rule}
 use Rattle.tsa_tree.proofs.Inductions as all
-use Rattle.tsa_forms.specs.Spelling as forms
+use Rattle.tsa_grammar.specs.Spelling as forms
 
 module _ (tokens : List Lexeme) (fits : ℕ → Bool) where
   -- nothing is asked of the place of a part

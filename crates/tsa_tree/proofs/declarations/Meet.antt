@@ -9,8 +9,8 @@ use Rattle.tsa_tree.specs.declarations.Syntax.{Base, int, unsigned, void, struct
 use Rattle.tsa_tree.specs.expressions.Syntax.{Expression}
 use Rattle.tsa_tree.specs.tokens.Signs.{Aliases, sign_at, identifier_at, is_star}
 use Rattle.tsa_tree.specs.Rows.{Sort, a_skip, a_specifier, a_declarator, an_initialiser, some_initialisers, some_attributes, Call, attributes, consts, specifier, declarator, initialiser, initialisers, rank, a_name, a_comma, an_open_bracket, a_close_brace, sees, is_keyword, Row, behind_consts, specified, with_int, specifier_row, behind_star, behind_length, behind_attributes, list_row, rule}
-use Rattle.tsa_forms.specs.Form.{done, token}
-use Rattle.tsa_forms.proofs.Good as g
+use Rattle.tsa_grammar.specs.Form.{done, token}
+use Rattle.tsa_grammar.proofs.Good as g
 use Rattle.tsa_tree.proofs.tokens.Facts.{is_plain, comma_plain, bracket_plain}
 use Rattle.tsa_tree.proofs.RowFacts.{begins_type, begins_declarator, begins_initialiser, is_signing, First, Ends, Moves, Next, Start, Good, Settled, EndsValue, Bare, never, ended}
 use Rattle.tsa_tree.proofs.declarations.Facts.{declarator_no_keyword, name_no_star, name_no_keyword, brace_plain, brace_no_comma, const_no_int, unsigning, tag_unsigned, operand_no_brace, operand_begins, brace_begins, initialiser_no_brace, star_begins, name_begins}

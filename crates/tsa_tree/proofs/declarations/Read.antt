@@ -12,7 +12,7 @@ use Rattle.tsa_tree.proofs.tokens.NamesAndNumbers.{AreTokensOfKinds, name_at}
 use Rattle.tsa_tree.proofs.tokens.SignsRead.{tag_at, type_at}
 use Rattle.tsa_tree.proofs.expressions.ReadSound.{expression_sound}
 use Rattle.tsa_tree.proofs.attributes.Read.{attributes_sound}
-use Rattle.tsa_forms.specs.Reading.{all}
+use Rattle.tsa_grammar.specs.Reading.{all}
 
 abbrev pub SoundGlobals : Aliases → List Declaration → Type 0
 SoundGlobals aliases [] = Unit {0}

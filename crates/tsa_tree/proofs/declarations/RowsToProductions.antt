@@ -10,8 +10,8 @@ use Rattle.tsa_tree.proofs.declarations.Kept.{keeps_consts, keeps_specifier, kee
 use Rattle.tsa_tree.proofs.declarations.ItemsKept.{keeps_storage, keeps_parameter_list, keeps_parameters, keeps_signature, keeps_head, keeps_struct_body, keeps_constants, keeps_enum_body, keeps_declared}
 use Rattle.tsa_tree.proofs.declarations.ItemRowsKept.{keeps_item}
 use Rattle.tsa_tree.proofs.statements.Kept.{keeps_simple, keeps_for_init, keeps_statement, keeps_statements}
-use Rattle.tsa_forms.specs.Spelling as forms
-use Rattle.tsa_forms.specs.Spelling.{by_rule, goes_done, goes_token, goes_part, goes_bar, goes_limit, goes_only, goes_left, goes_right}
+use Rattle.tsa_grammar.specs.Spelling as forms
+use Rattle.tsa_grammar.specs.Spelling.{by_rule, goes_done, goes_token, goes_part, goes_bar, goes_limit, goes_only, goes_left, goes_right}
 
 module _ (tokens : List Lexeme) (fits : ℕ → Bool) where
   abbrev Spells : (s : Sort) → Call s → Node s → (a b : ℕ) → Type 0

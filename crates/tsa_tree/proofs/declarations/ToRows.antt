@@ -17,9 +17,9 @@ use Rattle.tsa_tree.proofs.tokens.ProductionSigns.{seen}
 use Rattle.tsa_tree.proofs.expressions.ToRows.{expression_rows}
 use Rattle.tsa_tree.proofs.attributes.ListsToRows.{attributes_rows}
 use Rattle.tsa_tree.proofs.attributes.Ahead.{ahead-group, ahead-attributes}
-use Rattle.tsa_forms.specs.Form.{done, token, part, either}
-use Rattle.tsa_forms.specs.Spelling as forms
-use Rattle.tsa_forms.specs.Spelling.{by_rule, goes_done, goes_token, goes_part, goes_limit, goes_only, goes_left, goes_right}
+use Rattle.tsa_grammar.specs.Form.{done, token, part, either}
+use Rattle.tsa_grammar.specs.Spelling as forms
+use Rattle.tsa_grammar.specs.Spelling.{by_rule, goes_done, goes_token, goes_part, goes_limit, goes_only, goes_left, goes_right}
 
 module _ (tokens : List Lexeme) (aliases : Aliases) (fits : ℕ → Bool) where
   abbrev pub Spells : (s : Sort) → Call s → Node s → (a b : ℕ) → Type 0

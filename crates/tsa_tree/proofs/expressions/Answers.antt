@@ -18,8 +18,8 @@ use Rattle.tsa_tree.proofs.expressions.Same.{spell_the_same, begin_the_same}
 use Rattle.tsa_tree.proofs.expressions.GoesOn.{unary_goes_on, expression_goes_on, operator_goes_on, unary_calls, expression_calls}
 use Rattle.tsa_tree.proofs.expressions.Unlimited.{whole, free-spelled, free-part}
 use Rattle.tsa_tree.proofs.attributes.Facts.{both}
-use Rattle.tsa_forms.specs.Exact as forms
-use Rattle.tsa_forms.specs.Reading.{Code, syntax, deep, barred, Refusal, refuse, Outcome, all}
+use Rattle.tsa_grammar.specs.Exact as forms
+use Rattle.tsa_grammar.specs.Reading.{Code, syntax, deep, barred, Refusal, refuse, Outcome, all}
 
 name_marked : (s : Sign) → nat_eq (mark s) 3 ≡ true → s ≡ sign.Name
 name_marked sign.Name e = refl

@@ -13,9 +13,9 @@ use Rattle.tsa_tree.specs.Rows.{Sort, an_expression, some_arguments, Call, expre
 use Rattle.tsa_tree.proofs.tokens.ProductionSigns.{level_low, operator_sign, access_sign, seen, prefix_sign}
 use Rattle.tsa_tree.proofs.Inductions.{begins_whole}
 use Rattle.tsa_tree.proofs.expressions.ToRows.{behind, after, expression_rows, operand_rows, postfix_on, series_rows}
-use Rattle.tsa_forms.specs.Form.{done, token, part}
-use Rattle.tsa_forms.specs.Spelling as forms
-use Rattle.tsa_forms.specs.Spelling.{goes_done, goes_right, begins_rule, starts_here, starts_token, starts_in, starts_over, starts_limit, starts_only, starts_left, starts_right}
+use Rattle.tsa_grammar.specs.Form.{done, token, part}
+use Rattle.tsa_grammar.specs.Spelling as forms
+use Rattle.tsa_grammar.specs.Spelling.{goes_done, goes_right, begins_rule, starts_here, starts_token, starts_in, starts_over, starts_limit, starts_only, starts_left, starts_right}
 
 module _ (tokens : List Lexeme) (aliases : Aliases) (fits : ℕ → Bool) where
   abbrev pub Begins : (s : Sort) → Call s → (a b : ℕ) → Type 0

@@ -6,7 +6,7 @@ use Rattle.tsa_base.specs.Words.{keywords, macro_words, reserved, is_reserved}
 use Rattle.tsa_tree.specs.tokens.Signs.{punctuator_signs, word_signs, word_sign, punctuator_sign, sign_of, sign_at, span_at, span_over, identifier_at, value_at, unsigned_at}
 use Rattle.tsa_tree.specs.Reads.{read}
 use Rattle.tsa_tree.specs.expressions.Examples.{ProductionsAreRead}
-use Rattle.tsa_forms.specs.Reading.{then, choose, measure, run_in, run}
+use Rattle.tsa_grammar.specs.Reading.{then, choose, measure, run_in, run}
 
 pub productions_are_read : ProductionsAreRead
 unfolding punctuators is_punctuator is_token longest_up_to kind_of block_end opens_line line_word is_skipped front_of pieces_at number_of keywords macro_words reserved is_reserved punctuator_signs word_signs word_sign punctuator_sign sign_of sign_at span_at span_over identifier_at value_at unsigned_at read then choose measure run_in run

@@ -14,7 +14,7 @@ use Rattle.tsa_tree.proofs.RowFacts.{Ends, Ended}
 use Rattle.tsa_tree.proofs.RowsRead.{one_reading}
 use Rattle.tsa_tree.proofs.expressions.Same.{spell_the_same}
 use Rattle.tsa_tree.proofs.expressions.Truncated.{truncated-expression, truncated-unary}
-use Rattle.tsa_forms.specs.Reading.{all}
+use Rattle.tsa_grammar.specs.Reading.{all}
 
 module _ (tokens : List Lexeme) (aliases : Aliases) where
   pub ends_there : (e : ℕ) → length tokens ≤ e → sign_at tokens aliases e ≡ sign.End

@@ -8,7 +8,7 @@ use Rattle.tsa_tree.specs.expressions.Spelling.{IsExpression, of_unary, of_binar
 use Rattle.tsa_tree.specs.expressions.Syntax.{Expression, Arguments}
 use Rattle.tsa_tree.specs.tokens.Signs.{Aliases}
 use Rattle.tsa_tree.proofs.tokens.NamesAndNumbers.{AreTokensOfKinds, tokens_of_kinds, name_at, number_at}
-use Rattle.tsa_forms.specs.Reading.{all}
+use Rattle.tsa_grammar.specs.Reading.{all}
 
 module _ (aliases : Aliases) (tokens : List Lexeme) (real : AreTokensOfKinds tokens) where
   mutual

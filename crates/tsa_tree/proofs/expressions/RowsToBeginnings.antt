@@ -19,8 +19,8 @@ use Rattle.tsa_tree.proofs.attributes.Meanings.{Needs, Closed, Means, Begun, Ref
 use Rattle.tsa_tree.proofs.attributes.Opened.{opens_attributes, opens_one_group, opens_entries}
 use Rattle.tsa_tree.proofs.attributes.Skips.{opens_skip}
 use Rattle.tsa_tree.proofs.expressions.RowsToProductions.{weaken, keeps}
-use Rattle.tsa_forms.specs.Form.{done}
-use Rattle.tsa_forms.specs.Spelling as forms
+use Rattle.tsa_grammar.specs.Form.{done}
+use Rattle.tsa_grammar.specs.Spelling as forms
 
 -- a whole unary expression begins one
 pub whole_unary : {tokens : List Lexeme} {aliases : Aliases} {fits : ℕ → Bool} {d : ℕ} {t : Expression} {a b : ℕ}

@@ -15,8 +15,8 @@ use Rattle.tsa_tree.proofs.tokens.ProductionSigns.{shows_name, shows_open, shows
 use Rattle.tsa_tree.proofs.Inductions as all
 pub use Rattle.tsa_tree.proofs.attributes.Meanings.{Needs, Closed, Means, Keeps}
 use Rattle.tsa_tree.proofs.attributes.Kept.{keeps_attributes, keeps_one_group, keeps_entries, keeps_skip}
-use Rattle.tsa_forms.specs.Form.{done}
-use Rattle.tsa_forms.specs.Spelling as forms
+use Rattle.tsa_grammar.specs.Form.{done}
+use Rattle.tsa_grammar.specs.Spelling as forms
 
 -- what is tighter is as tight
 pub weaken : {tokens : List Lexeme} {aliases : Aliases} {fits : ℕ → Bool} {d k l : ℕ} {t : Expression} {a b : ℕ}

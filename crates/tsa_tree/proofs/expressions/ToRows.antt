@@ -11,9 +11,9 @@ use Rattle.tsa_tree.specs.tokens.Signs.{Aliases, sign_at, span_over, identifier_
 use Rattle.tsa_tree.specs.expressions.Spelling.{IsExpression, of_unary, of_binary, IsUnary, of_postfix, of_prefix, IsPostfix, of_primary, of_field, of_index, IsPrimary, of_number, of_null, of_name, of_call, of_parentheses, of_none, of_some, IsSeries, of_last, of_further}
 use Rattle.tsa_tree.specs.Rows.{Sort, an_expression, some_arguments, Node, Call, expression, operand, series, sees, Row, tightest, climb, climb_on, operation_row, post, postfix_row, call_row, operand_row, rule}
 use Rattle.tsa_tree.proofs.tokens.ProductionSigns.{level_low, operator_sign, access_sign, seen, prefix_sign}
-use Rattle.tsa_forms.specs.Form.{done}
-use Rattle.tsa_forms.specs.Spelling as forms
-use Rattle.tsa_forms.specs.Spelling.{by_rule, goes_done, goes_token, goes_part, goes_limit, goes_only, goes_left, goes_right}
+use Rattle.tsa_grammar.specs.Form.{done}
+use Rattle.tsa_grammar.specs.Spelling as forms
+use Rattle.tsa_grammar.specs.Spelling.{by_rule, goes_done, goes_token, goes_part, goes_limit, goes_only, goes_left, goes_right}
 
 module _ (tokens : List Lexeme) (aliases : Aliases) (fits : ℕ → Bool) where
   abbrev pub Spells : (s : Sort) → Call s → Node s → (a b : ℕ) → Type 0

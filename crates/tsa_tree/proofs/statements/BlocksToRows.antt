@@ -19,9 +19,9 @@ use Rattle.tsa_tree.proofs.declarations.Facts.{not_false}
 use Rattle.tsa_tree.proofs.expressions.ToRows.{expression_rows}
 use Rattle.tsa_tree.proofs.declarations.ToRows.{specifier_rows, variable_rows, locals_rows}
 use Rattle.tsa_tree.proofs.statements.SimplesToRows.{simple_starts, no_label, simple_rows}
-use Rattle.tsa_forms.specs.Form.{done, token}
-use Rattle.tsa_forms.specs.Spelling as forms
-use Rattle.tsa_forms.specs.Spelling.{by_rule, goes_done, goes_token, goes_part, goes_limit, goes_only, goes_left, goes_right}
+use Rattle.tsa_grammar.specs.Form.{done, token}
+use Rattle.tsa_grammar.specs.Spelling as forms
+use Rattle.tsa_grammar.specs.Spelling.{by_rule, goes_done, goes_token, goes_part, goes_limit, goes_only, goes_left, goes_right}
 
 module _ (tokens : List Lexeme) (aliases : Aliases) (fits : ℕ → Bool) where
   abbrev Spells : (s : Sort) → Call s → Node s → (a b : ℕ) → Type 0

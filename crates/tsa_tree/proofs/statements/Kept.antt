@@ -18,9 +18,9 @@ use Rattle.tsa_tree.proofs.tokens.ProductionSigns.{shows_name, shows_open, shows
 use Rattle.tsa_tree.proofs.declarations.Signs.{shows_semicolon, shows_colon, shows_keyword}
 use Rattle.tsa_tree.proofs.expressions.ToRows.{stop_behind}
 use Rattle.tsa_tree.proofs.expressions.RowsToProductions.{production_of}
-use Rattle.tsa_forms.specs.Form.{done, token}
-use Rattle.tsa_forms.specs.Spelling as forms
-use Rattle.tsa_forms.specs.Spelling.{by_rule, goes_done, goes_part, goes_only, goes_left}
+use Rattle.tsa_grammar.specs.Form.{done, token}
+use Rattle.tsa_grammar.specs.Spelling as forms
+use Rattle.tsa_grammar.specs.Spelling.{by_rule, goes_done, goes_part, goes_only, goes_left}
 use Rattle.tsa_tree.proofs.declarations.Meanings.{Keeps, Means}
 
 module _ (tokens : List Lexeme) (aliases : Aliases) (fits : ℕ → Bool) where

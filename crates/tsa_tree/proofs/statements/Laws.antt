@@ -7,7 +7,7 @@ use Rattle.tsa_tree.proofs.statements.BlocksToRows.{statement_rows}
 use Rattle.tsa_tree.proofs.expressions.OneTree.{ends_there}
 use Rattle.tsa_tree.proofs.RowsRead.{one_reading, piece_begins}
 use Rattle.tsa_tree.proofs.declarations.RowsToProductions.{declaration_of}
-use Rattle.tsa_forms.specs.Reading.{all}
+use Rattle.tsa_grammar.specs.Reading.{all}
 
 pub spell_the_same : SpellTheSame
 spell_the_same tokens aliases fits d x a b = ((λ i. statement_rows tokens aliases fits i), (λ sp. declaration_of tokens fits sp))

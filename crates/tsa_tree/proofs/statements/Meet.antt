@@ -10,8 +10,8 @@ use Rattle.tsa_tree.specs.expressions.Syntax.{Expression}
 use Rattle.tsa_tree.specs.tokens.Signs.{Aliases, sign_at, span_over, identifier_at, operator, level, assigns}
 use Rattle.tsa_tree.specs.statements.Syntax.{evaluation, Ending, by_expression, by_operand, by_step, ForInit, Statement, if_else, while_loop, do_loop, for_loop, switch, case, otherwise, label, return, ends_short}
 use Rattle.tsa_tree.specs.Rows.{a_simple, a_statement, simple, statement, a_semicolon, a_colon, a_keyword, rank, mark, sees, is_keyword, Row, tightest, climb_on, simple_behind, simple_row, body, test, value_or_none, if_end, for_end, simple_statement, statement_row, rule}
-use Rattle.tsa_forms.specs.Form.{done, token}
-use Rattle.tsa_forms.proofs.Good as g
+use Rattle.tsa_grammar.specs.Form.{done, token}
+use Rattle.tsa_grammar.proofs.Good as g
 use Rattle.tsa_tree.proofs.tokens.Facts.{is_plain, operator_no_postfix, operator_no_open, close_plain, level_low}
 use Rattle.tsa_tree.proofs.RowFacts.{begins_statement, begins_simple, Ended, First, Ends, Moves, EndsSimple, EndsStatement, Next, Start, Good, never, ended}
 use Rattle.tsa_tree.proofs.declarations.Facts.{semicolon_plain, not_true, not_false}

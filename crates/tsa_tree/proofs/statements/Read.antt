@@ -14,7 +14,7 @@ use Rattle.tsa_tree.proofs.tokens.NamesAndNumbers.{AreTokensOfKinds, name_at}
 use Rattle.tsa_tree.proofs.tokens.SignsRead.{assigning_at, stepping_at}
 use Rattle.tsa_tree.proofs.expressions.ReadSound.{expression_sound, unary_sound}
 use Rattle.tsa_tree.proofs.declarations.Read.{SoundLocals, specifier_sound, variable_sound, locals_sound}
-use Rattle.tsa_forms.specs.Reading.{all}
+use Rattle.tsa_grammar.specs.Reading.{all}
 
 spanning_sound : (aliases : Aliases) (x : Simple) (span : Span) → SoundSimple aliases x → SoundSimple aliases (spanning x span)
 spanning_sound aliases (evaluation x other) span h = h

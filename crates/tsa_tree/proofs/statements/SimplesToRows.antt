@@ -17,9 +17,9 @@ use Rattle.tsa_tree.proofs.tokens.ProductionSigns.{seen}
 use Rattle.tsa_tree.proofs.declarations.Signs.{shows_colon}
 use Rattle.tsa_tree.proofs.expressions.ToRows.{expression_rows, operand_rows}
 use Rattle.tsa_tree.proofs.statements.Facts.{operand_simple}
-use Rattle.tsa_forms.specs.Form.{done, part}
-use Rattle.tsa_forms.specs.Spelling as forms
-use Rattle.tsa_forms.specs.Spelling.{by_rule, goes_done, goes_token, goes_part, goes_only, goes_left, goes_right}
+use Rattle.tsa_grammar.specs.Form.{done, part}
+use Rattle.tsa_grammar.specs.Spelling as forms
+use Rattle.tsa_grammar.specs.Spelling.{by_rule, goes_done, goes_token, goes_part, goes_only, goes_left, goes_right}
 
 module _ (tokens : List Lexeme) (aliases : Aliases) (fits : ℕ → Bool) where
   abbrev Spells : (s : Sort) → Call s → Node s → (a b : ℕ) → Type 0

@@ -6,7 +6,7 @@ use Rattle.tsa_base.specs.Words.{keywords, macro_words, reserved, is_reserved}
 use Rattle.tsa_tree.specs.tokens.Signs.{meaning_at, meaning_of, attribute_names, bare_name, is_word_at, punctuator_signs, word_signs, word_sign, punctuator_sign, sign_of, sign_at, span_at, span_over, identifier_at, value_at, unsigned_at}
 use Rattle.tsa_tree.specs.Reads.{read}
 use Rattle.tsa_tree.specs.units.Answers.{read_unit}
-use Rattle.tsa_forms.specs.Reading.{then, choose, measure, run_in, run}
+use Rattle.tsa_grammar.specs.Reading.{then, choose, measure, run_in, run}
 use Rattle.tsa_tree.specs.attributes.Syntax.{try_value}
 use Rattle.tsa_tree.specs.types.Expressions.{type_of, types_of, premises_of, premises_of_all}
 use Rattle.tsa_tree.specs.types.Premises.{first}

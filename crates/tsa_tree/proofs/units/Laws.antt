@@ -18,11 +18,11 @@ use Rattle.tsa_tree.proofs.RowsFree.{free_begun, begun_to_bar}
 use Rattle.tsa_tree.proofs.OneAnswer as verdicts
 use Rattle.tsa_tree.proofs.declarations.RowsToProductions.{declaration_of}
 use Rattle.tsa_tree.proofs.units.Meet.{begun_inside}
-use Rattle.tsa_forms.proofs.Cases.{on_choose}
-use Rattle.tsa_forms.specs.Exact as exact
-use Rattle.tsa_forms.specs.Spelling as forms
-use Rattle.tsa_forms.specs.Spelling.{by_rule, goes_done, goes_token, goes_part, goes_bar, goes_limit, goes_only, goes_left, goes_right, begins_rule, starts_here, starts_barred, starts_bar, starts_token, starts_in, starts_over, starts_limit, starts_only, starts_left, starts_right}
-use Rattle.tsa_forms.specs.Reading.{Code, syntax, deep, barred, Refusal, refuse, Outcome, all}
+use Rattle.tsa_grammar.proofs.Cases.{on_choose}
+use Rattle.tsa_grammar.specs.Exact as exact
+use Rattle.tsa_grammar.specs.Spelling as forms
+use Rattle.tsa_grammar.specs.Spelling.{by_rule, goes_done, goes_token, goes_part, goes_bar, goes_limit, goes_only, goes_left, goes_right, begins_rule, starts_here, starts_barred, starts_bar, starts_token, starts_in, starts_over, starts_limit, starts_only, starts_left, starts_right}
+use Rattle.tsa_grammar.specs.Reading.{Code, syntax, deep, barred, Refusal, refuse, Outcome, all}
 
 module _ (tokens : List Lexeme) (fits : ℕ → Bool) where
   -- What begins a part with a token, or is refused in it, stands at a place where the part may begin.

@@ -17,7 +17,7 @@ use Rattle.tsa_tree.proofs.attributes.Read.{attributes_append, attributes_sound}
 use Rattle.tsa_tree.proofs.declarations.HeadsRead.{head_sound, tag_sound, tags_sound, constants_sound}
 use Rattle.tsa_tree.proofs.declarations.Read.{SoundGlobals, specifier_sound, declarator_sound, globals_sound, members_sound}
 use Rattle.tsa_tree.proofs.statements.Read.{statements_sound}
-use Rattle.tsa_forms.specs.Reading.{all}
+use Rattle.tsa_grammar.specs.Reading.{all}
 
 -- items before others are sound where the others are with their names
 items_append : (aliases : Aliases) (xs ys : List UnitItem) → SoundItems aliases xs → SoundItems (aliases ++ names_of xs) ys → SoundItems aliases (xs ++ ys)

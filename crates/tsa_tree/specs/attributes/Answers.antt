@@ -10,8 +10,8 @@ use Rattle.tsa_tree.specs.Rows.{sees, rule, is_attribute_sign}
 use Rattle.tsa_tree.specs.Reads.{read}
 use Rattle.tsa_tree.specs.tokens.Signs.{Aliases, sign_at}
 use Rattle.tsa_tree.specs.Verdicts as verdicts
-use Rattle.tsa_forms.specs.Spelling as forms
-use Rattle.tsa_forms.specs.Reading.{Outcome, choose, all}
+use Rattle.tsa_grammar.specs.Spelling as forms
+use Rattle.tsa_grammar.specs.Reading.{Outcome, choose, all}
 
 module _ (tokens : List Lexeme) (aliases : Aliases) (depth a : ℕ) where
   abbrev pub Spelled : (ℕ → Bool) → List Attribute → ℕ → Type 0

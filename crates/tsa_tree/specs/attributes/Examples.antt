@@ -11,7 +11,7 @@ use Rattle.tsa_tree.specs.attributes.Refusals.{left_out, lacking}
 use Rattle.tsa_tree.specs.attributes.Syntax.{Attribute, plain_attribute}
 use Rattle.tsa_tree.specs.expressions.Examples.{name, word}
 use Rattle.tsa_tree.specs.expressions.Syntax.{Arguments, unary, field, none, more, nowhere}
-use Rattle.tsa_forms.specs.Reading.{syntax, deep, barred, refuse, Outcome}
+use Rattle.tsa_grammar.specs.Reading.{syntax, deep, barred, refuse, Outcome}
 
 abbrev spanless : Outcome (List Attribute) → Outcome (List Attribute)
 spanless (Ok found) = Ok (map plain_attribute found.0, found.1)

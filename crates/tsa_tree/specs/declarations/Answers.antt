@@ -10,8 +10,8 @@ use Rattle.tsa_tree.specs.Rows.{Sort, a_specifier, some_declarations, a_head, so
 use Rattle.tsa_tree.specs.Reads.{read}
 use Rattle.tsa_tree.specs.tokens.Signs.{Aliases}
 use Rattle.tsa_tree.specs.Verdicts as verdicts
-use Rattle.tsa_forms.specs.Spelling as forms
-use Rattle.tsa_forms.specs.Reading.{Outcome, all}
+use Rattle.tsa_grammar.specs.Spelling as forms
+use Rattle.tsa_grammar.specs.Reading.{Outcome, all}
 
 -- What can be asked of a declaration's reader, and what each part is.
 pub data Part : Type 0 where

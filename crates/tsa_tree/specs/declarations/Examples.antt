@@ -21,7 +21,7 @@ use Rattle.tsa_tree.specs.units.Plain.{plain_part}
 use Rattle.tsa_tree.specs.Reads.{read}
 use Rattle.tsa_tree.specs.Rows.{Node}
 use Rattle.tsa_tree.specs.tokens.Signs.{Aliases}
-use Rattle.tsa_forms.specs.Reading.{syntax, deep, barred, refuse, Outcome}
+use Rattle.tsa_grammar.specs.Reading.{syntax, deep, barred, refuse, Outcome}
 
 abbrev spanless : (p : Part) → Outcome (Node (sort_of p)) → Outcome (Node (sort_of p))
 spanless p (Ok found) = Ok (plain_part p found.0, found.1)

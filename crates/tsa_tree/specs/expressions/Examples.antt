@@ -11,7 +11,7 @@ use Rattle.tsa_tree.specs.expressions.Syntax.{Identifier, Expression, number, nu
 use Rattle.tsa_tree.specs.Rows as rows
 use Rattle.tsa_tree.specs.Rows.{expression, operand}
 use Rattle.tsa_tree.specs.Reads.{read}
-use Rattle.tsa_forms.specs.Reading.{syntax, deep, refuse, Outcome}
+use Rattle.tsa_grammar.specs.Reading.{syntax, deep, refuse, Outcome}
 
 abbrev spanless : Outcome Expression → Outcome Expression
 spanless (Ok found) = Ok (plain found.0, found.1)

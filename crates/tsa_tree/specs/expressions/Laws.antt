@@ -6,8 +6,8 @@ use Rattle.tsa_tree.specs.tokens.Signs.{Aliases}
 use Rattle.tsa_tree.specs.Rows as rows
 use Rattle.tsa_tree.specs.Rows.{sees, rule, expression, operand}
 use Rattle.tsa_tree.specs.expressions.Answers.{Part, an_expression, a_unary, Spells, Begins, IsAnswer}
-use Rattle.tsa_forms.specs.Spelling as forms
-use Rattle.tsa_forms.specs.Reading.{Outcome, all}
+use Rattle.tsa_grammar.specs.Spelling as forms
+use Rattle.tsa_grammar.specs.Reading.{Outcome, all}
 
 -- the part as a call of the rows
 abbrev pub call_of : Aliases → Part → ℕ → rows.Call rows.an_expression

@@ -12,7 +12,7 @@ use Rattle.tsa_tree.specs.Reads.{read}
 use Rattle.tsa_tree.specs.Rows.{a_statement, statement}
 use Rattle.tsa_tree.specs.statements.Examples.{a, b}
 use Rattle.tsa_tree.specs.statements.Syntax.{Statement, none}
-use Rattle.tsa_forms.specs.Reading.{Outcome}
+use Rattle.tsa_grammar.specs.Reading.{Outcome}
 use Rattle.tsa_base.specs.declared.token.Span.{Span}
 
 abbrev read_in : Result (List Lexeme) BadByte → List Statement

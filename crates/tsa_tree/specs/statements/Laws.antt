@@ -5,8 +5,8 @@ use Rattle.tsa_tree.specs.Rows.{a_statement, statement, sees, rule}
 use Rattle.tsa_tree.specs.tokens.Signs.{Aliases}
 use Rattle.tsa_tree.specs.statements.Spelling.{IsStatement}
 use Rattle.tsa_tree.specs.statements.Syntax.{Statement}
-use Rattle.tsa_forms.specs.Spelling as forms
-use Rattle.tsa_forms.specs.Reading.{all}
+use Rattle.tsa_grammar.specs.Spelling as forms
+use Rattle.tsa_grammar.specs.Reading.{all}
 
 abbrev pub RowsSpell : List Lexeme → Aliases → (ℕ → Bool) → (depth : ℕ) → Statement → (a b : ℕ) → Type 0
 RowsSpell tokens aliases fits depth x a b = forms.Spells (rule tokens) (sees tokens) fits a_statement (statement aliases depth) x a b

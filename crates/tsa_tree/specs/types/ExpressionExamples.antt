@@ -3,7 +3,7 @@ use Rattle.std.specs.Prelude.{◌≡◌, ℕ, zero, suc, pos, negsuc, List, [], 
 use Rattle.std.specs.Str.{bytes_eq}
 use Rattle.std.specs.declared.result.Result.{Result}
 use Rattle.tsa_base.specs.Tokens.{Lexeme, BadByte, tokens_of}
-use Rattle.tsa_forms.specs.Reading.{Outcome}
+use Rattle.tsa_grammar.specs.Reading.{Outcome}
 use Rattle.tsa_tree.specs.Reads.{read}
 use Rattle.tsa_tree.specs.Rows as rows
 use Rattle.tsa_tree.specs.expressions.Syntax.{Expression, null, nowhere}

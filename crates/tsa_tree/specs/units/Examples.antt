@@ -11,7 +11,7 @@ use Rattle.tsa_tree.specs.units.Plain.{plain_item}
 use Rattle.tsa_tree.specs.statements.Syntax.{evaluation, local, simple, return, Statements, none, more}
 use Rattle.tsa_tree.specs.units.Answers.{read_unit}
 use Rattle.tsa_tree.specs.units.Syntax.{UnitItem, structure_item, body_item}
-use Rattle.tsa_forms.specs.Reading.{syntax, deep, refuse, Outcome}
+use Rattle.tsa_grammar.specs.Reading.{syntax, deep, refuse, Outcome}
 
 abbrev spanless : Outcome (List UnitItem) → Outcome (List UnitItem)
 spanless (Ok found) = Ok (map plain_item found.0, found.1)

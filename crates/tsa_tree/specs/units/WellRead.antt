@@ -5,7 +5,7 @@ use Rattle.tsa_tree.specs.declared.item.Item.{Item}
 use Rattle.tsa_tree.specs.tokens.Texts.{AreOfText}
 use Rattle.tsa_tree.specs.units.Answers.{Spells}
 use Rattle.tsa_tree.specs.units.Shapes.{item_shapes, HaveTheirPoints}
-use Rattle.tsa_forms.specs.Reading.{all}
+use Rattle.tsa_grammar.specs.Reading.{all}
 
 -- the tokens of some text spell them, and the points of their bodies are those of the rules
 pub record IsWellRead (items : List Item) : Type 0 where

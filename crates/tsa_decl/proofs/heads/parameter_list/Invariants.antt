@@ -3,7 +3,7 @@ use Rattle.tsa_tree.specs.declarations.Shapes.{param_shapes}
 use Rattle.tsa_tree.specs.Reads.{read}
 use Rattle.tsa_tree.specs.Rows.{some_parameters, parameter_list}
 use Rattle.tsa_expr.specs.Source.{input, named}
-use Rattle.tsa_local.specs.Outcomes.{after}
+use Rattle.tsa_decl_declarators.specs.Outcomes.{after}
 use Rattle.tsa_decl.proofs.heads.parameter_list.Given as goal
 
 abbrev pub invariant-parameters : goal.invariant-parameters

@@ -1,7 +1,7 @@
 use Rattle.std.proofs.Common.{rules}
 use Rattle.tsa_decl.proofs.BegunLaws.{more_pointed}
 use Rattle.tsa_decl.proofs.GlobalLaws.{lists, globals_rest, globals_last, globals_name}
-use Rattle.tsa_local.proofs.ListLaws.{front_more}
+use Rattle.tsa_decl_declarators.proofs.ListLaws.{front_more}
 use Rattle.tsa_expr.proofs.Answering.{fails_same}
 use Rattle.tsa_decl.proofs.lists.append_globals.Goals as goal
 

@@ -3,7 +3,7 @@ use Rattle.tsa_tree.specs.declarations.Shapes.{decl_shapes}
 use Rattle.tsa_tree.specs.Reads.{read}
 use Rattle.tsa_tree.specs.Rows.{some_declarations, members}
 use Rattle.tsa_expr.specs.Source.{input, named}
-use Rattle.tsa_local.specs.Outcomes.{after}
+use Rattle.tsa_decl_declarators.specs.Outcomes.{after}
 use Rattle.tsa_decl.proofs.lists.members.Given as goal
 
 abbrev pub invariant-members : goal.invariant-members

@@ -1,5 +1,5 @@
 use Rattle.std.proofs.Common.{map, take}
-use Rattle.tsa_links.specs.Links.{edge_of}
+use Rattle.tsa_graph_edges.specs.Links.{edge_of}
 use Rattle.tsa_graph.specs.Arcs.{AreArcs}
 use Rattle.tsa_graph.proofs.arcs.arcs_of.Given as goal
 

@@ -1,6 +1,6 @@
 use Rattle.std.proofs.Common.{◌∙◌, ◌+◌, map, sym, ap}
 use Rattle.std.proofs.lemmas.Result.{IfOk-weaker}
-use Rattle.tsa_links.specs.Links.{edge_of}
+use Rattle.tsa_graph_edges.specs.Links.{edge_of}
 use Rattle.tsa_graph.proofs.GraphMade.{graph_moved}
 use Rattle.tsa_graph.proofs.graph.graph_of_body.Goals as goal
 

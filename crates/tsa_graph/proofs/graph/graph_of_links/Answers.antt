@@ -1,5 +1,5 @@
 use Rattle.std.proofs.Common.{sym, subst}
-use Rattle.tsa_runs.specs.Runs.{AreWays}
+use Rattle.tsa_graph.specs.Runs.{AreWays}
 use Rattle.tsa_graph.proofs.GraphMade.{is_graph}
 use Rattle.tsa_graph.proofs.WaysMade.{are_ways}
 use Rattle.tsa_graph.proofs.graph.graph_of_links.Goals as goal

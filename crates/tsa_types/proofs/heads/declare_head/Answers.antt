@@ -2,7 +2,7 @@ use Rattle.std.proofs.Common.{◌∙◌, is_some}
 use Rattle.std.proofs.lemmas.Result.{err_from_is_err_and}
 use Rattle.tsa_tree.specs.declarations.Shapes.{head_shape}
 use Rattle.tsa_types.proofs.HeadLaws.{head_stops, params_stop, head_is, head_names}
-use Rattle.tsa_data.proofs.Judging.{judged_so, on_ok}
+use Rattle.tsa_types_declarations.proofs.Judging.{judged_so, on_ok}
 use Rattle.tsa_types.proofs.heads.declare_head.Goals as goal
 
 pub returns-in_err-declare_function-clause-judged : goal.returns-in_err-declare_function-clause-judged

@@ -5,8 +5,8 @@ use Rattle.tsa_tree.specs.declared.meaning.Meaning.TheVariants as known
 use Rattle.tsa_tree.specs.types.DeclaredTypes.{declared_premises}
 use Rattle.tsa_tree.specs.types.Heads.{local_entry}
 use Rattle.tsa_tree.specs.types.Premises.{first}
-use Rattle.tsa_data.proofs.DeclaredLaws.{declared_untaken, not_free, named_known}
-use Rattle.tsa_data.proofs.Judging.{judged_so, on_kept}
+use Rattle.tsa_types_declarations.proofs.DeclaredLaws.{declared_untaken, not_free, named_known}
+use Rattle.tsa_types_declarations.proofs.Judging.{judged_so, on_kept}
 use Rattle.tsa_types.proofs.heads.declare_param.Goals as goal
 
 pub returns-clause-judged : goal.returns-clause-judged

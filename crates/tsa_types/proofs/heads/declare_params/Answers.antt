@@ -2,7 +2,7 @@ use Rattle.std.proofs.Common.{◌∙◌, sym}
 use Rattle.std.proofs.Math.Seq.{drop-cons}
 use Rattle.std.proofs.lemmas.List.{drop_all}
 use Rattle.std.proofs.lemmas.Result.{err_from_is_err_and}
-use Rattle.tsa_data.proofs.Judging.{judges_err}
+use Rattle.tsa_types_declarations.proofs.Judging.{judges_err}
 use Rattle.tsa_types.proofs.ParamLists.{params_end, params_stop, params_next, known_end, known_next, noted_end, noted_next}
 use Rattle.tsa_types.proofs.heads.declare_params.Goals as goal
 

@@ -3,7 +3,7 @@ use Rattle.tsa_tree.specs.declarations.Shapes.{param_shapes}
 use Rattle.tsa_tree.specs.types.Heads.{params_premises, inside_params}
 use Rattle.tsa_tree.specs.types.Premises.{first}
 use Rattle.tsa_tree.specs.types.Symbols.{names_in_params}
-use Rattle.tsa_resolve.proofs.SymbolLaws.{noted}
+use Rattle.tsa_types_expressions.proofs.SymbolLaws.{noted}
 use Rattle.tsa_types.proofs.heads.declare_params.Given as goal
 
 -- what is left to judge is what decides, and what is known behind it is what is known behind all

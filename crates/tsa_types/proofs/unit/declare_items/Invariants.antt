@@ -1,7 +1,7 @@
 use Rattle.std.proofs.Common.{◌≡◌, drop}
 use Rattle.tsa_tree.specs.units.Shapes.{item_shapes}
 use Rattle.tsa_tree.specs.types.Premises.{first}
-use Rattle.tsa_resolve.proofs.SymbolLaws.{noted}
+use Rattle.tsa_types_expressions.proofs.SymbolLaws.{noted}
 use Rattle.tsa_tree.specs.types.Units.{items_premises, names_in_unit_items}
 use Rattle.tsa_types.proofs.unit.declare_items.Given as goal
 

@@ -2,7 +2,7 @@ use Rattle.std.proofs.Common.{◌∙◌, Err, Ok, length, is_some, refl, sym, ap
 use Rattle.tsa_tree.specs.declarations.Shapes.{head_shape}
 use Rattle.tsa_tree.specs.statements.Shapes.{stmt_shapes}
 use Rattle.tsa_tree.specs.types.Heads.{behind_head}
-use Rattle.tsa_body.proofs.Closing.{Named, named_inside, named_behind, ends_function}
+use Rattle.tsa_types_statements.proofs.Closing.{Named, named_inside, named_behind, ends_function}
 use Rattle.tsa_types.proofs.UnitLaws.{head_fails, alone_holds, alone_names, body_judged, body_names, behind_function}
 use Rattle.tsa_types.proofs.unit.function_item.Goals as goal
 use Rattle.tsa_types.proofs.unit.function_item.Goals.{in-Some+in_default-body_statements, in_default-body}

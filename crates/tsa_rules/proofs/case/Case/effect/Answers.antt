@@ -1,6 +1,6 @@
 use Rattle.std.proofs.Common.{ap, ◌∙◌}
 use Rattle.tsa_rules.specs.Cases.{after_role}
-use Rattle.tsa_links.specs.Links.{outcome_of}
+use Rattle.tsa_graph_edges.specs.Links.{outcome_of}
 use Rattle.tsa_rules.proofs.CaseEffects.{effect_is}
 use Rattle.tsa_rules.proofs.case.Case.effect.Goals as goal
 

@@ -1,5 +1,5 @@
 use Rattle.tsa_rules.specs.Cases.{effect_in}
-use Rattle.tsa_links.specs.Links.{outcome_of}
+use Rattle.tsa_graph_edges.specs.Links.{outcome_of}
 use Rattle.tsa_rules.proofs.Members.{Inside, Made, Done}
 use Rattle.tsa_rules.proofs.case.Case.image.Given as goal
 

@@ -1,5 +1,5 @@
 use Rattle.std.proofs.Common.{subst, sym}
-use Rattle.tsa_links.specs.Links.{outcome_of}
+use Rattle.tsa_graph_edges.specs.Links.{outcome_of}
 use Rattle.tsa_rules.specs.Sets.{HasPlace}
 use Rattle.tsa_rules.proofs.CasePlaces.{effect_placed}
 use Rattle.tsa_rules.proofs.case.Case.with_effect.Goals as goal

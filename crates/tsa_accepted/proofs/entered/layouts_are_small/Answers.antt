@@ -1,5 +1,0 @@
-use Rattle.tsa_accepted.proofs.entered.SmallLayouts as small
-use Rattle.tsa_accepted.proofs.entered.layouts_are_small.Goals as goal
-
-pub returns : goal.returns
-returns c = small.layouts_are_small

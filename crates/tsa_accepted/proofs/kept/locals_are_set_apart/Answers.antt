@@ -1,5 +1,0 @@
-use Rattle.tsa_accepted.proofs.kept.Functions as functions
-use Rattle.tsa_accepted.proofs.kept.locals_are_set_apart.Goals as goal
-
-pub returns : goal.returns
-returns c = functions.locals_are_set_apart

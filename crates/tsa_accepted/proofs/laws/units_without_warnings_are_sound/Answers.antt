@@ -1,5 +1,0 @@
-use Rattle.tsa_accepted.proofs.Accepted as accepted
-use Rattle.tsa_accepted.proofs.laws.units_without_warnings_are_sound.Goals as goal
-
-pub returns : goal.returns
-returns c = accepted.units_without_warnings_are_sound

@@ -1,5 +1,0 @@
-use Rattle.tsa_accepted.proofs.terms.CallsFit as fitting
-use Rattle.tsa_accepted.proofs.terms.calls_have_their_terms.Goals as goal
-
-pub returns : goal.returns
-returns c = fitting.calls_have_their_terms

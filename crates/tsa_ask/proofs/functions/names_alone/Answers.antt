@@ -1,5 +1,0 @@
-use Rattle.tsa_ask.proofs.HeadParts.{more_than_one}
-use Rattle.tsa_ask.proofs.functions.names_alone.Goals as goal
-
-pub returns-in_default-2 : goal.returns-in_default-2
-returns-in_default-2 c = more_than_one c.args.text.now c.args.args.now c.in_default.len_at_least

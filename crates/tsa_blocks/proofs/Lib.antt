@@ -1,8 +1,0 @@
-mod Members
-mod Counts
-mod Runs
-mod Sizes
-mod Standing
-mod Leaving
-mod Joins
-mod InARow

@@ -1,5 +1,0 @@
-use Rattle.std.proofs.Common.{◌≡◌, ℕ, [], length, get_or}
-use Rattle.tsa_blocks.proofs.exits.Exits.new.Given as goal
-
-abbrev pub invariant-each : goal.invariant-each
-invariant-each l = record { len : length l.exits ≡ l.counter; none : (b : ℕ) → get_or l.exits b [] ≡ [] }

@@ -1,7 +1,0 @@
-use Rattle.tsa_blocks.proofs.Leaving.{note_in}
-use Rattle.tsa_blocks.proofs.exits.Exits.note.Goals as goal
-
-pub returns : goal.returns
-returns c =
-    note_in (λ list. list.items) c.self.inside.lists.items c.args.self.now c.args.block c.index_mut.result.now c.put.new.list c.args.exit c.self.view_is c.requires
-    c.index_mut.ensures.value c.in_ok-put.ensures

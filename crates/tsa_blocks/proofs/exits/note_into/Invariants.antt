@@ -1,6 +1,0 @@
-use Rattle.std.proofs.Common.{take}
-use Rattle.tsa_blocks.specs.Noting.{AreNoted}
-use Rattle.tsa_blocks.proofs.exits.note_into.Given as goal
-
-abbrev pub invariant-each : goal.invariant-each
-invariant-each l = AreNoted l.places (take l.edge-index l.into) l.to l.fn.exits l.exits

@@ -1,9 +1,0 @@
-use Rattle.std.proofs.Common.{◌≡◌, take, length, All}
-use Rattle.tsa_blocks.specs.Placing.{IsPlaced}
-use Rattle.tsa_blocks.proofs.places.places_of.Given as goal
-
-abbrev pub invariant-each : goal.invariant-each
-invariant-each l = record {
-  size : length l.places.items ≡ l.points;
-  placed : All (λ b. All (IsPlaced l.blocks l.places.items) b.points.items) (take l.number l.blocks);
-}

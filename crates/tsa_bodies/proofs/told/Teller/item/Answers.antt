@@ -1,7 +1,0 @@
-use Rattle.tsa_tree.specs.units.Shapes.{item_shape}
-use Rattle.tsa_bodies.specs.Coursed.{course_of}
-use Rattle.tsa_bodies.proofs.Stepping.{first_typed}
-use Rattle.tsa_bodies.proofs.told.Teller.item.Goals as goal
-
-pub pass-requires : goal.pass-requires
-pass-requires c = record { typed = first_typed c.args.self.now.pass (course_of c.args.course.now) (item_shape c.args.item.now) c.requires.ahead.0 c.requires.ahead.1 }

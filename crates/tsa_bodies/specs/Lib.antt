@@ -1,4 +1,0 @@
-pub mod Courses
-pub mod Coursed
-pub mod Bodies
-pub mod Entered

@@ -1,0 +1,6 @@
+pub mod Points
+pub mod Walks
+pub mod Laws
+pub mod Stable
+pub mod CoreLaws
+pub mod Steps

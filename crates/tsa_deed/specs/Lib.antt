@@ -1,6 +1,0 @@
-pub mod Bodies
-pub mod Told
-pub mod Ways
-pub mod Gathering
-pub mod Judging
-pub mod Laws

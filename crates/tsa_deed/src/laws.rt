@@ -1,8 +1,0 @@
-//! Laws of the paths of functions.
-ghost use Rattle.tsa_deed.specs.Laws.{CallsAreOfTheCore};
-
-/// The function that is called at a point is the one that the core program calls there.
-#[tactic(auto, using(crate::proofs::CoreCalls::calls_are_of_the_core))]
-pub fn calls_are_of_the_core()
-    ensures { CallsAreOfTheCore }
-{}

@@ -1,9 +1,0 @@
-use Rattle.std.proofs.Common.{subst, sym}
-use Rattle.tsa_view.specs.Views.{IsViewOf}
-use Rattle.tsa_failures.proofs.spot.spot_of.Goals as goal
-
-pub returns-clause-is : goal.returns-clause-is
-returns-clause-is c u f paths w is less there = record {
-  is_case = c.case.ensures.is u f paths w (subst (IsViewOf u f paths) (sym c.view.ensures) is.view) less there;
-  before = c.statuses.ensures u f paths w is less there;
-}

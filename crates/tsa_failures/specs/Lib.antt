@@ -1,5 +1,0 @@
-pub mod Adding
-pub mod Failures
-pub mod Spots
-pub mod Passes
-pub mod Laws

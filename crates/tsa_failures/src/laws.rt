@@ -1,8 +1,0 @@
-//! The law of where rules fail.
-ghost use Rattle.tsa_failures.specs.Laws.{RulesFailAtPointsOfBodies};
-
-/// In the program of a unit a rule fails only at points of bodies, which are all points for which failures are listed.
-#[tactic(auto, using(crate::proofs::OfBodies::rules_fail_at_points_of_bodies))]
-pub fn rules_fail_at_points_of_bodies()
-    ensures { RulesFailAtPointsOfBodies }
-{}

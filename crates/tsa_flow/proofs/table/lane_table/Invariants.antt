@@ -1,7 +1,0 @@
-use Rattle.tsa_flow.specs.Lanes.{AreIdle}
-use Rattle.tsa_flow.proofs.Assigning.{AreGathered}
-use Rattle.tsa_flow.proofs.table.lane_table.Given as goal
-
--- the first paths have their lanes
-abbrev pub invariant-each : goal.invariant-each
-invariant-each l = AreIdle l.view l.claims → AreGathered l.view l.table l.cap

@@ -1,8 +1,0 @@
-use Rattle.tsa_function.proofs.KnownItems as proved
-use Rattle.tsa_function.proofs.laws.scopes_are_those_of_the_unit.Goals as goal
-
-pub returns-clause-one : goal.returns-clause-one
-returns-clause-one c = proved.members_come
-
-pub returns-clause-all : goal.returns-clause-all
-returns-clause-all c = proved.members_make

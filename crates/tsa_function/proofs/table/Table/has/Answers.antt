@@ -1,6 +1,0 @@
-use Rattle.std.proofs.Common.{◌∙◌, is_some, sym, ap}
-use Rattle.tsa_function.proofs.TableLists.{some_mapped}
-use Rattle.tsa_function.proofs.table.Table.has.Goals as goal
-
-pub returns : goal.returns
-returns c = c.is_some.ensures ∙ sym (some_mapped (λ v. v.now.items) c.find.result) ∙ ap is_some c.find.ensures

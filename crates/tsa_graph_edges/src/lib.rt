@@ -1,0 +1,12 @@
+//! The edges of the control of a body (C11 6.8).
+#![tactic(auto)]
+
+mod successors;
+mod forks;
+mod link;
+mod links;
+mod numbers;
+mod walk;
+
+pub use link::{Link, Outcome};
+pub use links::body_links;

@@ -1,4 +1,0 @@
-pub mod Units
-pub mod Tables
-pub mod Judged
-pub mod Judging

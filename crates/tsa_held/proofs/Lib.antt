@@ -1,3 +1,0 @@
-pub mod Passing
-pub mod Room
-pub mod Telling

@@ -1,9 +1,0 @@
-use Rattle.std.proofs.Common.{◌∙◌, ap}
-use Rattle.tsa_ground.specs.Judging.{outset_of, unit_at}
-use Rattle.tsa_judge.proofs.AllItems.{tables_all}
-use Rattle.tsa_judge.proofs.items.judge.Goals as goal
-
-pub returns-clause-tables : goal.returns-clause-tables
-returns-clause-tables c =
-    let u = unit_at c.args.ground.now in
-    c.into_tables.ensures ∙ ap (λ m. m.tables) c.in_ok-all.ensures.behind ∙ tables_all u (outset_of u) u.items

@@ -1,2 +1,0 @@
-pub mod CaseLaws
-pub mod TargetLaws

@@ -1,2 +1,0 @@
-pub mod SetMembers
-pub mod HeldWords

@@ -1,2 +1,0 @@
-pub mod HeldLines
-pub mod Lines

@@ -1,3 +1,0 @@
-pub mod Structs
-pub mod OfTheProgram
-pub mod Worked

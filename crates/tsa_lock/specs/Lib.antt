@@ -1,4 +1,0 @@
-pub mod Kinds
-pub mod Structs
-pub mod Laws
-pub mod Examples

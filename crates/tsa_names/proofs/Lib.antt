@@ -1,2 +1,0 @@
-pub mod DeclaredLabels
-pub mod Ends

@@ -1,4 +1,0 @@
-pub mod Arguments
-pub mod Expressions
-pub mod Members
-pub mod Told

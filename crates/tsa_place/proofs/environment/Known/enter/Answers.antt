@@ -1,0 +1,12 @@
+use Rattle.std.proofs.Common.{◌∙◌, length, ap, subst}
+use Rattle.tsa_place_layout.specs.Standing.{IsBelow}
+use Rattle.tsa_place.proofs.Putting.{on_both, enters_object}
+use Rattle.tsa_place.proofs.environment.Known.enter.Goals as goal
+
+pub returns-in-Structure : goal.returns-in-Structure
+returns-in-Structure c =
+    let owner = c.in_ok-owner.ensures ∙ ap length c.deref.ensures.value in
+    on_both c.leave.result c.leave.ensures.left c.leave.ensures.same
+    (λ leaves same.
+    enters_object c.args.self c.args.rows.now c.leave.new.self c.requires.ready c.args.one c.in-Structure.structure c.in-Structure.is
+    (subst (IsBelow (length c.args.self.structs.now)) c.in-Structure.is c.requires.defined) c.in_ok-owner.owner _ owner (same ∙ c.in_ok-put.ensures.put) c.in_ok-put.ensures.same leaves)

@@ -1,5 +1,0 @@
-pub mod Points
-pub mod Walks
-pub mod Laws
-pub mod Stable
-pub mod CoreLaws

@@ -1,0 +1,20 @@
+//! Laws of arguments.
+ghost use Rattle.tsa_profile.specs.ArgumentExamples.{ArgumentsAreAsWritten};
+ghost use Rattle.tsa_profile.specs.ArgumentLaws.{DeclaredGlobalsHoldIt, ParametersAreThoseOfTheCore};
+
+/// Expressions have the values that stand beside them, or none.
+pub fn arguments_are_as_written()
+    ensures { ArgumentsAreAsWritten }
+{}
+
+/// The parameters that are known behind all items are those of the core program.
+#[tactic(auto, using(crate::proofs::Parameters::parameters_are_those))]
+pub fn parameters_are_those_of_the_core()
+    ensures { ParametersAreThoseOfTheCore }
+{}
+
+/// A global that is declared behind all items holds at the start what an argument of its type is worth by the same expression.
+#[tactic(auto, using(crate::proofs::Declared::declared_globals_hold_it))]
+pub fn declared_globals_hold_it()
+    ensures { DeclaredGlobalsHoldIt }
+{}

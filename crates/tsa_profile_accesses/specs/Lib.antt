@@ -1,0 +1,9 @@
+pub mod Accesses
+pub mod Locks
+pub mod Premises
+pub mod Standing
+pub mod ExpressionViews
+pub mod Arguments
+pub mod Expressions
+pub mod Members
+pub mod NodeAnswers

@@ -1,0 +1,4 @@
+pub mod Units
+pub mod Tables
+pub mod Judging
+pub mod ItemJudgements

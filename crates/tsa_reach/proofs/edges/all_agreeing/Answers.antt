@@ -1,6 +1,0 @@
-use Rattle.std.proofs.Common.{◌∙◌}
-use Rattle.tsa_reach.proofs.Grids.{flag_in}
-use Rattle.tsa_reach.proofs.edges.all_agreeing.Goals as goal
-
-pub returns-clause-all : goal.returns-clause-all
-returns-clause-all c k b = flag_in c.each.grid.items k b ∙ c.each.invariant.all k b

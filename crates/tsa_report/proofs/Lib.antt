@@ -1,9 +1,0 @@
-pub mod SortedOnce
-pub mod Unique
-pub mod Having
-pub mod Beside
-pub mod Told
-pub mod Quiet
-pub mod Lines
-pub mod OneLine
-pub mod Progress

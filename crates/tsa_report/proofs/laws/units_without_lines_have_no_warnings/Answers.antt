@@ -1,5 +1,0 @@
-use Rattle.tsa_report.proofs.Quiet.{units_without_lines}
-use Rattle.tsa_report.proofs.laws.units_without_lines_have_no_warnings.Goals as goal
-
-pub returns : goal.returns
-returns c = units_without_lines

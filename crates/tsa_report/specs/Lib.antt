@@ -1,4 +1,0 @@
-pub mod Lines
-pub mod Warned
-pub mod Lined
-pub mod Laws

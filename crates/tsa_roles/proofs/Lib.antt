@@ -1,4 +1,0 @@
-pub mod Places
-pub mod Kept
-pub mod Duties
-pub mod OfPrograms

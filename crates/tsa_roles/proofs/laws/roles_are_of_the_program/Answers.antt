@@ -1,5 +1,0 @@
-use Rattle.tsa_roles.proofs.OfPrograms as of
-use Rattle.tsa_roles.proofs.laws.roles_are_of_the_program.Goals as goal
-
-pub returns : goal.returns
-returns c = of.roles_are_of_the_program

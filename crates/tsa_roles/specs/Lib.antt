@@ -1,4 +1,0 @@
-pub mod Roles
-pub mod Variables
-pub mod Told
-pub mod Laws

@@ -1,0 +1,6 @@
+pub mod Sites
+pub mod Knowing
+pub mod Entering
+pub mod Finding
+pub mod Laws
+pub mod Controls

@@ -1,0 +1,14 @@
+//! The bodies of the functions of a typed unit, by their numbers, with what is known in each.
+#![tactic(auto)]
+
+mod control;
+mod entries;
+mod knowledge;
+mod laws;
+mod search;
+
+pub use control::{control_of, graph_of};
+pub use entries::{Inside, enter_body, enter_item, leave_body};
+pub use knowledge::{Knowledge, outset, pass};
+pub use laws::sites_are_of_the_program;
+pub use search::{BodySite, site, site_in};

@@ -1,0 +1,9 @@
+pub mod Worths
+pub mod Duties
+pub mod Laws
+pub mod Examples
+pub mod ValueAnswers
+pub mod Roles
+pub mod Variables
+pub mod ProgramDuties
+pub mod RoleLaws

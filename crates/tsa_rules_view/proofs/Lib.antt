@@ -1,0 +1,15 @@
+pub mod Points
+pub mod Whole
+pub mod PathKinds
+pub mod OwnRow
+pub mod SameNotes
+pub mod Made
+pub mod Named
+pub mod NewView
+pub mod Ruled
+pub mod Small
+pub mod Leaving
+pub mod Handed
+pub mod Structs
+pub mod OfTheProgram
+pub mod Worked

@@ -1,0 +1,13 @@
+use Rattle.std.proofs.Common.{subst}
+use Rattle.std.proofs.lemmas.Result.{IfOk-weaker}
+use Rattle.tsa_rules_view.specs.Made.{IsWhole}
+use Rattle.tsa_rules_view.proofs.Made.{made}
+use Rattle.tsa_rules_view.proofs.build.Unit.view.Goals as goal
+
+pub returns-clause-view : goal.returns-clause-view
+returns-clause-view c =
+    let u = c.args.self.now in
+    let i = c.args.inside.now in
+    let noted = c.in_ok-noted.noted in
+    IfOk-weaker c.whole.result _ _
+    (λ v h. made u c.args.known.now i c.args.paths.now noted v c.in_ok-noted.ensures.noted (subst (λ k. IsWhole u k i noted v) c.in_ok-noted.ensures.known h)) c.whole.ensures

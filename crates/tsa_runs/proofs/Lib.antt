@@ -1,4 +1,0 @@
-pub mod Lists
-pub mod Paths
-pub mod Rounds
-pub mod Whole

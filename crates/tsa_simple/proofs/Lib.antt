@@ -1,3 +1,0 @@
-pub mod LocalLaws
-pub mod LoopLaws
-pub mod SimpleLaws

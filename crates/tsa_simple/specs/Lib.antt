@@ -1,4 +1,0 @@
-pub mod Leaves
-pub mod Locals
-pub mod Loops
-pub mod Simple

@@ -1,5 +1,0 @@
-pub mod Standing
-pub mod FirstBodies
-pub mod SiteLaws
-pub mod Passing
-pub mod Seeking

@@ -1,5 +1,0 @@
-use Rattle.tsa_site.proofs.SiteLaws as proved
-use Rattle.tsa_site.proofs.laws.sites_are_of_the_program.Goals as goal
-
-pub returns : goal.returns
-returns c = proved.sites_are_of_the_program

@@ -1,5 +1,0 @@
-pub mod Sites
-pub mod Knowing
-pub mod Entering
-pub mod Finding
-pub mod Laws

@@ -1,0 +1,5 @@
+use Rattle.tsa_sound_accepted.proofs.entered.SmallLayouts as small
+use Rattle.tsa_sound_accepted.proofs.entered.layouts_are_small.Goals as goal
+
+pub returns : goal.returns
+returns c = small.layouts_are_small

@@ -1,0 +1,5 @@
+use Rattle.tsa_sound_accepted.proofs.Accepted as accepted
+use Rattle.tsa_sound_accepted.proofs.laws.units_without_warnings_are_sound.Goals as goal
+
+pub returns : goal.returns
+returns c = accepted.units_without_warnings_are_sound

@@ -1,4 +1,0 @@
-use Rattle.tsa_steps.proofs.steps.put_close.Goals as goal
-
-pub returns : goal.returns
-returns c = c.put.ensures

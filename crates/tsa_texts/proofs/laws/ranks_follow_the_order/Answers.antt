@@ -1,5 +1,0 @@
-use Rattle.tsa_texts.proofs.Telling.{ranks_follow_the_order}
-use Rattle.tsa_texts.proofs.laws.ranks_follow_the_order.Goals as goal
-
-pub returns : goal.returns
-returns c = ranks_follow_the_order

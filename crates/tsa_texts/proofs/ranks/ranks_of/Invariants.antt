@@ -1,5 +1,0 @@
-use Rattle.tsa_texts.proofs.Placing.{PlacesUpTo}
-use Rattle.tsa_texts.proofs.ranks.ranks_of.Given as goal
-
-abbrev pub invariant-each : goal.invariant-each
-invariant-each l = PlacesUpTo l.order l.ranks.items l.rank

@@ -1,5 +1,0 @@
-pub mod Worths
-pub mod Told
-pub mod Duties
-pub mod Laws
-pub mod Examples

@@ -1,0 +1,48 @@
+//! The names of the try variables of a body.
+ghost use Rattle.std.specs.Prelude.{◌≡◌, ◌+◌, ◌++◌, List, map, IfOk, OnOk};
+ghost use Rattle.tsa_core.specs.Programs.{Function, Program};
+ghost use Rattle.tsa_tool_held.specs.Held.{name_if_try, try_names_from};
+ghost use Rattle.tsa_tree.specs.statements.Shapes.{point_shape};
+ghost use Rattle.tsa_rules_view.specs.Views.{IsViewOf};
+ghost use Rattle.tsa_place_paths.specs.Ways.{Way};
+
+use std::alloc::Global;
+use tsa_base::NoMemory;
+use tsa_rules::Role;
+use tsa_warn_bodies::ToldBody;
+use tsa_tree::stmt::{Action, Point};
+
+/// Notes the name of a try variable where a point begins one.
+fn note_try<'a>(names: &mut Vec<&'a [u8]>, point: &Point<'a>, role: Role) -> Result<(), NoMemory>
+    ensures { OnOk result (map (λ name. name.now) names.new.items ≡ map (λ name. name.now) names.old.items ++ name_if_try role (point_shape point.now)) }
+{
+    let Role::Declares(_) = role else {
+        return Ok(());
+    };
+    if let Action::Declare(decl) = &point.action {
+        names.push(decl.name.text)?;
+    }
+    Ok(())
+}
+
+/// The number behind another.
+fn next(number: u32) -> Result<u32, NoMemory>
+    ensures { IfOk result (λ next. next ≡ number + 1) }
+{
+    number.checked_add(1).ok_or(NoMemory)
+}
+
+/// The names of the try variables of a body, in order of their declarations.
+pub fn try_names<'a>(alloc: Global, body: &ToldBody<'a>) -> Result<Vec<&'a [u8]>, NoMemory>
+    ensures { IfOk result (λ names. (u : Program) (f : Function) (paths : List Way) → IsViewOf u f paths body.now.flow.view
+        → map (λ name. name.now) names.items ≡ try_names_from u f 0 (map point_shape body.now.head.now.points.now)) }
+{
+    let view = body.flow.view();
+    let mut names = Vec::new(alloc);
+    let mut number: u32 = 0;
+    'each: for point in body.head.points {
+        note_try(&mut names, point, view.role(number))?;
+        number = next(number)?;
+    }
+    Ok(names)
+}

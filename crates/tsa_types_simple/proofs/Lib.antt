@@ -1,0 +1,5 @@
+pub mod LocalLaws
+pub mod LoopLaws
+pub mod SimpleLaws
+pub mod CaseLaws
+pub mod TargetLaws

@@ -1,0 +1,5 @@
+pub mod Leaves
+pub mod Locals
+pub mod Loops
+pub mod Simple
+pub mod Cases

@@ -1,0 +1,201 @@
+//! Locals of a body (C11 6.8.2): each is judged where what stands before it is known, and known behind its initialiser.
+ghost use Rattle.std.specs.Prelude.{◌≡◌, ◌++◌, IfOk, OnOk, option_map};
+ghost use Rattle.tsa_tree.specs.declarations.Shapes.{decl_shape, init_shape, init_shapes};
+ghost use Rattle.tsa_tree.specs.types.Locals.{has_type as spec_has_type, can_not_go, init_breaks, names_in, names_in_init as premises_in_init, names_in_items as premises_in_items, local_premises, behind_local};
+ghost use Rattle.tsa_tree.specs.types.Premises.{first};
+ghost use Rattle.tsa_tree.specs.types.Scopes.{context_of, is_taken};
+ghost use Rattle.tsa_tree.specs.types.Symbols.{names_in_init, names_in_items, names_in_given_init, names_in_local};
+ghost use Rattle.tsa_types_simple.specs.Locals.{local_by, value_breaks};
+
+use tsa_base::{NoMemory, Span};
+use tsa_types_operators::goes_to;
+use tsa_types_expressions::{Found, View, Written, at, first_of, typed_failure};
+use tsa_types_scope::{Scope, Symbols};
+use tsa_tree::decl::{Decl, Init};
+use tsa_tree::kind::{Declaring, Resolved, ThingType};
+use tsa_tree::meaning::{Entry, Meaning, Symbol};
+use tsa_tree::premise::{Bearer, Failure, TypeCode};
+
+/// What the initialiser of a local comes to: whether it can't go to it, and the first premise that fails in it.
+#[derive(Clone, Copy)]
+pub struct Initial {
+    pub breaks: bool,
+    pub failure: Option<Failure>,
+}
+
+/// What a local comes to by its parts: whether its name is taken, whether its type is none, and what is wrong with the rest.
+#[derive(Clone, Copy)]
+pub struct LocalParts {
+    pub taken: bool,
+    pub refused: bool,
+    pub written: Written,
+    pub attributes: Option<Failure>,
+    pub init: Initial,
+}
+
+/// What was judged of a local: whether its name was taken, and what is wrong with it.
+#[derive(Clone, Copy)]
+pub struct Told {
+    pub taken: bool,
+    pub failure: Option<Failure>,
+}
+
+/// Whether a written type is one.
+fn has_type(written: Resolved) -> bool
+    ensures { result ≡ spec_has_type written }
+{
+    match written {
+        Resolved::Type(_) => true,
+        _ => false,
+    }
+}
+
+/// Whether a value can't go to a thing of a type.
+fn cannot_go(thing: ThingType, found: Result<Found, Failure>) -> bool
+    ensures { result ≡ value_breaks thing found }
+{
+    match found {
+        Ok(found) => !goes_to(found.thing, thing),
+        Err(_) => false,
+    }
+}
+
+/// What is wrong with a local at a span by its parts.
+fn local_failure(span: Span, parts: LocalParts) -> Option<Failure>
+    ensures { result ≡ local_by span parts }
+{
+    let resolved = parts.written.resolved;
+    let breaks = has_type(resolved) && parts.init.breaks;
+    if let Some(failure) = typed_failure(parts.taken, parts.refused || breaks, span, resolved) {
+        return Some(failure);
+    }
+    let rest = first_of(parts.attributes, parts.init.failure);
+    first_of(parts.written.length, rest)
+}
+
+/// The expressions of an initialiser that goes to no local, or of the items of one.
+#[cycle(naming)]
+#[tactic(auto, unfolding(tsa_tree::specs::types::Symbols::names_in_init), using(crate::proofs::LocalLaws::names))]
+fn names_failure(
+    view: View<'_, '_>,
+    symbols: &mut Symbols,
+    init: &Init<'_>,
+) -> Result<Option<Failure>, NoMemory>
+    ensures judged { IfOk result (λ failure. failure ≡ first (premises_in_init view.entry.scope.now (init_shape init.now))) }
+    ensures names { OnOk result (symbols.new ≡ symbols.old ++ names_in_init (context_of view.entry.scope.now) view.entry.function (init_shape init.now)) }
+{
+    match init {
+        Init::Value(expr) => {
+            let found = view.expression(symbols, expr)?;
+            Ok(found.err())
+        }
+        Init::List { items, .. } => items_failure(view, symbols, items),
+    }
+}
+
+/// The expressions of the items of a list.
+#[cycle(naming)]
+fn items_failure(
+    view: View<'_, '_>,
+    symbols: &mut Symbols,
+    items: &[Init<'_>],
+) -> Result<Option<Failure>, NoMemory>
+    ensures judged { IfOk result (λ failure. failure ≡ first (premises_in_items view.entry.scope.now (init_shapes items.now))) }
+    ensures names { OnOk result (symbols.new ≡ symbols.old ++ names_in_items (context_of view.entry.scope.now) view.entry.function (init_shapes items.now)) }
+{
+    let mut failure = None;
+    'each: for item in items {
+        failure = first_of(failure, names_failure(view, symbols, item)?);
+    }
+    Ok(failure)
+}
+
+/// The initialiser of a local of a type: a list goes to none.
+#[tactic(auto, unfolding(tsa_tree::specs::types::Symbols::names_in_init), using(crate::proofs::LocalLaws::initial))]
+fn initialiser(
+    view: View<'_, '_>,
+    symbols: &mut Symbols,
+    thing: ThingType,
+    init: &Init<'_>,
+) -> Result<Initial, NoMemory>
+    ensures breaks { IfOk result (λ told. told.breaks ≡ can_not_go view.entry.scope.now thing (init_shape init.now)) }
+    ensures failure { IfOk result (λ told. told.failure ≡ first (premises_in_init view.entry.scope.now (init_shape init.now))) }
+    ensures names { OnOk result (symbols.new ≡ symbols.old ++ names_in_init (context_of view.entry.scope.now) view.entry.function (init_shape init.now)) }
+{
+    match init {
+        Init::Value(expr) => {
+            let found = view.expression(symbols, expr)?;
+            Ok(Initial {
+                breaks: cannot_go(thing, found),
+                failure: found.err(),
+            })
+        }
+        Init::List { items, .. } => {
+            let failure = items_failure(view, symbols, items)?;
+            Ok(Initial {
+                breaks: true,
+                failure,
+            })
+        }
+    }
+}
+
+/// The initialiser of a local of a type, where there is one.
+#[tactic(auto, using(crate::proofs::LocalLaws::initial, tsa_types_expressions::proofs::SymbolLaws::notes))]
+fn initial_of(
+    view: View<'_, '_>,
+    symbols: &mut Symbols,
+    thing: ThingType,
+    init: Option<&Init<'_>>,
+) -> Result<Initial, NoMemory>
+    ensures breaks { IfOk result (λ told. told.breaks ≡ init_breaks view.entry.scope.now thing (option_map (λ x. init_shape x.now) init.entry)) }
+    ensures failure { IfOk result (λ told. told.failure ≡ first (names_in view.entry.scope.now (option_map (λ x. init_shape x.now) init.entry))) }
+    ensures names { OnOk result (symbols.new ≡ symbols.old ++ names_in_given_init (context_of view.entry.scope.now) view.entry.function (option_map (λ x. init_shape x.now) init.entry)) }
+{
+    match init {
+        Some(init) => initialiser(view, symbols, thing, init),
+        None => Ok(Initial {
+            breaks: false,
+            failure: None,
+        }),
+    }
+}
+
+/// A local of a function, which is known behind it where its name isn't taken. The names in it are noted.
+#[tactic(auto, unfolding(tsa_tree::specs::types::Symbols::names_in_declaration), using(crate::proofs::LocalLaws::local, tsa_types_expressions::proofs::SymbolLaws::notes))]
+pub fn declare_local<'a>(
+    scope: &mut Scope<'a>,
+    symbols: &mut Symbols,
+    function: u32,
+    decl: &Decl<'a>,
+) -> Result<Told, NoMemory>
+    ensures taken { IfOk result (λ told. told.taken ≡ is_taken decl.now.name.text.now scope.old) }
+    ensures judged { IfOk result (λ told. told.failure ≡ first (local_premises scope.old (decl_shape decl.now))) }
+    ensures behind { OnOk result (scope.new ≡ behind_local scope.old (decl_shape decl.now)) }
+    ensures names { OnOk result (symbols.new ≡ symbols.old ++ names_in_local scope.old function (decl_shape decl.now)) }
+{
+    let number = scope.next_local();
+    symbols.note(decl.name.span, Symbol::Local { function, number })?;
+    let view = View { scope, function };
+    let written = view.written(symbols, &decl.ctype)?;
+    let refused = view.is_refused(Declaring::Thing, written.resolved);
+    let attributes = view.attributes(symbols, Bearer::Local, decl.attrs)?;
+    let init = initial_of(view, symbols, written.thing, decl.init.as_ref())?;
+    let entry = Entry {
+        meaning: Meaning::Local(number),
+        thing: written.thing,
+    };
+    let taken = !scope.declare(decl.name.text, entry)?;
+    scope.count_local()?;
+    let parts = LocalParts {
+        taken,
+        refused,
+        written,
+        attributes,
+        init,
+    };
+    Ok(Told {
+        taken,
+        failure: local_failure(decl.span, parts),
+    })
+}

@@ -1,4 +1,0 @@
-use Rattle.tsa_view.proofs.calls.exit_status.Goals as goal
-
-pub returns : goal.returns
-returns c u f paths w v less at = c.exit.ensures.is u f c.args.point w (c.case.ensures.is u f paths w v less at)

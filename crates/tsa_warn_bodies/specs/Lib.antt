@@ -1,0 +1,4 @@
+pub mod Courses
+pub mod Bodies
+pub mod BodyCourses
+pub mod BodyEntries

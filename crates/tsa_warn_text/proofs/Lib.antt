@@ -1,0 +1,12 @@
+pub mod Comparing
+pub mod Counting
+pub mod Gathering
+pub mod Placing
+pub mod Ranking
+pub mod Sorting
+pub mod Telling
+pub mod LocalTexts
+pub mod DeclaredLabels
+pub mod Ends
+pub mod SetMembers
+pub mod HeldWords

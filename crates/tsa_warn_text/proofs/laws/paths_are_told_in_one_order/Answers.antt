@@ -1,0 +1,11 @@
+use Rattle.tsa_warn_text.proofs.Telling.{one_is_told_first, not_both_are_told_first, order_is_transitive}
+use Rattle.tsa_warn_text.proofs.laws.paths_are_told_in_one_order.Goals as goal
+
+pub returns-clause-one : goal.returns-clause-one
+returns-clause-one c = one_is_told_first
+
+pub returns-clause-not_both : goal.returns-clause-not_both
+returns-clause-not_both c = not_both_are_told_first
+
+pub returns-clause-transitive : goal.returns-clause-transitive
+returns-clause-transitive c = order_is_transitive

@@ -1,0 +1,5 @@
+pub mod Orders
+pub mod Ranks
+pub mod DeclaredNames
+pub mod HeldLines
+pub mod Lines
