@@ -1,6 +1,6 @@
 //! What walks bring to the points of a function: the statuses of its first path, and whether edges agree; and the rules that fail there.
 ghost use Rattle.std.specs.Prelude.{◌≡◌, Ok};
-ghost use Rattle.tsa_place.specs.Units.{placed_in};
+ghost use Rattle.tsa_place_model.specs.Units.{placed_in};
 ghost use Rattle.tsa_tree.specs.units.Shapes.{item_shapes};
 
 use crate::paths::Caller;
@@ -16,8 +16,7 @@ use tsa_place::Places;
 use tsa_profile::Fit;
 use tsa_rules::Statuses;
 use tsa_warn_text::PathTexts;
-use tsa_warn_function::RuleFailure;
-use tsa_warn_function::warnings_of;
+use tsa_warn_function::{RuleFailure, warnings_of};
 
 // What the unit's functions see of it.
 const NAMES: Caller = Caller {

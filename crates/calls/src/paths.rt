@@ -7,7 +7,7 @@ use std::alloc::Global;
 use std::test::Fail;
 use tsa_base::NoMemory;
 use tsa_path::{Named, PathNames, PathTable, constant_path, path_text, substitute};
-use tsa_place_paths::{Path, PathStep, Root};
+use tsa_place_model::{Path, PathStep, Root};
 
 /// The names of a caller: of globals and locals by their numbers, and of the members of one struct.
 pub struct Caller {

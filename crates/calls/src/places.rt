@@ -6,7 +6,7 @@ use crate::units::{Row, Shown, others};
 use std::alloc::Global;
 use std::test::Fail;
 use tsa_base::Value;
-use tsa_place_layout::{Guard, PlaceKind};
+use tsa_place_model::{Guard, PlaceKind};
 use tsa_place::Places;
 
 // A word, where something is so.

@@ -2,7 +2,7 @@
 ghost use Rattle.std.specs.Prelude.{◌≡◌, ◌≤◌, Ok, length};
 ghost use Rattle.tsa_base.specs.declared.limits.TheConstants.{INPUT_LIMIT as LONGEST};
 ghost use Rattle.tsa_place.specs.Answers.{Gives};
-ghost use Rattle.tsa_place.specs.Units.{placed_in};
+ghost use Rattle.tsa_place_model.specs.Units.{placed_in};
 ghost use Rattle.tsa_tree.specs.tokens.Signs.{lexemes};
 ghost use Rattle.tsa_tree.specs.tokens.Texts.{AreOfText};
 ghost use Rattle.tsa_tree.specs.units.Shapes.{item_shapes};
@@ -18,8 +18,7 @@ use std::alloc::Global;
 use std::test::Fail;
 use tsa_base::{NoMemory, Token};
 use tsa_flow::{Flowed, flow};
-use tsa_place::PlaceRefusal;
-use tsa_place::Places;
+use tsa_place::{PlaceRefusal, Places};
 use tsa_profile::{Fit, fit};
 use tsa_tree::Parsed;
 use tsa_types::{Typed, type_check};

@@ -22,11 +22,11 @@ use Rattle.tsa_tree.specs.types.Scopes.{Scope, FunctionEntry, found, context_of,
 use Rattle.tsa_tree.specs.types.Statements.{Around, statements_premises}
 use Rattle.tsa_tree.specs.types.Units.{outset, around_body, body_premises, item_premises, behind_item, items_premises}
 use Rattle.tsa_tree.specs.units.Syntax.{UnitItem, structure_item, alias_item, enumeration_item, global_item, function_item, body_item}
-use Rattle.tsa_place_layout.specs.Calls.{Layout}
-use Rattle.tsa_place.specs.Leading.{HasPlaces}
-use Rattle.tsa_place.specs.Items.{behind_data}
-use Rattle.tsa_place.specs.GlobalPlaces.{no_places}
-use Rattle.tsa_place.specs.Units.{data_placed, too_many_at, or_behind, placed_behind}
+use Rattle.tsa_place_model.specs.Calls.{Layout}
+use Rattle.tsa_place_model.specs.Leading.{HasPlaces}
+use Rattle.tsa_place_model.specs.Items.{behind_data}
+use Rattle.tsa_place_model.specs.GlobalPlaces.{no_places}
+use Rattle.tsa_place_model.specs.Units.{data_placed, too_many_at, or_behind, placed_behind}
 use Rattle.tsa_core.proofs.MappedLists.{map_front}
 use Rattle.tsa_core.specs.KindLaws.{kinds_of}
 use Rattle.tsa_core.specs.Programs.{Bodied, bodied_by, bodied_function, body_in}

@@ -14,7 +14,7 @@ use Rattle.tsa_tree.specs.types.Expressions.{type_of, types_of, unless, both, ar
 use Rattle.tsa_tree.specs.types.Operands.{goes_to, lacks, breaks_prefix, breaks_binary, prefix_type, binary_type}
 use Rattle.tsa_tree.specs.types.Runnable.{has_call, have_call, is_free, is_whole, is_call, is_compared, is_comparison, is_condition}
 use Rattle.tsa_tree.specs.types.Scopes.{Scope, context_of}
-use Rattle.tsa_types_scope.specs.Lookups.{params_in}
+use Rattle.tsa_tree.specs.types.Lookups.{params_in}
 use Rattle.tsa_core.proofs.CallsHold.{none_is_more, more_is_none, one_less, call_called, call_whole}
 use Rattle.tsa_core.proofs.KindTests.{both_true, neither, not_false, not_true, one_of}
 use Rattle.tsa_core.proofs.KindsOfTerms.{of_one, of_two}

@@ -19,8 +19,8 @@ use Rattle.tsa_tree.specs.types.Expressions.{type_of, types_of, unless, both, kn
 use Rattle.tsa_tree.specs.types.Operands.{is_scalar, goes_to, lacks, breaks_prefix, breaks_binary, breaks_comparison, comparable, prefix_type, binary_type}
 use Rattle.tsa_tree.specs.types.Runnable.{has_call, have_call, is_free, is_whole, is_call, is_compared, is_comparison, is_condition, is_small}
 use Rattle.tsa_tree.specs.types.Scopes.{Scope, context_of, known_in}
-use Rattle.tsa_types_scope.specs.Lookups.{params_in}
-use Rattle.tsa_place_layout.specs.Calls.{Layout}
+use Rattle.tsa_tree.specs.types.Lookups.{params_in}
+use Rattle.tsa_place_model.specs.Calls.{Layout}
 use Rattle.tsa_core.specs.Kinds.{Setting, Belongs, GivesAnswer, GiveAnswer}
 use Rattle.tsa_core.specs.Meanings.{Call, meaning, as_kind, arguments, call_of, or_call, call_in}
 use Rattle.tsa_core.specs.PointKinds.{Signatures, Serves, ArgsServe, CallHolds, answer_of, at_point}

@@ -27,7 +27,7 @@ use Rattle.tsa_tree.specs.types.Premises.{first}
 use Rattle.tsa_tree.specs.types.Runnable.{is_whole, is_free, is_condition, is_small, is_whole_init, is_whole_given, has_call, local_runs, is_scalar_kind}
 use Rattle.tsa_tree.specs.types.Scopes.{Scope, context_of, known_in}
 use Rattle.tsa_tree.specs.types.Simple.{assignment_breaks, is_written_to, assignment_premises, is_void, return_breaks, parts_of}
-use Rattle.tsa_place_layout.specs.Calls.{Layout}
+use Rattle.tsa_place_model.specs.Calls.{Layout}
 use Rattle.tsa_core.specs.Bodies.{assigned, declared, point_by}
 use Rattle.tsa_core.specs.Kinds.{Setting, scalar_kind, place_type, value_kind, Belongs}
 use Rattle.tsa_core.specs.Meanings.{loaded, of_call, as_kind, meaning, call_of, call_in}

@@ -22,7 +22,7 @@ use Rattle.tsa_tree.specs.types.Structs.{members_behind}
 use Rattle.tsa_tree.specs.types.Types.{single}
 use Rattle.tsa_tree.specs.types.Units.{outset, behind_item}
 use Rattle.tsa_tree.specs.units.Syntax.{UnitItem, structure_item, alias_item, enumeration_item, global_item, function_item, body_item}
-use Rattle.tsa_place_paths.specs.LockPaths.{stable_in}
+use Rattle.tsa_place_model.specs.LockPaths.{stable_in}
 use Rattle.tsa_core.specs.Bodies.{Known, known_in_body, point_of}
 use Rattle.tsa_core.specs.Laws.{HasName, KnowsNumbers, FunctionsAreNumbered, UsesStandBesidePoints}
 use Rattle.tsa_core.specs.Uses.{uses_of}

@@ -19,8 +19,8 @@ use Rattle.tsa_tree.specs.types.Operands.{integer_kind, is_integer, is_array, la
 use Rattle.tsa_tree.specs.types.Runnable.{is_small, is_scalar_kind}
 use Rattle.tsa_tree.specs.types.Scopes.{Scope, Members, context_of, known_in}
 use Rattle.tsa_tree.specs.types.Types.{single, value, place}
-use Rattle.tsa_types_scope.specs.Lookups.{members_at, numbered}
-use Rattle.tsa_place_layout.specs.Layouts.{Part, structure_at}
+use Rattle.tsa_tree.specs.types.Lookups.{members_at, numbered}
+use Rattle.tsa_place_model.specs.Layouts.{Part, structure_at}
 use Rattle.tsa_core.proofs.MappedLists.{map_at}
 use Rattle.tsa_core.specs.Kinds.{Setting, struct_in, within, member_thing, by_index, place_type, is_value_kind, AgreesBy, Agrees, Belongs, GivesAnswer, GiveAnswer, TermsHaveTheirKinds}
 use Rattle.tsa_core.specs.Meanings.{is_place, loaded, of_number, name_term, of_name, of_call, null_pointer, base_of, to_member, of_field, meaning}

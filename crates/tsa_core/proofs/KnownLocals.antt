@@ -21,7 +21,7 @@ use Rattle.tsa_tree.specs.types.DeclaredTypes.{thing_type}
 use Rattle.tsa_tree.specs.types.Locals.{local_entry, unless_taken}
 use Rattle.tsa_tree.specs.types.Operands.{integer_kind, pointer_kind, unsigned_kind}
 use Rattle.tsa_tree.specs.types.Scopes.{Scope, found, further, is_taken, known_in}
-use Rattle.tsa_types_scope.specs.Lookups.{params_in}
+use Rattle.tsa_tree.specs.types.Lookups.{params_in}
 use Rattle.tsa_core.specs.Bodies.{known_in_body, knows, declared, right_side, set_to}
 use Rattle.tsa_core.specs.Laws.{SpeaksBelow, CallsBelow, ActsBelow, IsBelow, KnowsBelow, PointBelow, PointsSpeakOfKnown}
 use Rattle.tsa_core.specs.Meanings.{Call, is_place, is_cell, loaded, name_term, of_name, of_call, prefix_term, beside, operands, base_of, to_member, meaning, is_int, as_kind, arguments, call_by, call_of, call_in, or_call}

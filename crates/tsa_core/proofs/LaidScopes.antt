@@ -30,14 +30,14 @@ use Rattle.tsa_tree.specs.types.Structs.{members_behind}
 use Rattle.tsa_tree.specs.types.Types.{single}
 use Rattle.tsa_tree.specs.types.Units.{behind_item, item_premises}
 use Rattle.tsa_tree.specs.units.Syntax.{UnitItem, structure_item, alias_item, enumeration_item, global_item, function_item, body_item}
-use Rattle.tsa_place_layout.specs.Calls.{Layout}
-use Rattle.tsa_place_layout.specs.Layouts.{Part, Structure, Structures, structure_at}
-use Rattle.tsa_place_layout.specs.Parts.{whole, structure_in}
-use Rattle.tsa_place_layout.proofs.Standing.{earlier_structure}
-use Rattle.tsa_place.specs.Items.{known_global, global_part}
-use Rattle.tsa_place.specs.GlobalPlaces.{with_structure, with_part}
-use Rattle.tsa_place.specs.Units.{data_placed}
-use Rattle.tsa_place.proofs.Laid.{front_at, last_at, by_last}
+use Rattle.tsa_place_model.specs.Calls.{Layout}
+use Rattle.tsa_place_model.specs.Layouts.{Part, Structure, Structures, structure_at}
+use Rattle.tsa_place_model.specs.Parts.{whole, structure_in}
+use Rattle.tsa_place_model.proofs.Standing.{earlier_structure}
+use Rattle.tsa_place_model.specs.Items.{known_global, global_part}
+use Rattle.tsa_place_model.specs.GlobalPlaces.{with_structure, with_part}
+use Rattle.tsa_place_model.specs.Units.{data_placed}
+use Rattle.tsa_place_model.proofs.Laid.{front_at, last_at, by_last}
 use Rattle.tsa_core.proofs.ScopesAlike.{Alike}
 use Rattle.tsa_core.proofs.UnitScopes.{part_same, parts_same, struct_told, global_told}
 

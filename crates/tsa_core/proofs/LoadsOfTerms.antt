@@ -16,7 +16,7 @@ use Rattle.tsa_tree.specs.types.Expressions.{type_of, types_of, unless, result_t
 use Rattle.tsa_tree.specs.types.Operands.{integer_kind, pointer_kind, unsigned_kind, is_scalar, comparable, goes_to, lacks, breaks_prefix, breaks_binary, breaks_comparison, breaks_index, prefix_type, binary_type, element_type}
 use Rattle.tsa_tree.specs.types.Runnable.{has_call}
 use Rattle.tsa_tree.specs.types.Scopes.{Scope, context_of, known_in}
-use Rattle.tsa_types_scope.specs.Lookups.{members_at, numbered}
+use Rattle.tsa_tree.specs.types.Lookups.{members_at, numbered}
 use Rattle.tsa_core.proofs.KindTests.{neither, not_false, not_true}
 use Rattle.tsa_core.proofs.KindsOfTerms.{of_one, of_two, of_owner, typed}
 use Rattle.tsa_core.proofs.MappedLists.{map_append}

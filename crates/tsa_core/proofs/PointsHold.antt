@@ -14,8 +14,8 @@ use Rattle.tsa_tree.specs.types.Locals.{local_entry}
 use Rattle.tsa_tree.specs.types.Scopes.{Scope, found, further, with_name}
 use Rattle.tsa_tree.specs.types.Units.{outset}
 use Rattle.tsa_tree.specs.units.Syntax.{UnitItem}
-use Rattle.tsa_place_layout.specs.Calls.{Layout}
-use Rattle.tsa_place.specs.Units.{placed_in}
+use Rattle.tsa_place_model.specs.Calls.{Layout}
+use Rattle.tsa_place_model.specs.Units.{placed_in}
 use Rattle.tsa_core.proofs.MappedLists.{map_at}
 use Rattle.tsa_core.specs.Bodies.{Known, knows, known_all, known_in_body, point_of}
 use Rattle.tsa_core.specs.KindLaws.{PointsHaveTheirKinds, signatures, kinds_of, setting}

@@ -4,9 +4,9 @@ use Rattle.tsa_tree.specs.declared.kind.Kind.{Kind}
 use Rattle.tsa_tree.specs.types.DeclaredTypes.{thing_type}
 use Rattle.tsa_tree.specs.types.Units.{outset}
 use Rattle.tsa_tree.specs.units.Syntax.{UnitItem}
-use Rattle.tsa_place_layout.specs.Calls.{Layout}
-use Rattle.tsa_place.specs.Leading.{HasPlaces}
-use Rattle.tsa_place.specs.Units.{placed_in}
+use Rattle.tsa_place_model.specs.Calls.{Layout}
+use Rattle.tsa_place_model.specs.Leading.{HasPlaces}
+use Rattle.tsa_place_model.specs.Units.{placed_in}
 use Rattle.tsa_core.proofs.MappedLists.{map_at}
 use Rattle.tsa_core.specs.Bodies.{Body}
 use Rattle.tsa_core.specs.KindLaws.{signatures, param_kinds, kinds_of, function_locals, ProgramsAreWellKinded}

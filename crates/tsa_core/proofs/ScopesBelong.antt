@@ -15,7 +15,7 @@ use Rattle.tsa_tree.specs.types.Runnable.{is_small, is_whole_init, is_condition,
 use Rattle.tsa_tree.specs.types.Scopes.{Scope, found, context_of, further, is_taken, known_in, with_name}
 use Rattle.tsa_tree.specs.types.Statements.{behind, behind_init}
 use Rattle.tsa_tree.specs.types.Targets.{declared_in}
-use Rattle.tsa_place_layout.specs.Calls.{Layout}
+use Rattle.tsa_place_model.specs.Calls.{Layout}
 use Rattle.tsa_core.proofs.MappedLists.{map_length}
 use Rattle.tsa_core.specs.Bodies.{Known, knows, known_init, known_step, known, known_all, known_in_body, kinds_by, kinds_declared}
 use Rattle.tsa_core.specs.KindLaws.{ScopesBelong, param_kinds, kinds_of, setting}

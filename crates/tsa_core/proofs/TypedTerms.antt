@@ -7,7 +7,7 @@ use Rattle.tsa_tree.specs.expressions.Syntax.{number, null, named, call, unary, 
 use Rattle.tsa_tree.specs.types.Expressions.{type_of, types_of, unless, both, entry_type, result_type, member_type, owner, member_of}
 use Rattle.tsa_tree.specs.types.Operands.{prefix_type, binary_type, element_type}
 use Rattle.tsa_tree.specs.types.Scopes.{Scope, Members, found, context_of}
-use Rattle.tsa_types_scope.specs.Lookups.{members_at, numbered}
+use Rattle.tsa_tree.specs.types.Lookups.{members_at, numbered}
 use Rattle.tsa_core.specs.Laws.{TermsHaveTheirTypes}
 use Rattle.tsa_core.specs.Meanings.{meaning, of_name, of_call, to_member, of_field}
 use Rattle.tsa_core.specs.Terms.{Sense}

@@ -35,9 +35,9 @@ use Rattle.tsa_tree.specs.types.Structs.{first_place, other_struct, with_member,
 use Rattle.tsa_tree.specs.types.Types.{single}
 use Rattle.tsa_tree.specs.types.Units.{behind_item, item_premises}
 use Rattle.tsa_tree.specs.units.Syntax.{UnitItem, structure_item, alias_item, enumeration_item, global_item, function_item, body_item}
-use Rattle.tsa_place_layout.specs.Parts.{whole, parts_behind, part_in, member_behind, members_after, structure_in, unless, unless_taken, unless_named, behind_structure}
-use Rattle.tsa_place_layout.specs.Parts as laid
-use Rattle.tsa_place.specs.Items.{worth_written, worth, enumerators_behind, known_global, behind_data}
+use Rattle.tsa_place_model.specs.Parts.{whole, parts_behind, part_in, member_behind, members_after, structure_in, unless, unless_taken, unless_named, behind_structure}
+use Rattle.tsa_place_model.specs.Parts as laid
+use Rattle.tsa_place_model.specs.Items.{worth_written, worth, enumerators_behind, known_global, behind_data}
 use Rattle.tsa_core.proofs.KindTests.{both_true, not_false, neither}
 use Rattle.tsa_core.proofs.NoFailure.{none_of_both, none_of_first, constant_told, keeps_typed, HasType}
 use Rattle.tsa_core.proofs.ScopesAlike.{Alike, no_function, unless_so, value_same, thing_same}

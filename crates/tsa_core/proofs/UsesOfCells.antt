@@ -3,7 +3,7 @@ use Rattle.std.proofs.Common.{◌≡◌, ℕ, Bool, true, false, List, [], ◌�
 use Rattle.tsa_tree.specs.declarations.Syntax.{Initialiser, value, list}
 use Rattle.tsa_tree.specs.points.Syntax.{Deed, declares, evaluates, assigns, tests, switches, jumps, idles, returns, ends}
 use Rattle.tsa_tree.specs.types.Scopes.{Scope}
-use Rattle.tsa_place_layout.specs.Calls.{Layout}
+use Rattle.tsa_place_model.specs.Calls.{Layout}
 use Rattle.tsa_core.proofs.BodyScopes.{BeginsIn, unit_begins}
 use Rattle.tsa_core.proofs.FactsKnown.{FactsAt, each_both, all_facts}
 use Rattle.tsa_core.proofs.JustLoads.{deed_loads_just}
@@ -15,7 +15,7 @@ use Rattle.tsa_core.specs.Bodies.{knows, known_all, known_in_body}
 use Rattle.tsa_core.specs.PointLoads.{init_cells, right_cells, written_cells, cells_inside, cells_before, UsesAreOfCells, LoadsAgree, LoadsJustThose, PointsLoadTheirCells, PointsLoadJustThose}
 use Rattle.tsa_core.specs.Uses.{accesses, init_uses, uses_by}
 use Rattle.tsa_core.specs.Programs.{Bodied, bodied_function}
-use Rattle.tsa_place.specs.Leading.{HasPlaces}
+use Rattle.tsa_place_model.specs.Leading.{HasPlaces}
 use Rattle.tsa_tree.specs.types.DeclaredTypes.{thing_type}
 use Rattle.tsa_tree.specs.types.Runnable.{Runnable}
 use Rattle.tsa_tree.specs.types.Units.{outset}

@@ -3,12 +3,12 @@ use Rattle.std.proofs.Common.{refl}
 use Rattle.tsa_tree.proofs.types.Computed.{computed}
 use Rattle.tsa_lex.specs.Puncts.{is_pair}
 use Rattle.tsa_lex.specs.Quick.{quick_longest, front_with, quick_pieces_at}
-use Rattle.tsa_place_paths.specs.LockPaths.{leads}
-use Rattle.tsa_place_layout.specs.Layouts.{structure_at, size_of}
-use Rattle.tsa_place_layout.specs.Places.{places_inside}
-use Rattle.tsa_place_layout.specs.Parts.{argument_ways, guard_ways, parts_behind, members_after}
-use Rattle.tsa_place.specs.Items.{enumerators_behind}
-use Rattle.tsa_place.specs.Units.{placed_behind}
+use Rattle.tsa_place_model.specs.LockPaths.{leads}
+use Rattle.tsa_place_model.specs.Layouts.{structure_at, size_of}
+use Rattle.tsa_place_model.specs.Places.{places_inside}
+use Rattle.tsa_place_model.specs.Parts.{argument_ways, guard_ways, parts_behind, members_after}
+use Rattle.tsa_place_model.specs.Items.{enumerators_behind}
+use Rattle.tsa_place_model.specs.Units.{placed_behind}
 use Rattle.tsa_core.specs.Meanings.{meaning, arguments, call_in}
 use Rattle.tsa_core.specs.Control.{labels, labels_all, cases, cases_all, edges, edges_all}
 use Rattle.tsa_core.specs.Bodies.{known, known_all}

@@ -8,8 +8,8 @@ use Rattle.tsa_tree.specs.types.Runnable.{Runnable}
 use Rattle.tsa_tree.specs.types.Units.{outset, refusal_of_types}
 use Rattle.tsa_tree.specs.units.Sound.{SoundItems}
 use Rattle.tsa_tree.specs.units.Syntax.{UnitItem}
-use Rattle.tsa_place_layout.specs.Calls.{Layout}
-use Rattle.tsa_place.specs.Leading.{HasPlaces}
+use Rattle.tsa_place_model.specs.Calls.{Layout}
+use Rattle.tsa_place_model.specs.Leading.{HasPlaces}
 use Rattle.tsa_core.specs.Bodies.{Body, known_in_body}
 use Rattle.tsa_core.specs.Kinds.{Setting, Belongs}
 use Rattle.tsa_core.specs.PointKinds.{Signatures, PointHolds}

@@ -11,8 +11,8 @@ use Rattle.tsa_tree.specs.types.Scopes.{Scope}
 use Rattle.tsa_tree.specs.types.Units.{outset}
 use Rattle.tsa_tree.specs.units.Sound.{SoundItems}
 use Rattle.tsa_tree.specs.units.Syntax.{UnitItem}
-use Rattle.tsa_place_layout.specs.Calls.{Layout}
-use Rattle.tsa_place.specs.Leading.{HasPlaces}
+use Rattle.tsa_place_model.specs.Calls.{Layout}
+use Rattle.tsa_place_model.specs.Leading.{HasPlaces}
 use Rattle.tsa_core.specs.Bodies.{Action, evaluate, set_local, set_cell, declare, test, branch, go_on, give, Point, Known, known_in_body, point_of}
 use Rattle.tsa_core.specs.Cells.{own_cell, inner_cells, cells_read, read_before}
 use Rattle.tsa_core.specs.Loads.{loads, loads_with, places}

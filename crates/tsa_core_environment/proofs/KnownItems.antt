@@ -23,9 +23,9 @@ use Rattle.tsa_tree.specs.types.Premises.{first}
 use Rattle.tsa_tree.specs.types.Scopes.{Scope, Members, found, context_of, tag_in, with_owned, with_name, with_named, with_struct, with_alias, a_type_name, is_taken, is_named_taken}
 use Rattle.tsa_tree.specs.types.Structs.{with_member, member_premises, members_premises, members_behind, struct_premises, behind_struct}
 use Rattle.tsa_tree.specs.types.Types.{single}
-use Rattle.tsa_place_layout.specs.Parts.{member_behind, members_after, unless, unless_taken, unless_named}
-use Rattle.tsa_place_layout.specs.Parts as laid
-use Rattle.tsa_place.specs.Items.{worth_written, worth, enumerators_behind, behind_enumeration, known_global}
+use Rattle.tsa_place_model.specs.Parts.{member_behind, members_after, unless, unless_taken, unless_named}
+use Rattle.tsa_place_model.specs.Parts as laid
+use Rattle.tsa_place_model.specs.Items.{worth_written, worth, enumerators_behind, behind_enumeration, known_global}
 use Rattle.tsa_core.proofs.KindTests.{neither}
 use Rattle.tsa_core.proofs.NoFailure.{none_of_both, none_of_first, constant_told, keeps_typed, HasType}
 use Rattle.tsa_core.proofs.UnitScopes.{declared_told, struct_told, global_told, named_struct}

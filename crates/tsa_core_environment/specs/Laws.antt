@@ -7,7 +7,7 @@ use Rattle.tsa_tree.specs.expressions.Syntax.{Identifier}
 use Rattle.tsa_tree.specs.types.Premises.{first}
 use Rattle.tsa_tree.specs.types.Scopes.{Scope, Members, with_owned}
 use Rattle.tsa_tree.specs.types.Structs.{struct_premises, behind_struct}
-use Rattle.tsa_place_layout.specs.Parts.{member_behind, members_after}
+use Rattle.tsa_place_model.specs.Parts.{member_behind, members_after}
 use Rattle.tsa_core_environment.specs.Members.{behind_member, with_members}
 
 -- a member behind others, where outside of the struct no members are looked up first

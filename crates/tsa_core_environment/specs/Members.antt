@@ -5,7 +5,7 @@ use Rattle.tsa_tree.specs.declared.kind.Kind.TheVariants as type
 use Rattle.tsa_tree.specs.expressions.Syntax.{Identifier}
 use Rattle.tsa_tree.specs.types.Scopes.{Scope, Members, with_owned, with_struct, a_type_name}
 use Rattle.tsa_tree.specs.types.Types.{single}
-use Rattle.tsa_place_layout.specs.Parts.{member_behind, unless_named}
+use Rattle.tsa_place_model.specs.Parts.{member_behind, unless_named}
 
 -- The type of a member is told without the members before it.
 abbrev pub behind_member : Scope → Declaration → Scope

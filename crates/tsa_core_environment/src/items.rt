@@ -1,6 +1,6 @@
 //! The items of a typed unit, each of which is known behind itself (C11 6.9).
 ghost use Rattle.std.specs.Prelude.{◌≡◌, ◌+◌, None, Some, option_map, OnOk};
-ghost use Rattle.tsa_place.specs.Items.{known_global};
+ghost use Rattle.tsa_place_model.specs.Items.{known_global};
 ghost use Rattle.tsa_tree.specs.declarations.Shapes.{decl_shape, type_shape, enumerator_shapes};
 ghost use Rattle.tsa_tree.specs.expressions.Shapes.{name_shape};
 ghost use Rattle.tsa_tree.specs.types.DeclaredTypes.{thing_type, declared_premises};

@@ -1,7 +1,7 @@
 //! The members of a struct one behind the other, and what is known behind the struct (C11 6.7.2.1).
 ghost use Rattle.std.specs.Prelude.{◌≡◌, [], None, option_map, OnOk};
 ghost use Rattle.tsa_core_environment.specs.Members.{behind_member, with_members};
-ghost use Rattle.tsa_place_layout.specs.Parts.{member_behind, members_after};
+ghost use Rattle.tsa_place_model.specs.Parts.{member_behind, members_after};
 ghost use Rattle.tsa_tree.specs.attributes.Syntax.{attr_shapes};
 ghost use Rattle.tsa_tree.specs.declarations.Shapes.{decl_shape, decl_shapes};
 ghost use Rattle.tsa_tree.specs.expressions.Shapes.{name_shape};

@@ -10,7 +10,7 @@ use Rattle.tsa_tree.specs.declared.meaning.Meaning.TheVariants as known
 use Rattle.tsa_tree.specs.expressions.Syntax.{Expression, Arguments, number, null, named, call, unary, binary, field, index, none, more}
 use Rattle.tsa_tree.specs.points.Syntax.{Deed, declares, evaluates, assigns, tests, switches, jumps, idles, returns, ends}
 use Rattle.tsa_tree.specs.types.Scopes.{Scope, known_in, with_locals}
-use Rattle.tsa_types_scope.specs.Lookups.{params_in}
+use Rattle.tsa_tree.specs.types.Lookups.{params_in}
 use Rattle.tsa_core.specs.Bodies.{knows, point, test, point_of}
 use Rattle.tsa_core.specs.Meanings.{meaning, of_prefix, of_binary, of_field, of_index, arguments, as_kind, loaded, call_of, or_call, call_in}
 use Rattle.tsa_core_points.specs.CoreLaws.{seen_at}

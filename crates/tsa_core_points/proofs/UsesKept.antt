@@ -12,11 +12,11 @@ use Rattle.tsa_tree.specs.expressions.Syntax.{Expression, Arguments, number, nul
 use Rattle.tsa_tree.specs.points.Syntax.{Deed, declares, evaluates, assigns, tests, switches, jumps, idles, returns, ends}
 use Rattle.tsa_tree.specs.types.Expressions.{owner}
 use Rattle.tsa_tree.specs.types.Scopes.{Scope, known_in, with_locals}
-use Rattle.tsa_types_scope.specs.Lookups.{params_in}
-use Rattle.tsa_place_paths.specs.Arguments.{index_argument, argument_way, way_of}
-use Rattle.tsa_place_paths.specs.LockPaths.{meant, member_step, element_step, is_pointer, leads}
-use Rattle.tsa_place_paths.specs.Ways.{Way}
-use Rattle.tsa_place_layout.specs.Calls.{Layout}
+use Rattle.tsa_tree.specs.types.Lookups.{params_in}
+use Rattle.tsa_place_model.specs.Arguments.{index_argument, argument_way, way_of}
+use Rattle.tsa_place_model.specs.LockPaths.{meant, member_step, element_step, is_pointer, leads}
+use Rattle.tsa_place_model.specs.Ways.{Way}
+use Rattle.tsa_place_model.specs.Calls.{Layout}
 use Rattle.tsa_core.specs.Bodies.{Known, knows}
 use Rattle.tsa_core.specs.Cells.{own_cell, inner_cells, argument_cells, cells_read}
 use Rattle.tsa_core.specs.Meanings.{is_loaded, or_call}

@@ -5,7 +5,7 @@ use Rattle.tsa_tree.specs.declared.kind.Kind.{Kind}
 use Rattle.tsa_tree.specs.points.Syntax.{Deed, tests, ends}
 use Rattle.tsa_tree.specs.statements.Syntax.{Statements}
 use Rattle.tsa_tree.specs.types.Scopes.{Scope, with_locals}
-use Rattle.tsa_place_layout.specs.Calls.{Layout}
+use Rattle.tsa_place_model.specs.Calls.{Layout}
 use Rattle.tsa_core.specs.Bodies.{Known, knows, known_in_body, point_of, body_of}
 use Rattle.tsa_core.specs.Uses.{uses_of}
 use Rattle.tsa_core_points.specs.Points.{PlacedPoint}

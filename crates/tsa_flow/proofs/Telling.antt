@@ -1,6 +1,6 @@
 -- What is told of the function of a number: its view, and what walks bring there.
 use Rattle.std.proofs.Common.{◌≡◌, ◌∙◌, List, Option, Some, None, option_map, refl, sym, subst}
-use Rattle.tsa_place_paths.specs.Ways.{Way}
+use Rattle.tsa_place_model.specs.Ways.{Way}
 use Rattle.tsa_core.specs.Programs.{Function, Program}
 use Rattle.tsa_profile.specs.Paths.{paths_if}
 use Rattle.tsa_rules_view.specs.Views.{IsViewBy, IsViewIn}

@@ -1,7 +1,7 @@
 -- What walks bring to the points of all functions of a unit, by their numbers; and what is told of them while the items are gone through.
 use Rattle.std.specs.Prelude.{◌≡◌, ℕ, List, [], Option, Some, None, slice_get}
 use Rattle.tsa_tree.specs.units.Syntax.{UnitItem}
-use Rattle.tsa_place_paths.specs.Ways.{Way}
+use Rattle.tsa_place_model.specs.Ways.{Way}
 use Rattle.tsa_core.specs.Programs.{Function, program_of}
 use Rattle.tsa_rules_bodies.specs.Entering.{IsOf}
 use Rattle.tsa_rules_bodies.specs.Knowing.{Knowledge}

@@ -15,13 +15,11 @@ use std::alloc::Global;
 use tsa_base::NoMemory;
 use tsa_graph::blocks_of;
 use tsa_flow_function::FunctionFlow;
-use tsa_rules_view::Unit;
-use tsa_rules_bodies::control_of;
-use tsa_rules_view::LockKind;
+use tsa_rules_view::{LockKind, Unit};
+use tsa_rules_bodies::{Inside, Knowledge, control_of, enter_item, leave_body, outset};
 use tsa_path::PathTable;
 use tsa_profile::Fit;
 use tsa_profile_context::Ground;
-use tsa_rules_bodies::{Inside, Knowledge, enter_item, leave_body, outset};
 use tsa_tree::item::Item;
 
 /// What walks bring to the points of functions, by their numbers, as far as they are told.

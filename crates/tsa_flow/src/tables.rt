@@ -1,7 +1,7 @@
 //! The tables by which the bodies of a unit are gone through.
 ghost use Rattle.std.specs.Prelude.{◌≡◌, None, Ok, IfOk};
 ghost use Rattle.tsa_core.specs.Programs.{program_of};
-ghost use Rattle.tsa_place.specs.Units.{placed_in};
+ghost use Rattle.tsa_place_model.specs.Units.{placed_in};
 ghost use Rattle.tsa_rules_view.specs.Kinds.{kinds_of};
 ghost use Rattle.tsa_tree.specs.types.FirstFailing.{first_failing};
 ghost use Rattle.tsa_tree.specs.units.Shapes.{item_shapes};

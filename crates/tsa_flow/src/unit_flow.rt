@@ -1,6 +1,6 @@
 //! What walks bring to the points of all functions of a unit.
 ghost use Rattle.std.specs.Prelude.{◌≡◌, [], Ok, option_map, IfOk};
-ghost use Rattle.tsa_place.specs.Units.{placed_in};
+ghost use Rattle.tsa_place_model.specs.Units.{placed_in};
 ghost use Rattle.tsa_flow.specs.Units.{AreTold, told_at};
 ghost use Rattle.tsa_tree.specs.units.Shapes.{item_shapes};
 

@@ -1,7 +1,7 @@
 -- The first points of blocks, and all others.
 use Rattle.std.proofs.Common.{◌≡◌, ◌∙◌, ◌<◌, ◌↔◌, ℕ, nat_eq, true, false, List, length, Some, None, slice_get, sym, ap, arith}
 use Rattle.std.proofs.lemmas.Bool.Decides.{nat_tests}
-use Rattle.tsa_place_paths.specs.Ways.{Way}
+use Rattle.tsa_place_model.specs.Ways.{Way}
 use Rattle.tsa_core.specs.Programs.{Function, Program}
 use Rattle.tsa_graph.specs.declared.sequence.Place.{Place}
 use Rattle.tsa_graph.specs.Rows.{place}

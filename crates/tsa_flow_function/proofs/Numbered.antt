@@ -1,6 +1,6 @@
 -- The view and the control of one number are of one function.
 use Rattle.std.proofs.Common.{◌≡◌, ◌∙◌, ℕ, length, false, List, Option, Some, None, is_some, refl, sym, subst, true≢false}
-use Rattle.tsa_place_paths.specs.Ways.{Way}
+use Rattle.tsa_place_model.specs.Ways.{Way}
 use Rattle.tsa_core.specs.Programs.{Function, Program}
 use Rattle.tsa_graph.specs.Between.{AreBetween}
 use Rattle.tsa_rules.specs.Points.{edges_of, points_of}

@@ -1,6 +1,6 @@
 -- What walks bring to the points of a function, path by path.
 use Rattle.std.specs.Prelude.{ℕ, List, length}
-use Rattle.tsa_place_paths.specs.Ways.{Way}
+use Rattle.tsa_place_model.specs.Ways.{Way}
 use Rattle.tsa_core.specs.Control.{Edge}
 use Rattle.tsa_core.specs.Programs.{Function, Program}
 use Rattle.tsa_graph.specs.declared.sequence.Blocks.{Blocks}

@@ -1,6 +1,6 @@
 -- What walks bring to the points of the function of a number.
 use Rattle.std.specs.Prelude.{◌≡◌, List, Option, Some, None}
-use Rattle.tsa_place_paths.specs.Ways.{Way}
+use Rattle.tsa_place_model.specs.Ways.{Way}
 use Rattle.tsa_core.specs.Programs.{Function, Program}
 use Rattle.tsa_profile.specs.Paths.{paths_if}
 use Rattle.tsa_flow_function.specs.declared.function.FunctionFlow.{FunctionFlow}

@@ -5,7 +5,7 @@ ghost use Rattle.tsa_core.specs.Programs.{Function, Program};
 ghost use Rattle.tsa_flow_function.specs.Flows.{IsFlowOf};
 ghost use Rattle.tsa_rules.specs.Points.{points_of};
 ghost use Rattle.tsa_rules.specs.Walks.{Agree, course_of};
-ghost use Rattle.tsa_place_paths.specs.Ways.{Way};
+ghost use Rattle.tsa_place_model.specs.Ways.{Way};
 
 use crate::function::FunctionFlow;
 use tsa_graph::Place;

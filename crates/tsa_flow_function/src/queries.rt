@@ -8,7 +8,7 @@ ghost use Rattle.tsa_rules.specs.Points.{edges_of, points_of};
 ghost use Rattle.tsa_rules.specs.Sets.{Has};
 ghost use Rattle.tsa_rules.specs.Walks.{Agree, ReachAt, course_of};
 ghost use Rattle.tsa_rules_view.specs.Views.{IsViewOf};
-ghost use Rattle.tsa_place_paths.specs.Ways.{Way};
+ghost use Rattle.tsa_place_model.specs.Ways.{Way};
 
 use crate::function::FunctionFlow;
 use crate::lanes::ViewLanes;

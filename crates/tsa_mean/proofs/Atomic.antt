@@ -6,7 +6,9 @@ use Rattle.tsa_base.specs.declared.value.Value.{Value}
 use Rattle.tsa_tree.specs.declared.kind.Kind.{Kind}
 use Rattle.tsa_tree.specs.declared.kind.Kind.TheVariants as type
 use Rattle.tsa_core.specs.Programs.{Program}
-use Rattle.tsa_locks.specs.Locks.{Lock, Mode, Exclusive, Shared, Taking, taken, blocked, take, give, given, holds}
+use Rattle.tsa_locks.specs.Locks.{Lock, Taking, taken, blocked, take, give, given, holds}
+use Rattle.tsa_sched.specs.declared.event.Mode.{Mode}
+use Rattle.tsa_sched.specs.declared.event.Mode.TheVariants.{Exclusive, Shared}
 use Rattle.tsa_sched.specs.declared.event.EventKind.{EventKind}
 use Rattle.tsa_sched.specs.declared.event.EventKind.TheVariants as event
 use Rattle.tsa_sched.specs.declared.pick.Pick.{Pick}

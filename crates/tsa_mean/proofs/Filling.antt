@@ -10,8 +10,8 @@ use Rattle.tsa_tree.specs.declared.number.Number.{Number}
 use Rattle.tsa_tree.specs.declared.number.Trap.{Trap}
 use Rattle.tsa_tree.specs.declared.number.Trap.TheVariants.{Overflow, Division}
 use Rattle.tsa_tree.specs.types.Arithmetic.{operate, operate_prefix}
-use Rattle.tsa_place_layout.specs.Calls.{index_in, Layout, member_place}
-use Rattle.tsa_place_layout.specs.Stores.{Store}
+use Rattle.tsa_place_model.specs.Calls.{index_in, Layout, member_place}
+use Rattle.tsa_place_model.specs.Stores.{Store}
 use Rattle.tsa_core.specs.Terms.{Term, constant, variable, answer, global, member, element, target, load, address, converted, prefixed, joined}
 use Rattle.tsa_path.specs.Values.{at_index, in_kind, is_true, join, number_in, of_truth, on_pointers, place_of, pointed_place, prefix_value, values_of, with_first, worth}
 use Rattle.tsa_sched.specs.declared.event.TrapKind.TheVariants as trap

@@ -4,7 +4,9 @@ use Rattle.std.proofs.lemmas.List.{get_or-set_same, get_or-set_other}
 use Rattle.std.proofs.Math.Decide.{ℕ_discrete}
 use Rattle.tsa_core.specs.Programs.{Program}
 use Rattle.tsa_locks.specs.Laws.{HasOneMore, IsLock}
-use Rattle.tsa_locks.specs.Locks.{Exclusive, free, give, holds, Lock, Mode, owned, Shared, shared_by, take, taken}
+use Rattle.tsa_sched.specs.declared.event.Mode.TheVariants.{Exclusive, Shared}
+use Rattle.tsa_locks.specs.Locks.{free, give, holds, Lock, owned, shared_by, take, taken}
+use Rattle.tsa_sched.specs.declared.event.Mode.{Mode}
 use Rattle.tsa_locks.proofs.Holding.{holds_change}
 use Rattle.tsa_sched.specs.declared.event.EventKind.{EventKind}
 use Rattle.tsa_sched.specs.declared.event.EventKind.TheVariants as event

@@ -4,9 +4,11 @@ use Rattle.std.proofs.lemmas.Bool.{ltb-true}
 use Rattle.tsa_base.specs.declared.value.Value.{Value}
 use Rattle.tsa_tree.specs.declared.kind.Kind.{Kind}
 use Rattle.tsa_tree.specs.declared.kind.Kind.TheVariants as type
-use Rattle.tsa_place_layout.specs.declared.place.Placed.{Placed}
+use Rattle.tsa_place_model.specs.declared.place.Placed.{Placed}
 use Rattle.tsa_core.specs.Programs.{Program}
-use Rattle.tsa_locks.specs.Locks.{by_owner, Exclusive, free, give, given, holds, Lock, Mode, owned, owned_less, Shared, shared_by, sharer_from, take, taken, blocked, Taking, unless_shared}
+use Rattle.tsa_locks.specs.Locks.{by_owner, free, give, given, holds, Lock, owned, owned_less, shared_by, sharer_from, take, taken, blocked, Taking, unless_shared}
+use Rattle.tsa_sched.specs.declared.event.Mode.TheVariants.{Exclusive, Shared}
+use Rattle.tsa_sched.specs.declared.event.Mode.{Mode}
 use Rattle.tsa_locks.proofs.Holding.{same_some, same_taken}
 use Rattle.tsa_sched.specs.declared.event.EventKind.{EventKind}
 use Rattle.tsa_sched.specs.declared.event.EventKind.TheVariants as event

@@ -4,7 +4,8 @@ use Rattle.tsa_base.specs.declared.value.Value.{Value}
 use Rattle.tsa_tree.specs.declared.kind.Kind.{Kind}
 use Rattle.tsa_tree.specs.declared.kind.Kind.TheVariants as type
 use Rattle.tsa_core.specs.Programs.{Program}
-use Rattle.tsa_locks.specs.Locks.{Lock, Mode, Taking, taken, blocked, take, give}
+use Rattle.tsa_locks.specs.Locks.{Lock, Taking, taken, blocked, take, give}
+use Rattle.tsa_sched.specs.declared.event.Mode.{Mode}
 use Rattle.tsa_sched.specs.declared.event.Event.{Event}
 use Rattle.tsa_sched.specs.declared.event.EventKind.TheVariants as event
 use Rattle.tsa_mean.specs.Acts.{Act, act_of, to_read, to_write, to_step, to_set, to_branch, to_choose, to_take, to_try, to_give, to_ask, to_enter, to_leave, to_trap}

@@ -5,11 +5,12 @@ use Rattle.std.specs.List.{list_all}
 use Rattle.std.specs.Prelude.{All, IsSome, ◌↔◌}
 use Rattle.tsa_base.specs.declared.value.Value.{Value}
 use Rattle.tsa_base.proofs.Truths.{both}
-use Rattle.tsa_place_layout.specs.Calls.{guards_of}
-use Rattle.tsa_place_layout.specs.declared.place.Guard.{Guard}
-use Rattle.tsa_place_layout.specs.declared.place.Guard.TheVariants.{Lock, Nothing}
+use Rattle.tsa_place_model.specs.Calls.{guards_of}
+use Rattle.tsa_place_model.specs.declared.place.Guard.{Guard}
+use Rattle.tsa_place_model.specs.declared.place.Guard.TheVariants.{Lock, Nothing}
 use Rattle.tsa_core.specs.Programs.{Attr, Program}
-use Rattle.tsa_locks.specs.Locks.{Mode, Exclusive, Shared}
+use Rattle.tsa_sched.specs.declared.event.Mode.{Mode}
+use Rattle.tsa_sched.specs.declared.event.Mode.TheVariants.{Exclusive, Shared}
 use Rattle.tsa_mean.specs.Acts.{to_read, to_write, to_step, to_set, to_branch, to_choose, to_take, to_try, to_give, to_ask, to_enter, to_leave, to_trap}
 use Rattle.tsa_mean.specs.Laws.{WhatIsNoViolationIsSafe}
 use Rattle.tsa_mean.specs.Returns.{attrs_of, change_in, given_back, lock_of, taken_over}

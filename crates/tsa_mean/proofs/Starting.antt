@@ -4,9 +4,9 @@ use Rattle.std.specs.List.{list_all}
 use Rattle.std.specs.Prelude.{unwrap_or}
 use Rattle.tsa_base.specs.declared.value.Value.TheVariants.{Pointer}
 use Rattle.tsa_base.proofs.Truths.{both}
-use Rattle.tsa_place_layout.specs.Calls.{is_structure, Layout}
-use Rattle.tsa_place_layout.specs.declared.place.Placed.{Placed}
-use Rattle.tsa_place_layout.specs.Stores.{is_value_of, IsWellTyped, start}
+use Rattle.tsa_place_model.specs.Calls.{is_structure, Layout}
+use Rattle.tsa_place_model.specs.declared.place.Placed.{Placed}
+use Rattle.tsa_place_model.specs.Stores.{is_value_of, IsWellTyped, start}
 use Rattle.tsa_mean.specs.Laws.{FirstStatesAreStarts}
 
 -- the first store

@@ -4,7 +4,8 @@ use Rattle.tsa_tree.specs.declared.kind.Kind.{Kind}
 use Rattle.tsa_tree.specs.declared.kind.Kind.TheVariants as type
 use Rattle.tsa_core.specs.Programs.{Program}
 use Rattle.tsa_locks.specs.Laws.{IsLock}
-use Rattle.tsa_locks.specs.Locks.{Lock, Mode, Taking, taken, blocked, take, give, holds}
+use Rattle.tsa_locks.specs.Locks.{Lock, Taking, taken, blocked, take, give, holds}
+use Rattle.tsa_sched.specs.declared.event.Mode.{Mode}
 use Rattle.tsa_locks.proofs.Holding.{holds_change}
 use Rattle.tsa_sched.specs.declared.event.Event.{Event}
 use Rattle.tsa_sched.specs.declared.event.EventKind.TheVariants as event

@@ -9,7 +9,8 @@ use Rattle.tsa_tree.specs.types.Texts.{unit_in}
 use Rattle.tsa_tree.specs.units.Syntax.{UnitItem}
 use Rattle.tsa_core.specs.Programs.{Program, program_of}
 use Rattle.tsa_sched.specs.declared.event.EventKind.TheVariants.{Stepped}
-use Rattle.tsa_locks.specs.Locks.{Exclusive, Mode}
+use Rattle.tsa_sched.specs.declared.event.Mode.TheVariants.{Exclusive}
+use Rattle.tsa_sched.specs.declared.event.Mode.{Mode}
 use Rattle.tsa_mean.specs.Acts.{act_of, to_take, to_write}
 use Rattle.tsa_mean.specs.Examples.{LockedWritesCanStart, ThreadsBeginWhereNothingIsAsked, UnlockedWritesAreUnsound}
 use Rattle.tsa_mean.specs.Frames.{frame_of_call}

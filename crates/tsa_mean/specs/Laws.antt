@@ -2,9 +2,10 @@
 use Rattle.std.specs.Prelude.{◌≡◌, ◌↔◌, ℕ, ℤ, ◌<◌, ◌++◌, true, false, Option, Some, None, List, length, slice_set, All}
 use Rattle.tsa_base.specs.declared.value.Value.{Value}
 use Rattle.tsa_core.specs.Programs.{Program}
-use Rattle.tsa_place_layout.specs.Stores.{IsWellTyped, start}
+use Rattle.tsa_place_model.specs.Stores.{IsWellTyped, start}
 use Rattle.tsa_locks.specs.Laws.{IsLock}
-use Rattle.tsa_locks.specs.Locks.{Lock, Mode, take, taken, give}
+use Rattle.tsa_locks.specs.Locks.{Lock, take, taken, give}
+use Rattle.tsa_sched.specs.declared.event.Mode.{Mode}
 use Rattle.tsa_sched.specs.declared.event.Event.{Event}
 use Rattle.tsa_sched.specs.declared.event.EventKind.{EventKind}
 use Rattle.tsa_sched.specs.declared.event.EventKind.TheVariants as event

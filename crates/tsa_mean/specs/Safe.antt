@@ -1,11 +1,12 @@
 -- Which acts are safe: they go along with what guards and attributes say.
 use Rattle.std.specs.Prelude.{◌≡◌, ℕ, ◌+◌, ◌<◌, true, Option, Some, None, length, All, IsSome}
 use Rattle.tsa_base.specs.declared.value.Value.{Value}
-use Rattle.tsa_place_layout.specs.Calls.{guards_of}
-use Rattle.tsa_place_layout.specs.declared.place.Guard.{Guard}
-use Rattle.tsa_place_layout.specs.declared.place.Guard.TheVariants.{Lock, Nothing}
+use Rattle.tsa_place_model.specs.Calls.{guards_of}
+use Rattle.tsa_place_model.specs.declared.place.Guard.{Guard}
+use Rattle.tsa_place_model.specs.declared.place.Guard.TheVariants.{Lock, Nothing}
 use Rattle.tsa_core.specs.Programs.{Program}
-use Rattle.tsa_locks.specs.Locks.{Mode, Exclusive}
+use Rattle.tsa_sched.specs.declared.event.Mode.{Mode}
+use Rattle.tsa_sched.specs.declared.event.Mode.TheVariants.{Exclusive}
 use Rattle.tsa_mean.specs.Acts.{Act, to_read, to_write, to_give, to_leave}
 use Rattle.tsa_mean.specs.Returns.{attrs_of, change_in, given_back, lock_of, taken_over}
 use Rattle.tsa_mean.specs.States.{Frame, Holds}

@@ -19,13 +19,13 @@ use Rattle.tsa_tree.specs.types.DeclaredTypes.{typed_value, value_in}
 use Rattle.tsa_tree.specs.types.Expressions.{type_of, types_of, member_of, member_type, owner}
 use Rattle.tsa_tree.specs.types.Operands.{integer_kind, is_single, struct_of, is_struct_place, lacks, breaks_prefix, breaks_index, prefix_type, element_type, address_of, followed}
 use Rattle.tsa_tree.specs.types.Scopes.{Scope, context_of, known_in}
-use Rattle.tsa_place_paths.specs.LockPaths as path
-use Rattle.tsa_place_paths.specs.LockPaths.{Led, meant, member_step, element_step, in_range, or_variable, index_step, name_way, leads}
-use Rattle.tsa_place_paths.specs.declared.path.PathStep.{PathStep}
-use Rattle.tsa_place_paths.specs.declared.path.PathStep.TheVariants.{Constant, Variable}
-use Rattle.tsa_place_layout.specs.declared.evaluation.Spot.TheVariants.{Place}
-use Rattle.tsa_place_layout.specs.Calls.{Layout, global_place, element_place, index_in}
-use Rattle.tsa_place_layout.specs.Stores.{Store}
+use Rattle.tsa_place_model.specs.LockPaths as path
+use Rattle.tsa_place_model.specs.LockPaths.{Led, meant, member_step, element_step, in_range, or_variable, index_step, name_way, leads}
+use Rattle.tsa_place_model.specs.declared.path.PathStep.{PathStep}
+use Rattle.tsa_place_model.specs.declared.path.PathStep.TheVariants.{Constant, Variable}
+use Rattle.tsa_place_model.specs.declared.spot.Spot.TheVariants.{Place}
+use Rattle.tsa_place_model.specs.Calls.{Layout, global_place, element_place, index_in}
+use Rattle.tsa_place_model.specs.Stores.{Store}
 use Rattle.tsa_core.specs.Kinds.{Setting}
 use Rattle.tsa_core.specs.Meanings.{loaded, of_number, of_name, of_prefix, of_field, of_index, meaning}
 use Rattle.tsa_core.specs.Terms.{Term, target, address, Sense}

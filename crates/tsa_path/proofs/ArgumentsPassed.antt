@@ -18,15 +18,15 @@ use Rattle.tsa_tree.specs.types.DeclaredTypes.{value_in}
 use Rattle.tsa_tree.specs.types.Expressions.{type_of, types_of, all_typed, arguments_break}
 use Rattle.tsa_tree.specs.types.Operands.{integer_kind, unsigned_kind, is_integer, is_single, lacks, target_of, same_target, keeps_const, goes_to}
 use Rattle.tsa_tree.specs.types.Scopes.{Scope, context_of, known_in}
-use Rattle.tsa_place_paths.specs.Arguments.{argument_way, index_argument, local_argument, or_local, way_of}
-use Rattle.tsa_place_paths.specs.LockPaths.{Led, in_range, leads}
-use Rattle.tsa_place_paths.specs.Ways.{Way, from, onward}
-use Rattle.tsa_place_paths.specs.declared.path.PathStep.{PathStep}
-use Rattle.tsa_place_paths.specs.declared.path.PathStep.TheVariants.{Constant}
-use Rattle.tsa_place_paths.specs.declared.path.Root.TheVariants.{Local, Owner}
-use Rattle.tsa_place_layout.specs.declared.evaluation.Spot.TheVariants.{Place}
-use Rattle.tsa_place_layout.specs.Calls.{Layout, index_in}
-use Rattle.tsa_place_layout.specs.Stores.{Store}
+use Rattle.tsa_place_model.specs.Arguments.{argument_way, index_argument, local_argument, or_local, way_of}
+use Rattle.tsa_place_model.specs.LockPaths.{Led, in_range, leads}
+use Rattle.tsa_place_model.specs.Ways.{Way, from, onward}
+use Rattle.tsa_place_model.specs.declared.path.PathStep.{PathStep}
+use Rattle.tsa_place_model.specs.declared.path.PathStep.TheVariants.{Constant}
+use Rattle.tsa_place_model.specs.declared.path.Root.TheVariants.{Local, Owner}
+use Rattle.tsa_place_model.specs.declared.spot.Spot.TheVariants.{Place}
+use Rattle.tsa_place_model.specs.Calls.{Layout, index_in}
+use Rattle.tsa_place_model.specs.Stores.{Store}
 use Rattle.tsa_core.specs.Kinds.{Setting}
 use Rattle.tsa_core.specs.Meanings.{is_int, loaded, null_pointer, of_number, of_name, as_kind, meaning, arguments}
 use Rattle.tsa_core.specs.Terms.{Term, converted, Sense}

@@ -3,10 +3,10 @@ use Rattle.std.proofs.Common.{◌≡◌, ℕ, true, false, Some, slice_get}
 use Rattle.tsa_tree.specs.declared.kind.Kind.TheVariants as type
 use Rattle.tsa_tree.specs.declared.kind.ThingType.{ThingType}
 use Rattle.tsa_tree.specs.types.Scopes.{Scope}
-use Rattle.tsa_place_layout.specs.declared.place.Placed.{Placed}
-use Rattle.tsa_place_layout.specs.Layouts.{Part, structure_at}
-use Rattle.tsa_place_layout.specs.Calls.{Layout, global_place, member_place, element_place, kind_at, is_structure}
-use Rattle.tsa_place_layout.specs.Stores.{Store}
+use Rattle.tsa_place_model.specs.declared.place.Placed.{Placed}
+use Rattle.tsa_place_model.specs.Layouts.{Part, structure_at}
+use Rattle.tsa_place_model.specs.Calls.{Layout, global_place, member_place, element_place, kind_at, is_structure}
+use Rattle.tsa_place_model.specs.Stores.{Store}
 use Rattle.tsa_core.specs.Kinds.{Setting}
 use Rattle.tsa_path.specs.ArgumentLaws.{Serves}
 use Rattle.tsa_path.specs.Laws.{Locals}

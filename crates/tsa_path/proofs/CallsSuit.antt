@@ -14,9 +14,9 @@ use Rattle.tsa_tree.specs.types.Expressions.{type_of, types_of, unless, result_t
 use Rattle.tsa_tree.specs.types.Operands.{breaks_prefix, breaks_binary, prefix_type, binary_type}
 use Rattle.tsa_tree.specs.types.Scopes.{Scope, context_of, known_in}
 use Rattle.tsa_tree.specs.units.Syntax.{UnitItem}
-use Rattle.tsa_place_paths.specs.Ways.{Way}
-use Rattle.tsa_place.specs.Leading.{HasPlaces}
-use Rattle.tsa_place_layout.specs.Stores.{Store}
+use Rattle.tsa_place_model.specs.Ways.{Way}
+use Rattle.tsa_place_model.specs.Leading.{HasPlaces}
+use Rattle.tsa_place_model.specs.Stores.{Store}
 use Rattle.tsa_core.specs.Kinds.{Setting}
 use Rattle.tsa_core.specs.Meanings.{Call, call_of, call_in, or_call}
 use Rattle.tsa_core.specs.Uses.{called_ways, call_ways}

@@ -5,9 +5,9 @@ use Rattle.tsa_base.specs.declared.value.Value.{Value}
 use Rattle.tsa_base.specs.declared.value.Value.TheVariants.{Int, Unsigned, Pointer}
 use Rattle.tsa_tree.specs.declared.kind.Kind.{Kind}
 use Rattle.tsa_tree.specs.declared.kind.Kind.TheVariants as type
-use Rattle.tsa_place_layout.specs.declared.place.Placed.{Placed}
-use Rattle.tsa_place_layout.specs.Layouts.{Structures, kind_size, size_of}
-use Rattle.tsa_place_layout.specs.Calls.{Layout, part_of, there, element_place, index_in}
+use Rattle.tsa_place_model.specs.declared.place.Placed.{Placed}
+use Rattle.tsa_place_model.specs.Layouts.{Structures, kind_size, size_of}
+use Rattle.tsa_place_model.specs.Calls.{Layout, part_of, there, element_place, index_in}
 use Rattle.tsa_path.specs.Laws.{IsValue, IsSmall, bits, SameBitsSameElements}
 
 -- each thing takes a place

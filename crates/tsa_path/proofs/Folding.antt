@@ -19,8 +19,8 @@ use Rattle.tsa_tree.specs.types.Constants.{enumerator, is_known_enumerator, take
 use Rattle.tsa_tree.specs.types.Expressions.{number_type}
 use Rattle.tsa_tree.specs.types.Operands.{integer_kind, pointer_kind, common, binary_type}
 use Rattle.tsa_tree.specs.types.Scopes.{Scope, context_of, known_in}
-use Rattle.tsa_place_layout.specs.Calls.{Layout}
-use Rattle.tsa_place_layout.specs.Stores.{Store}
+use Rattle.tsa_place_model.specs.Calls.{Layout}
+use Rattle.tsa_place_model.specs.Stores.{Store}
 use Rattle.tsa_core.specs.Meanings.{is_place, is_cell, loaded, null_pointer, of_number, of_name, beside, operands, of_prefix, of_binary, meaning}
 use Rattle.tsa_core.specs.Terms.{load, joined, Sense}
 use Rattle.tsa_core.proofs.KindTests.{both_true}

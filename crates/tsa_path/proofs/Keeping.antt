@@ -3,14 +3,14 @@ use Rattle.std.proofs.Common.{◌≡◌, ◌∙◌, ℕ, pos, negsuc, List, [], 
 use Rattle.tsa_base.specs.declared.value.Value.{Value}
 use Rattle.tsa_base.specs.declared.value.Value.TheVariants.{Int, Unsigned, Pointer}
 use Rattle.tsa_base.proofs.Options.{some_same as the_same}
-use Rattle.tsa_place_paths.specs.Ways.{Way, from}
-use Rattle.tsa_place_paths.specs.declared.path.Root.{Root}
-use Rattle.tsa_place_paths.specs.declared.path.Root.TheVariants.{Global, Local, Owner}
-use Rattle.tsa_place_paths.specs.declared.path.PathStep.{PathStep}
-use Rattle.tsa_place_paths.specs.declared.path.PathStep.TheVariants.{Field, Constant, Variable, Follow}
-use Rattle.tsa_place_layout.specs.declared.evaluation.Spot.{Spot}
-use Rattle.tsa_place_layout.specs.declared.evaluation.Spot.TheVariants.{Place, Holds}
-use Rattle.tsa_place_layout.specs.Calls.{Layout, element_place, index_in, pointee, place_in, take_root, take_step, take_steps}
+use Rattle.tsa_place_model.specs.Ways.{Way, from}
+use Rattle.tsa_place_model.specs.declared.path.Root.{Root}
+use Rattle.tsa_place_model.specs.declared.path.Root.TheVariants.{Global, Local, Owner}
+use Rattle.tsa_place_model.specs.declared.path.PathStep.{PathStep}
+use Rattle.tsa_place_model.specs.declared.path.PathStep.TheVariants.{Field, Constant, Variable, Follow}
+use Rattle.tsa_place_model.specs.declared.spot.Spot.{Spot}
+use Rattle.tsa_place_model.specs.declared.spot.Spot.TheVariants.{Place, Holds}
+use Rattle.tsa_place_model.specs.Calls.{Layout, element_place, index_in, pointee, place_in, take_root, take_step, take_steps}
 use Rattle.tsa_path.specs.Substitution.{given, index_step, as_index, pointed_way, as_pointer, step_in, before, steps_in, further, in_caller}
 use Rattle.tsa_path.specs.Laws.{IsValue, IsSameValue, IsSmall, bits, Locals, IsHeld, IsPassed, Suits, SubstitutionKeepsTheMeaning}
 use Rattle.tsa_path.proofs.Elements.{by_bits, same_elements}

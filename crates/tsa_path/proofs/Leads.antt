@@ -11,19 +11,19 @@ use Rattle.tsa_tree.specs.types.Expressions.{owner}
 use Rattle.tsa_tree.specs.types.Runnable.{is_small, is_scalar_kind}
 use Rattle.tsa_tree.specs.types.Scopes.{Scope}
 use Rattle.tsa_tree.specs.types.Types.{single}
-use Rattle.tsa_types_scope.specs.Lookups.{members_at, numbered}
-use Rattle.tsa_place_paths.specs.LockPaths.{Led, led, meant, pointed, member_step, element_step, index_step}
-use Rattle.tsa_place_paths.specs.Ways.{Way, from, onward}
-use Rattle.tsa_place_paths.specs.declared.path.Root.TheVariants.{Local}
-use Rattle.tsa_place_paths.specs.declared.path.PathStep.{PathStep}
-use Rattle.tsa_place_paths.specs.declared.path.PathStep.TheVariants.{Field, Follow}
-use Rattle.tsa_place_layout.specs.declared.place.Placed.{Placed}
-use Rattle.tsa_place_layout.specs.declared.evaluation.Spot.{Spot}
-use Rattle.tsa_place_layout.specs.declared.evaluation.Spot.TheVariants.{Place, Holds}
-use Rattle.tsa_place_layout.specs.Layouts.{Part, structure_at}
-use Rattle.tsa_place_layout.specs.Calls.{Layout, member_place, element_place, kind_at, index_in, initial_at, pointee, take_step}
-use Rattle.tsa_place_layout.specs.Calls as layout
-use Rattle.tsa_place_layout.specs.Stores.{Store, is_value_of}
+use Rattle.tsa_tree.specs.types.Lookups.{members_at, numbered}
+use Rattle.tsa_place_model.specs.LockPaths.{Led, led, meant, pointed, member_step, element_step, index_step}
+use Rattle.tsa_place_model.specs.Ways.{Way, from, onward}
+use Rattle.tsa_place_model.specs.declared.path.Root.TheVariants.{Local}
+use Rattle.tsa_place_model.specs.declared.path.PathStep.{PathStep}
+use Rattle.tsa_place_model.specs.declared.path.PathStep.TheVariants.{Field, Follow}
+use Rattle.tsa_place_model.specs.declared.place.Placed.{Placed}
+use Rattle.tsa_place_model.specs.declared.spot.Spot.{Spot}
+use Rattle.tsa_place_model.specs.declared.spot.Spot.TheVariants.{Place, Holds}
+use Rattle.tsa_place_model.specs.Layouts.{Part, structure_at}
+use Rattle.tsa_place_model.specs.Calls.{Layout, member_place, element_place, kind_at, index_in, initial_at, pointee, take_step}
+use Rattle.tsa_place_model.specs.Calls as layout
+use Rattle.tsa_place_model.specs.Stores.{Store, is_value_of}
 use Rattle.tsa_core.specs.Kinds.{Setting}
 use Rattle.tsa_core.specs.Meanings.{is_place, is_cell, loaded, base_of, to_member, of_field, of_index}
 use Rattle.tsa_core.specs.Terms.{Term, variable, element, member, target, load, Sense}

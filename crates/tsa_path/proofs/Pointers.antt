@@ -6,15 +6,15 @@ use Rattle.tsa_base.proofs.Truths.{never}
 use Rattle.tsa_tree.specs.declared.kind.Kind.{Kind}
 use Rattle.tsa_tree.specs.declared.kind.Kind.TheVariants as type
 use Rattle.tsa_tree.specs.types.Types.{single}
-use Rattle.tsa_place_paths.specs.Ways.{Way, onward}
-use Rattle.tsa_place_paths.specs.declared.path.Root.{Root}
-use Rattle.tsa_place_paths.specs.declared.path.Root.TheVariants.{Global, Local, Owner}
-use Rattle.tsa_place_paths.specs.declared.path.PathStep.{PathStep}
-use Rattle.tsa_place_layout.specs.declared.place.Placed.{Placed}
-use Rattle.tsa_place_layout.specs.declared.evaluation.Spot.{Spot}
-use Rattle.tsa_place_layout.specs.declared.evaluation.Spot.TheVariants.{Place}
-use Rattle.tsa_place_layout.specs.Calls.{Layout, is_addressable, pointee, take_root, take_step, take_steps}
-use Rattle.tsa_place_layout.specs.Stores.{is_of, may_point, is_value_of}
+use Rattle.tsa_place_model.specs.Ways.{Way, onward}
+use Rattle.tsa_place_model.specs.declared.path.Root.{Root}
+use Rattle.tsa_place_model.specs.declared.path.Root.TheVariants.{Global, Local, Owner}
+use Rattle.tsa_place_model.specs.declared.path.PathStep.{PathStep}
+use Rattle.tsa_place_model.specs.declared.place.Placed.{Placed}
+use Rattle.tsa_place_model.specs.declared.spot.Spot.{Spot}
+use Rattle.tsa_place_model.specs.declared.spot.Spot.TheVariants.{Place}
+use Rattle.tsa_place_model.specs.Calls.{Layout, is_addressable, pointee, take_root, take_step, take_steps}
+use Rattle.tsa_place_model.specs.Stores.{is_of, may_point, is_value_of}
 use Rattle.tsa_core.proofs.KindTests.{both_true}
 use Rattle.tsa_path.proofs.Bearing.{Bears}
 use Rattle.tsa_path.specs.Laws.{Locals, IsPassed}

@@ -1,13 +1,13 @@
 -- Paths that are told apart are different, and the others are equal.
 use Rattle.std.proofs.Common.{◌≡◌, ◌∙◌, true, ◌&&◌, List, [], ◌∷◌, refl, sym, ap, eqb-true, eq-eqb}
 use Rattle.std.specs.Cmp.Lexicographic.{pointwise}
-use Rattle.tsa_place_paths.specs.Ways.{Way}
-use Rattle.tsa_place_paths.specs.declared.path.Root.{Root}
-use Rattle.tsa_place_paths.specs.declared.path.Root.TheVariants.{Global, Local, Owner}
-use Rattle.tsa_place_paths.specs.declared.path.PathStep.{PathStep}
-use Rattle.tsa_place_paths.specs.declared.path.PathStep.TheVariants.{Field, Constant, Variable, Follow}
-use Rattle.tsa_place_paths.specs.contracts.path.RootPartialEq.TheImpl as root_test
-use Rattle.tsa_place_paths.specs.contracts.path.PathStepPartialEq.TheImpl as step_test
+use Rattle.tsa_place_model.specs.Ways.{Way}
+use Rattle.tsa_place_model.specs.declared.path.Root.{Root}
+use Rattle.tsa_place_model.specs.declared.path.Root.TheVariants.{Global, Local, Owner}
+use Rattle.tsa_place_model.specs.declared.path.PathStep.{PathStep}
+use Rattle.tsa_place_model.specs.declared.path.PathStep.TheVariants.{Field, Constant, Variable, Follow}
+use Rattle.tsa_place_model.specs.contracts.path.RootPartialEq.TheImpl as root_test
+use Rattle.tsa_place_model.specs.contracts.path.PathStepPartialEq.TheImpl as step_test
 use Rattle.tsa_path.specs.Sameness.{same_root, same_step, same_steps, same_way, SameWaysAreEqual}
 use Rattle.tsa_base.proofs.Truths.{left_part, never_true as never, right_part}
 

@@ -12,22 +12,22 @@ use Rattle.tsa_tree.specs.declared.kind.ThingType.{ThingType}
 use Rattle.tsa_tree.specs.types.Scopes.{Scope}
 use Rattle.tsa_tree.specs.types.Units.{outset}
 use Rattle.tsa_tree.specs.units.Syntax.{UnitItem, structure_item, alias_item, enumeration_item, global_item, function_item, body_item}
-use Rattle.tsa_place_layout.proofs.Standing.{element_stands, member_stands}
-use Rattle.tsa_place_layout.specs.declared.place.Holder.{Holder}
-use Rattle.tsa_place_layout.specs.declared.place.Holder.TheVariants.{Global}
-use Rattle.tsa_place_layout.specs.declared.place.Placed.{Placed}
-use Rattle.tsa_place_layout.specs.Calls.{Layout, member_place, element_place, global_place, kind_at, is_structure, part_of}
-use Rattle.tsa_place_layout.specs.Layouts.{Part, kind_size, size_of, structure_at, offset}
-use Rattle.tsa_place_layout.specs.Places.{Given, Values, has_some, a_place, element_of, member_of, pieces, places_inside}
-use Rattle.tsa_place_layout.specs.Standing.{StandsAt, IsBelow, HasSome}
-use Rattle.tsa_place.specs.Leading.{HasPlaces}
-use Rattle.tsa_place.specs.Items.{known_global, global_part, behind_data}
-use Rattle.tsa_place.specs.GlobalPlaces.{values_in, given_by, with_part, no_places}
-use Rattle.tsa_place.specs.Units.{data_placed, too_many_at, or_behind, placed_behind}
-use Rattle.tsa_place.proofs.Asking.{same_some, none_is_none, kind_head, element_alone, element_past}
-use Rattle.tsa_place.proofs.Laid.{IsLaid, unit_laid, front_at, by_last}
-use Rattle.tsa_place.proofs.Pieces.{row_at, at_row, thing_at, element_is}
-use Rattle.tsa_place.proofs.Rows.{Thing, Object, PieceAt, Row, member_within, member_begins}
+use Rattle.tsa_place_model.proofs.Standing.{element_stands, member_stands}
+use Rattle.tsa_place_model.specs.declared.place.Holder.{Holder}
+use Rattle.tsa_place_model.specs.declared.place.Holder.TheVariants.{Global}
+use Rattle.tsa_place_model.specs.declared.place.Placed.{Placed}
+use Rattle.tsa_place_model.specs.Calls.{Layout, member_place, element_place, global_place, kind_at, is_structure, part_of}
+use Rattle.tsa_place_model.specs.Layouts.{Part, kind_size, size_of, structure_at, offset}
+use Rattle.tsa_place_model.specs.Places.{Given, Values, has_some, a_place, element_of, member_of, pieces, places_inside}
+use Rattle.tsa_place_model.specs.Standing.{StandsAt, IsBelow, HasSome}
+use Rattle.tsa_place_model.specs.Leading.{HasPlaces}
+use Rattle.tsa_place_model.specs.Items.{known_global, global_part, behind_data}
+use Rattle.tsa_place_model.specs.GlobalPlaces.{values_in, given_by, with_part, no_places}
+use Rattle.tsa_place_model.specs.Units.{data_placed, too_many_at, or_behind, placed_behind}
+use Rattle.tsa_place_model.proofs.Asking.{same_some, none_is_none, kind_head, element_alone, element_past}
+use Rattle.tsa_place_model.proofs.Laid.{IsLaid, unit_laid, front_at, by_last}
+use Rattle.tsa_place_model.proofs.Pieces.{row_at, at_row, thing_at, element_is}
+use Rattle.tsa_place_model.proofs.Rows.{Thing, Object, PieceAt, Row, member_within, member_begins}
 use Rattle.tsa_path.proofs.Bearing.{Bears, StandsDeclared}
 
 -- a later element is no array's first

@@ -1,7 +1,7 @@
 -- Steps one after another.
 use Rattle.std.specs.Prelude.{List, ◌++◌}
-use Rattle.tsa_place_paths.specs.Ways.{Way}
-use Rattle.tsa_place_paths.specs.declared.path.PathStep.{PathStep}
+use Rattle.tsa_place_model.specs.Ways.{Way}
+use Rattle.tsa_place_model.specs.declared.path.PathStep.{PathStep}
 
 -- a way with further steps
 abbrev pub joined : Way → List PathStep → Way

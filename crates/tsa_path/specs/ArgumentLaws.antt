@@ -8,11 +8,11 @@ use Rattle.tsa_tree.specs.expressions.Syntax.{Expression, Arguments}
 use Rattle.tsa_tree.specs.types.Expressions.{type_of, types_of, all_typed, arguments_break}
 use Rattle.tsa_tree.specs.types.Scopes.{Scope, context_of}
 use Rattle.tsa_tree.specs.units.Syntax.{UnitItem}
-use Rattle.tsa_place_paths.specs.Ways.{Way}
-use Rattle.tsa_place.specs.Leading.{HasPlaces}
-use Rattle.tsa_place_layout.specs.declared.place.Placed.{Placed}
-use Rattle.tsa_place_layout.specs.Calls.{Layout, is_structure}
-use Rattle.tsa_place_layout.specs.Stores.{Store, is_value_of, IsWellTyped}
+use Rattle.tsa_place_model.specs.Ways.{Way}
+use Rattle.tsa_place_model.specs.Leading.{HasPlaces}
+use Rattle.tsa_place_model.specs.declared.place.Placed.{Placed}
+use Rattle.tsa_place_model.specs.Calls.{Layout, is_structure}
+use Rattle.tsa_place_model.specs.Stores.{Store, is_value_of, IsWellTyped}
 use Rattle.tsa_core.specs.Kinds.{Setting, Belongs}
 use Rattle.tsa_core.specs.Meanings.{Call, arguments, call_in}
 use Rattle.tsa_core.specs.Uses.{argument_ways, call_ways}

@@ -1,7 +1,7 @@
 -- Tables of paths: each path once, numbered from 0 in the order in which they came.
 use Rattle.std.specs.Prelude.{◌≡◌, ℕ, ◌≤◌, nat_le, Bool, false, not, ◌&&◌, List, [], ◌∷◌, ◌++◌, length, Some, slice_get, if◌then◌else◌}
 use Rattle.std.specs.List.{list_any, position_or_len}
-use Rattle.tsa_place_paths.specs.Ways.{Way}
+use Rattle.tsa_place_model.specs.Ways.{Way}
 use Rattle.tsa_path.specs.Sameness.{same_way}
 use Rattle.tsa_path.specs.declared.refusal.InternRefusal.{InternRefusal}
 use Rattle.tsa_path.specs.declared.refusal.InternRefusal.TheVariants.{Full, NoMemory}

@@ -4,7 +4,7 @@ use Rattle.tsa_base.specs.declared.value.Value.{Value}
 use Rattle.tsa_base.specs.declared.value.Value.TheVariants.{Int, Unsigned, Pointer}
 use Rattle.tsa_lex.specs.Quick.{quick_tokens_of}
 use Rattle.tsa_tree.specs.types.Texts.{unit_in}
-use Rattle.tsa_place_layout.specs.Stores.{start}
+use Rattle.tsa_place_model.specs.Stores.{start}
 use Rattle.tsa_core.specs.Bodies.{Action, evaluate, Point}
 use Rattle.tsa_core.specs.Programs.{Function, Program, program_of}
 use Rattle.tsa_core.specs.Terms.{Term}

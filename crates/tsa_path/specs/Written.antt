@@ -5,9 +5,9 @@ use Rattle.tsa_lex.specs.Quick.{quick_tokens_of}
 use Rattle.tsa_tree.specs.declared.kind.Kind.{Kind}
 use Rattle.tsa_tree.specs.declared.kind.Kind.TheVariants as type
 use Rattle.tsa_tree.specs.types.Texts.{unit_in}
-use Rattle.tsa_place_paths.specs.Ways.{Way}
-use Rattle.tsa_place_layout.specs.Calls.{Layout}
-use Rattle.tsa_place_layout.specs.Layouts.{Part, structure_at}
+use Rattle.tsa_place_model.specs.Ways.{Way}
+use Rattle.tsa_place_model.specs.Calls.{Layout}
+use Rattle.tsa_place_model.specs.Layouts.{Part, structure_at}
 use Rattle.tsa_core.specs.Programs.{Attr, Function, Program, program_of}
 use Rattle.tsa_path.specs.PathTexts.{Label, Names, path_text}
 use Rattle.tsa_path.specs.Sameness.{same_way}

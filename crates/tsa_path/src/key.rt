@@ -3,7 +3,7 @@ ghost use Rattle.std.specs.Prelude.{◌≡◌};
 ghost use Rattle.tsa_path.specs.Sameness.{same_root as spec_same_root, same_steps as spec_same_steps, same_way};
 
 use std::hash::{Hash, Hasher};
-use tsa_place_paths::{Path, PathStep, Root};
+use tsa_place_model::{Path, PathStep, Root};
 
 /// Whether two roots are the same.
 #[tactic(auto, using(crate::proofs::Same::root_test_is))]
@@ -39,10 +39,10 @@ impl PartialEq for Key {
     ghost use Rattle.std.specs.Cmp.Lexicographic.{pointwise};
     ghost use Rattle.std.specs.Cmp.Rules.{comparing};
     ghost use Rattle.std.specs.Ordering.{on, eq_of_both};
-    ghost use Rattle.tsa_place_paths.specs.contracts.path.RootPartialEq.TheImpl as of_root;
-    ghost use Rattle.tsa_place_paths.specs.contracts.path.RootPartialEq.TheImpl.Laws as root_laws;
-    ghost use Rattle.tsa_place_paths.specs.contracts.path.PathStepPartialEq.TheImpl as of_step;
-    ghost use Rattle.tsa_place_paths.specs.contracts.path.PathStepPartialEq.TheImpl.Laws as step_laws;
+    ghost use Rattle.tsa_place_model.specs.contracts.path.RootPartialEq.TheImpl as of_root;
+    ghost use Rattle.tsa_place_model.specs.contracts.path.RootPartialEq.TheImpl.Laws as root_laws;
+    ghost use Rattle.tsa_place_model.specs.contracts.path.PathStepPartialEq.TheImpl as of_step;
+    ghost use Rattle.tsa_place_model.specs.contracts.path.PathStepPartialEq.TheImpl.Laws as step_laws;
 
     ghost eq = { eq_of_both (on (λ a. a.path.root) of_root.ghosts.eq) (on (λ a. a.path.steps) (pointwise of_step.ghosts.eq)) };
 
@@ -57,8 +57,8 @@ impl PartialEq for Key {
 impl Eq for Key {
     ghost use Rattle.std.proofs.Common.{rules};
     ghost use Rattle.std.specs.Cmp.Rules.{comparing};
-    ghost use Rattle.tsa_place_paths.specs.contracts.path.RootEq.TheImpl.Laws as root_laws;
-    ghost use Rattle.tsa_place_paths.specs.contracts.path.PathStepEq.TheImpl.Laws as step_laws;
+    ghost use Rattle.tsa_place_model.specs.contracts.path.RootEq.TheImpl.Laws as root_laws;
+    ghost use Rattle.tsa_place_model.specs.contracts.path.PathStepEq.TheImpl.Laws as step_laws;
 
     ghost laws = { Prim.search (comparing, rules, root_laws.laws-law, step_laws.laws-law) };
 }
@@ -67,10 +67,10 @@ impl Hash for Key {
     ghost use Rattle.std.specs.Prelude.{◌++◌};
     ghost use Rattle.std.specs.Hash as fed;
     ghost use Rattle.std.specs.Hash.{and-Alike, on_Alike, items_Alike};
-    ghost use Rattle.tsa_place_paths.specs.contracts.path.RootHash.TheImpl as of_root;
-    ghost use Rattle.tsa_place_paths.specs.contracts.path.RootHash.TheImpl.Laws as root_laws;
-    ghost use Rattle.tsa_place_paths.specs.contracts.path.PathStepHash.TheImpl as of_step;
-    ghost use Rattle.tsa_place_paths.specs.contracts.path.PathStepHash.TheImpl.Laws as step_laws;
+    ghost use Rattle.tsa_place_model.specs.contracts.path.RootHash.TheImpl as of_root;
+    ghost use Rattle.tsa_place_model.specs.contracts.path.RootHash.TheImpl.Laws as root_laws;
+    ghost use Rattle.tsa_place_model.specs.contracts.path.PathStepHash.TheImpl as of_step;
+    ghost use Rattle.tsa_place_model.specs.contracts.path.PathStepHash.TheImpl.Laws as step_laws;
 
     ghost hash_input = { λ a. of_root.ghosts.hash_input a.path.root ++ fed.slice of_step.ghosts.hash_input a.path.steps };
 

@@ -1,6 +1,6 @@
 //! Why a table takes no path.
 
-use tsa_place_paths::Path;
+use tsa_place_model::Path;
 
 /// Why a path got no number: it is new and there is no room for it, or memory is wanted. The path comes back.
 #[derive(Drop)]

@@ -7,7 +7,7 @@ use indexmap::IndexSet;
 use std::alloc::Global;
 use std::marker::Model;
 use tsa_base::NoMemory;
-use tsa_place_paths::Path;
+use tsa_place_model::Path;
 
 /// Different paths, as many as there are, in the order in which they came. Contracts see the list of them.
 pub struct PathSet {
@@ -23,7 +23,7 @@ impl Drop for PathSet {
 
 impl Model for PathSet {
     ghost use Rattle.std.specs.Prelude.{List, map};
-    ghost use Rattle.tsa_place_paths.specs.Ways.{Way};
+    ghost use Rattle.tsa_place_model.specs.Ways.{Way};
 
     ghost Value = { List Way };
 

@@ -4,7 +4,7 @@ ghost use Rattle.tsa_path.specs.Substitution.{given as spec_given, constant as s
 
 use std::alloc::Global;
 use tsa_base::NoMemory;
-use tsa_place_paths::{Path, PathStep, Root};
+use tsa_place_model::{Path, PathStep, Root};
 
 /// What is given for a parameter, where that has a path.
 fn given(args: &[Option<Path>], parameter: u32) -> Option<&Path>

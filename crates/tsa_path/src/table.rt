@@ -7,7 +7,7 @@ use crate::refusal::InternRefusal;
 use indexmap::IndexSet;
 use std::alloc::Global;
 use std::marker::Model;
-use tsa_place_paths::Path;
+use tsa_place_model::Path;
 
 /// Different paths, numbered from 0 in the order in which they came. Contracts see the list of them.
 pub struct PathTable {
@@ -23,7 +23,7 @@ impl Drop for PathTable {
 
 impl Model for PathTable {
     ghost use Rattle.std.specs.Prelude.{List, map, ◌≤◌, length};
-    ghost use Rattle.tsa_place_paths.specs.Ways.{Way};
+    ghost use Rattle.tsa_place_model.specs.Ways.{Way};
     ghost use Rattle.tsa_path.specs.PathTables.{path_limit};
 
     ghost Value = { List Way };

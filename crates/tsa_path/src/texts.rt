@@ -8,7 +8,7 @@ use crate::trail::Trail;
 use itoa::Buffer;
 use std::alloc::Global;
 use tsa_base::NoMemory;
-use tsa_place_paths::{Path, PathStep, Root};
+use tsa_place_model::{Path, PathStep, Root};
 
 /// The text of a root.
 fn root<N: PathNames>(alloc: Global, names: &N, root: Root) -> Result<Trail, NoMemory>

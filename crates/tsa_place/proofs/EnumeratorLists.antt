@@ -4,8 +4,8 @@ use Rattle.tsa_tree.specs.declared.item.Enumerator.{Enumerator}
 use Rattle.tsa_tree.specs.declarations.Shapes.{enumerator_shape, enumerator_shapes}
 use Rattle.tsa_tree.specs.types.Enums.{next_after, enumerator_entry}
 use Rattle.tsa_tree.specs.types.Scopes.{Scope}
-use Rattle.tsa_place_layout.specs.Parts.{unless_taken}
-use Rattle.tsa_place.specs.Items.{worth, enumerators_behind}
+use Rattle.tsa_place_model.specs.Parts.{unless_taken}
+use Rattle.tsa_place_model.specs.Items.{worth, enumerators_behind}
 
 module _ (values : List Enumerator) (i : ℕ) (here : Scope) (last : Option ℤ) where
   abbrev left : Scope → ℤ → ℕ → Scope

@@ -3,13 +3,13 @@ use Rattle.std.proofs.Common.{◌≡◌, ◌∙◌, ℕ, ◌+◌, ◌≤◌, ◌
 use Rattle.std.proofs.lemmas.Bool.Decides.{nat_tests}
 use Rattle.std.proofs.lemmas.List.{length-append}
 use Rattle.tsa_tree.specs.declared.kind.ThingType.{ThingType}
-use Rattle.tsa_place_layout.specs.Layouts.{Part, Structures, size_of, thing_size, capped}
-use Rattle.tsa_place_layout.specs.Places.{Given, Values, places_inside, places_of}
-use Rattle.tsa_place_layout.specs.declared.place.Placed.{Placed}
-use Rattle.tsa_place_layout.specs.Calls.{Layout}
-use Rattle.tsa_place_layout.specs.Parts.{place_limit}
-use Rattle.tsa_place.specs.GlobalPlaces.{passes}
-use Rattle.tsa_place_layout.proofs.Sizes.{thing_sized, inside_sized}
+use Rattle.tsa_place_model.specs.Layouts.{Part, Structures, size_of, thing_size, capped}
+use Rattle.tsa_place_model.specs.Places.{Given, Values, places_inside, places_of}
+use Rattle.tsa_place_model.specs.declared.place.Placed.{Placed}
+use Rattle.tsa_place_model.specs.Calls.{Layout}
+use Rattle.tsa_place_model.specs.Parts.{place_limit}
+use Rattle.tsa_place_model.specs.GlobalPlaces.{passes}
+use Rattle.tsa_place_model.proofs.Sizes.{thing_sized, inside_sized}
 
 pub as_many : (structs : Structures) (values : Values) (g : Given) (o : ℕ) (t : ThingType) (old new : List Placed) → new ≡ old ++ places_of structs values g o t
     → length new ≡ length old + thing_size (size_of structs) t

@@ -5,9 +5,9 @@ use Rattle.tsa_base.specs.declared.token.Span.{Span}
 use Rattle.tsa_tree.specs.declarations.Syntax.{list}
 use Rattle.tsa_tree.specs.declarations.Shapes.{init_shape, init_shapes}
 use Rattle.tsa_tree.specs.declared.decl.Init.{Init}
-use Rattle.tsa_place_paths.specs.LockPaths.{Led}
-use Rattle.tsa_place_paths.specs.Ways.{Way}
-use Rattle.tsa_place_layout.specs.Places.{item_of}
+use Rattle.tsa_place_model.specs.LockPaths.{Led}
+use Rattle.tsa_place_model.specs.Ways.{Way}
+use Rattle.tsa_place_model.specs.Places.{item_of}
 
 in_list : (items : List Init) (k : ℕ) (span : Span) → option_map init_shape (slice_get items k) ≡ item_of (Some (list (init_shapes items) span)) k
 in_list [] zero span = refl

@@ -4,9 +4,9 @@ use Rattle.std.proofs.lemmas.Bool.Decides.{nat_tests}
 use Rattle.std.proofs.lemmas.List.{append_assoc}
 use Rattle.tsa_place.specs.declared.filling.Left.{Left}
 use Rattle.tsa_place.specs.declared.filling.Left.TheVariants as left
-use Rattle.tsa_place_layout.specs.Layouts.{Part, Structures, kind_size, size_of, members_size}
-use Rattle.tsa_place_layout.specs.Places.{Values, elements_places, members_places, places_inside}
-use Rattle.tsa_place_layout.specs.declared.place.Placed.{Placed}
+use Rattle.tsa_place_model.specs.Layouts.{Part, Structures, kind_size, size_of, members_size}
+use Rattle.tsa_place_model.specs.Places.{Values, elements_places, members_places, places_inside}
+use Rattle.tsa_place_model.specs.declared.place.Placed.{Placed}
 use Rattle.tsa_place.specs.Filling.{given, members_left, size_left, sizes_left, one_left, all_left, things_left, IsDefined, IsLeft, AreLeft, Leaves}
 
 module _ (structs : Structures) where

@@ -6,15 +6,3 @@ pub mod Leaving
 pub mod Putting
 pub mod Rounds
 pub mod Fitting
-pub mod Asking
-pub mod Later
-pub mod Rows
-pub mod Laid
-pub mod Pieces
-pub mod Leading
-pub mod TextsApart
-pub mod TextsAlong
-pub mod TextsTold
-pub mod TextsNamed
-pub mod TextsTyped
-pub mod TextsTell

@@ -1,13 +1,13 @@
 -- The places of units, worked out.
 use Rattle.std.proofs.Common.{refl}
 use Rattle.tsa_tree.proofs.types.Computed.{computed}
-use Rattle.tsa_place_paths.specs.LockPaths.{leads}
-use Rattle.tsa_place_layout.specs.Layouts.{structure_at, size_of}
-use Rattle.tsa_place_layout.specs.Places.{places_inside}
-use Rattle.tsa_place_layout.specs.Calls.{around, text_along, guards_along}
-use Rattle.tsa_place_layout.specs.Parts.{argument_ways, guard_ways, parts_behind, members_after}
-use Rattle.tsa_place.specs.Items.{enumerators_behind}
-use Rattle.tsa_place.specs.Units.{placed_behind}
+use Rattle.tsa_place_model.specs.LockPaths.{leads}
+use Rattle.tsa_place_model.specs.Layouts.{structure_at, size_of}
+use Rattle.tsa_place_model.specs.Places.{places_inside}
+use Rattle.tsa_place_model.specs.Calls.{around, text_along, guards_along}
+use Rattle.tsa_place_model.specs.Parts.{argument_ways, guard_ways, parts_behind, members_after}
+use Rattle.tsa_place_model.specs.Items.{enumerators_behind}
+use Rattle.tsa_place_model.specs.Units.{placed_behind}
 use Rattle.tsa_place.specs.Examples.{PlacesAreListed}
 
 pub places_are_listed : PlacesAreListed

@@ -13,13 +13,13 @@ use Rattle.tsa_place.specs.declared.filling.Left.{Left}
 use Rattle.tsa_place.specs.declared.filling.Left.TheVariants as left
 use Rattle.tsa_place.specs.declared.filling.Rows.{Rows}
 use Rattle.tsa_place.specs.declared.environment.Known.{Known}
-use Rattle.tsa_place_layout.specs.Layouts.{Part, Structures, structure_at, kind_size, thing_size, size_of, members_size}
-use Rattle.tsa_place_layout.specs.Places.{Given, Values, a_place, element_of, member_of, kind_places, elements_places, members_places, thing_places, places_inside}
-use Rattle.tsa_place_layout.specs.declared.place.Placed.{Placed}
-use Rattle.tsa_place_layout.specs.Standing.{IsWithin, AllBelow, IsOrdered}
+use Rattle.tsa_place_model.specs.Layouts.{Part, Structures, structure_at, kind_size, thing_size, size_of, members_size}
+use Rattle.tsa_place_model.specs.Places.{Given, Values, a_place, element_of, member_of, kind_places, elements_places, members_places, thing_places, places_inside}
+use Rattle.tsa_place_model.specs.declared.place.Placed.{Placed}
+use Rattle.tsa_place_model.specs.Standing.{IsWithin, AllBelow, IsOrdered}
 use Rattle.tsa_place.specs.Filling.{given, size_left, one_left, all_left, AreLeft, Leaves, values_by, with_one, with_left, with_thing, IsReady, Puts}
-use Rattle.tsa_place_layout.proofs.Sizes.{inside_sized, members_sized}
-use Rattle.tsa_place_layout.proofs.Standing.{members_below, object_is}
+use Rattle.tsa_place_model.proofs.Sizes.{inside_sized, members_sized}
+use Rattle.tsa_place_model.proofs.Standing.{members_below, object_is}
 
 -- a member of some that are defined
 part_within : (n : ℕ) (ms : List Part) (k : ℕ) (m : Part) → AllBelow n ms → slice_get ms k ≡ Some m → IsWithin n m.thing

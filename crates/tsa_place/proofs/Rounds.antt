@@ -4,9 +4,9 @@ use Rattle.std.proofs.lemmas.List.{length-append}
 use Rattle.tsa_place.specs.declared.filling.Left.{Left}
 use Rattle.tsa_place.specs.declared.filling.Rows.{Rows}
 use Rattle.tsa_place.specs.declared.environment.Known.{Known}
-use Rattle.tsa_place_layout.specs.Layouts.{Structures}
-use Rattle.tsa_place_layout.specs.declared.place.Placed.{Placed}
-use Rattle.tsa_place.specs.GlobalPlaces.{values_in}
+use Rattle.tsa_place_model.specs.Layouts.{Structures}
+use Rattle.tsa_place_model.specs.declared.place.Placed.{Placed}
+use Rattle.tsa_place_model.specs.GlobalPlaces.{values_in}
 use Rattle.tsa_place.specs.Filling.{all_left, values_by, with_left, Puts}
 use Rattle.tsa_place.proofs.Leaving.{behind}
 

@@ -5,9 +5,9 @@ use Rattle.tsa_tree.specs.types.Scopes.{Scope}
 use Rattle.tsa_tree.specs.units.Syntax.{UnitItem}
 use Rattle.tsa_place.specs.declared.refusal.PlaceRefusal.{PlaceRefusal}
 use Rattle.tsa_place.specs.declared.refusal.PlaceRefusal.TheVariants.{TooMany, NoMemory}
-use Rattle.tsa_place_layout.specs.Calls.{Layout}
-use Rattle.tsa_place.specs.Items.{behind_data}
-use Rattle.tsa_place.specs.Units.{data_placed, too_many_at}
+use Rattle.tsa_place_model.specs.Calls.{Layout}
+use Rattle.tsa_place_model.specs.Items.{behind_data}
+use Rattle.tsa_place_model.specs.Units.{data_placed, too_many_at}
 
 -- an item is gone through, or there are too many places at a declarator in it
 abbrev pub Places : Scope → Layout → UnitItem → Scope → Layout → Result ⊤ PlaceRefusal → Type 0

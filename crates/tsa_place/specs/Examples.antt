@@ -7,13 +7,13 @@ use Rattle.tsa_base.specs.declared.value.Value.{Value}
 use Rattle.tsa_base.specs.declared.value.Value.TheVariants.{Int, Unsigned, Pointer}
 use Rattle.tsa_tree.specs.declared.kind.Kind.TheVariants as type
 use Rattle.tsa_tree.specs.types.Texts.{unit_in}
-use Rattle.tsa_place_layout.specs.Calls.{Layout, text_of, guards_of, is_addressable}
-use Rattle.tsa_place_layout.specs.declared.place.Guard.{Guard}
-use Rattle.tsa_place_layout.specs.declared.place.Guard.TheVariants.{Lock, Nothing}
-use Rattle.tsa_place_layout.specs.declared.place.Placed.{Placed}
-use Rattle.tsa_place_layout.specs.Stores.{is_value_of}
-use Rattle.tsa_place.specs.GlobalPlaces.{no_places}
-use Rattle.tsa_place.specs.Units.{placed_in}
+use Rattle.tsa_place_model.specs.Calls.{Layout, text_of, guards_of, is_addressable}
+use Rattle.tsa_place_model.specs.declared.place.Guard.{Guard}
+use Rattle.tsa_place_model.specs.declared.place.Guard.TheVariants.{Lock, Nothing}
+use Rattle.tsa_place_model.specs.declared.place.Placed.{Placed}
+use Rattle.tsa_place_model.specs.Stores.{is_value_of}
+use Rattle.tsa_place_model.specs.GlobalPlaces.{no_places}
+use Rattle.tsa_place_model.specs.Units.{placed_in}
 
 -- the places of a text that is a unit, or the byte at which there are too many
 abbrev pub placed : List ℕ → Result Layout Span

@@ -8,13 +8,13 @@ use Rattle.tsa_place.specs.declared.filling.Left.{Left}
 use Rattle.tsa_place.specs.declared.filling.Left.TheVariants as left
 use Rattle.tsa_place.specs.declared.filling.Rows.{Rows}
 use Rattle.tsa_place.specs.declared.environment.Known.{Known}
-use Rattle.tsa_place_layout.specs.Layouts.{Part, Structures, structure_at, kind_size, thing_size, size_of, members_size}
-use Rattle.tsa_place_layout.specs.Places.{Given, Values, kind_places, elements_places, members_places, thing_places, places_inside}
-use Rattle.tsa_place_layout.specs.declared.place.Placed.{Placed}
-use Rattle.tsa_place_layout.specs.Calls.{Layout}
-use Rattle.tsa_place_layout.specs.Parts.{place_limit}
-use Rattle.tsa_place.specs.GlobalPlaces.{values_in}
-use Rattle.tsa_place_layout.specs.Standing.{IsBelow, IsOrdered}
+use Rattle.tsa_place_model.specs.Layouts.{Part, Structures, structure_at, kind_size, thing_size, size_of, members_size}
+use Rattle.tsa_place_model.specs.Places.{Given, Values, kind_places, elements_places, members_places, thing_places, places_inside}
+use Rattle.tsa_place_model.specs.declared.place.Placed.{Placed}
+use Rattle.tsa_place_model.specs.Calls.{Layout}
+use Rattle.tsa_place_model.specs.Parts.{place_limit}
+use Rattle.tsa_place_model.specs.GlobalPlaces.{values_in}
+use Rattle.tsa_place_model.specs.Standing.{IsBelow, IsOrdered}
 use Rattle.tsa_tree.specs.declared.kind.ThingType.{ThingType}
 
 -- what a part has from where it lies, with its initialiser as a tree

@@ -4,10 +4,10 @@ use Rattle.tsa_tree.specs.declarations.Syntax.{Initialiser}
 use Rattle.tsa_tree.specs.types.Scopes.{Scope}
 use Rattle.tsa_place.specs.declared.refusal.PlaceRefusal.{PlaceRefusal}
 use Rattle.tsa_place.specs.declared.refusal.PlaceRefusal.TheVariants.{TooMany, NoMemory}
-use Rattle.tsa_place_layout.specs.Layouts.{Part}
-use Rattle.tsa_place_layout.specs.declared.place.Placed.{Placed}
-use Rattle.tsa_place_layout.specs.Calls.{Layout}
-use Rattle.tsa_place.specs.GlobalPlaces.{passes, with_part}
+use Rattle.tsa_place_model.specs.Layouts.{Part}
+use Rattle.tsa_place_model.specs.declared.place.Placed.{Placed}
+use Rattle.tsa_place_model.specs.Calls.{Layout}
+use Rattle.tsa_place_model.specs.GlobalPlaces.{passes, with_part}
 
 -- more places behind others
 abbrev pub with_places : List Placed → Layout → Layout

@@ -1,14 +1,15 @@
 //! What is known where the places of a global are put, with what its cells hold at the start (C11 6.7.9).
 ghost use Rattle.std.specs.Prelude.{◌≡◌, ◌≤◌, length, option_map, IfOk};
-ghost use Rattle.tsa_place_layout.specs.Calls.{evaluated, no_locals};
+ghost use Rattle.tsa_place_model.specs.Calls.{evaluated, no_locals};
 ghost use Rattle.tsa_place.specs.Filling.{before, values_by};
-ghost use Rattle.tsa_place_layout.specs.Parts.{place_limit};
-ghost use Rattle.tsa_place.specs.GlobalPlaces.{address_in, cell_value};
+ghost use Rattle.tsa_place_model.specs.Parts.{place_limit};
+ghost use Rattle.tsa_place_model.specs.GlobalPlaces.{address_in, cell_value};
 ghost use Rattle.tsa_tree.specs.declarations.Shapes.{init_shape};
 ghost use Rattle.tsa_tree.specs.expressions.Shapes.{shape};
 
 use tsa_base::{NoMemory, Value};
-use tsa_place_layout::{Layout, Part, Placed, Structures};
+use tsa_place_layout::{Layout, Part, Structures};
+use tsa_place_model::Placed;
 use tsa_types_scope::Scope;
 use tsa_place_paths::Sight;
 use crate::{or_zero, zero_of};

@@ -1,15 +1,16 @@
 //! The places of a thing are put one after another (C11 6.2.5p20, 6.7.2.1p15), with a list of what has none yet in place of a recursion.
 ghost use Rattle.std.specs.Prelude.{Some, ◌≡◌, ◌++◌, ◌+◌, ◌≤◌, ◌∷◌, [], nat_lt, length, option_map, slice_get, IfOk, OnOk};
 ghost use Rattle.tsa_place.specs.Filling.{given, things_left, IsDefined, IsLeft, Leaves, values_by, with_one, with_left, with_thing, IsReady, Puts};
-ghost use Rattle.tsa_place_layout.specs.Layouts.{size_of, thing_size};
-ghost use Rattle.tsa_place_layout.specs.Places.{a_place, item_of as spec_item_of, element_of as spec_element_of, member_of as spec_member_of, places_of};
-ghost use Rattle.tsa_place_layout.specs.Standing.{IsBelow, IsOrdered, IsWithin};
-ghost use Rattle.tsa_place_layout.specs.Parts.{place_limit};
+ghost use Rattle.tsa_place_model.specs.Layouts.{size_of, thing_size};
+ghost use Rattle.tsa_place_model.specs.Places.{a_place, item_of as spec_item_of, element_of as spec_element_of, member_of as spec_member_of, places_of};
+ghost use Rattle.tsa_place_model.specs.Standing.{IsBelow, IsOrdered, IsWithin};
+ghost use Rattle.tsa_place_model.specs.Parts.{place_limit};
 ghost use Rattle.tsa_tree.specs.declarations.Shapes.{init_shape};
 
 use crate::environment::Known;
 use tsa_base::NoMemory;
-use tsa_place_layout::{Holder, Part, Placed, Structures};
+use tsa_place_layout::{Part, Structures};
+use tsa_place_model::{Holder, Placed};
 use tsa_tree::decl::Init;
 use tsa_tree::kind::{Kind, ThingType};
 

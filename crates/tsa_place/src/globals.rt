@@ -2,11 +2,11 @@
 ghost use Rattle.std.specs.Prelude.{◌≡◌, ◌+◌, ◌≤◌, ◌<◌, length, Some, slice_get, option_map, IfOk, OnOk};
 ghost use Rattle.tsa_place.specs.GlobalAnswers.{Adds, with_kept, with_places};
 ghost use Rattle.tsa_place.specs.Filling.{given};
-ghost use Rattle.tsa_place_layout.specs.Layouts.{size_of, thing_size};
-ghost use Rattle.tsa_place_layout.specs.Places.{places_of};
-ghost use Rattle.tsa_place_layout.specs.Standing.{IsOrdered, IsWithin};
-ghost use Rattle.tsa_place_layout.specs.Parts.{structure_in, behind_structure, place_limit};
-ghost use Rattle.tsa_place.specs.GlobalPlaces.{no_places, given_by, values_in, with_structure};
+ghost use Rattle.tsa_place_model.specs.Layouts.{size_of, thing_size};
+ghost use Rattle.tsa_place_model.specs.Places.{places_of};
+ghost use Rattle.tsa_place_model.specs.Standing.{IsOrdered, IsWithin};
+ghost use Rattle.tsa_place_model.specs.Parts.{structure_in, behind_structure, place_limit};
+ghost use Rattle.tsa_place_model.specs.GlobalPlaces.{no_places, given_by, values_in, with_structure};
 ghost use Rattle.tsa_tree.specs.declarations.Shapes.{decl_shapes, init_shape};
 ghost use Rattle.tsa_tree.specs.expressions.Shapes.{name_shape};
 
@@ -16,7 +16,8 @@ use crate::refusal::PlaceRefusal;
 use std::alloc::Global;
 use std::marker::Model;
 use tsa_base::NoMemory;
-use tsa_place_layout::{Holder, Layout, Part, Placed, Structures, define_struct};
+use tsa_place_layout::{Layout, Part, Structures, define_struct};
+use tsa_place_model::{Holder, Placed};
 use tsa_types_scope::Scope;
 use tsa_tree::decl::Init;
 use tsa_tree::item::StructDef;
@@ -45,8 +46,8 @@ impl Drop for Globals {
 
 impl Model for Globals {
     ghost use Rattle.std.specs.Prelude.{◌≤◌, length};
-    ghost use Rattle.tsa_place_layout.specs.Calls.{Layout};
-    ghost use Rattle.tsa_place_layout.specs.Parts.{place_limit};
+    ghost use Rattle.tsa_place_model.specs.Calls.{Layout};
+    ghost use Rattle.tsa_place_model.specs.Parts.{place_limit};
 
     ghost Value = { Layout };
 

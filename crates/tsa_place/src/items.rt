@@ -1,7 +1,7 @@
 //! Names of types, enumerators and globals, each known behind its declaration where its name isn't taken (C11 6.7.2.2, 6.7.8, 6.9.2).
 ghost use Rattle.std.specs.Prelude.{◌≡◌, pos, option_map, IfOk, OnOk};
-ghost use Rattle.tsa_place_layout.specs.Parts.{unless_taken};
-ghost use Rattle.tsa_place.specs.Items.{worth as spec_worth, worth_written, enumerators_behind, behind_enumeration, known_global, global_part, behind_data};
+ghost use Rattle.tsa_place_model.specs.Parts.{unless_taken};
+ghost use Rattle.tsa_place_model.specs.Items.{worth as spec_worth, worth_written, enumerators_behind, behind_enumeration, known_global, global_part, behind_data};
 ghost use Rattle.tsa_tree.specs.declarations.Shapes.{decl_shape, enumerator_shape, enumerator_shapes, type_shape};
 ghost use Rattle.tsa_tree.specs.expressions.Shapes.{name_shape, shape};
 ghost use Rattle.tsa_tree.specs.types.Enums.{next_after, enumerator_entry as spec_entry};

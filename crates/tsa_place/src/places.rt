@@ -1,8 +1,8 @@
 //! The places of a unit, with all that is asked of them (C11 6.2.4).
 ghost use Rattle.std.specs.Prelude.{◌≡◌, ◌<◌, length, Some, None, slice_get, option_map, IfOk};
 ghost use Rattle.tsa_place.specs.Answers.{Gives};
-ghost use Rattle.tsa_place_layout.specs.Calls.{declarator_of, element_place, evaluated, global_place, guards_of, is_addressable as spec_is_addressable, is_lock_kind, member_place, place_kind, text_of};
-ghost use Rattle.tsa_place.specs.Units.{placed_in};
+ghost use Rattle.tsa_place_model.specs.Calls.{declarator_of, element_place, evaluated, global_place, guards_of, is_addressable as spec_is_addressable, is_lock_kind, member_place, place_kind, text_of};
+ghost use Rattle.tsa_place_model.specs.Units.{placed_in};
 ghost use Rattle.tsa_tree.specs.units.Shapes.{item_shapes};
 
 use crate::unit::placed;
@@ -10,8 +10,8 @@ use std::alloc::Global;
 use std::marker::Model;
 use tsa_base::{NoMemory, Span, Value};
 use crate::{Globals, PlaceRefusal};
-use tsa_place_layout::{Guard, Layout, PlaceKind, Placed};
-use tsa_place_paths::Path;
+use tsa_place_layout::Layout;
+use tsa_place_model::{Guard, Path, PlaceKind, Placed};
 use tsa_tree::item::UnitTree;
 use tsa_tree::kind::Kind;
 
@@ -22,7 +22,7 @@ pub struct Places {
 }
 
 impl Model for Places {
-    ghost use Rattle.tsa_place_layout.specs.Calls.{Layout};
+    ghost use Rattle.tsa_place_model.specs.Calls.{Layout};
 
     ghost Value = { Layout };
 

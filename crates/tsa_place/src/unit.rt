@@ -1,15 +1,14 @@
 //! The items of a unit one by one, with their places (C11 6.9).
 ghost use Rattle.std.specs.Prelude.{◌≡◌, length};
 ghost use Rattle.tsa_place.specs.Answers.{Places, Gives, GivesAll};
-ghost use Rattle.tsa_place.specs.Units.{placed_behind, placed_in};
+ghost use Rattle.tsa_place_model.specs.Units.{placed_behind, placed_in};
 ghost use Rattle.tsa_tree.specs.declarations.Shapes.{decl_shape};
 ghost use Rattle.tsa_tree.specs.units.Shapes.{item_shape, item_shapes};
 ghost use Rattle.tsa_tree.specs.units.Syntax.{global_item};
 
 use std::alloc::Global;
-use crate::{Globals, PlaceRefusal};
+use crate::{Globals, PlaceRefusal, know_alias, know_enum, know_global};
 use tsa_types_scope::{Scope, outset};
-use crate::{know_alias, know_enum, know_global};
 use tsa_tree::decl::Decl;
 use tsa_tree::item::Item;
 

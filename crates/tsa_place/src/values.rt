@@ -1,6 +1,6 @@
 //! What cells hold at the start (C11 6.3.1.3, 6.7.9p10, p11).
 ghost use Rattle.std.specs.Prelude.{◌≡◌};
-ghost use Rattle.tsa_place.specs.Items.{converted as spec_converted, zero_of as spec_zero_of, or_zero as spec_or_zero};
+ghost use Rattle.tsa_place_model.specs.Items.{converted as spec_converted, zero_of as spec_zero_of, or_zero as spec_or_zero};
 ghost use Rattle.tsa_tree.specs.types.Arithmetic.{int_of};
 
 use tsa_base::Value;

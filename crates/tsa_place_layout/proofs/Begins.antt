@@ -4,11 +4,11 @@ use Rattle.std.proofs.lemmas.Bool.{eqb-true, eq-eqb}
 use Rattle.std.proofs.lemmas.List.{append-nil, append_assoc}
 use Rattle.tsa_tree.specs.declared.kind.Kind.{Kind}
 use Rattle.tsa_tree.specs.declared.kind.Kind.TheVariants as type
-use Rattle.tsa_place_layout.specs.Layouts.{Part, Structure, Structures, structure_at, no_members, kind_size, times, thing_size, members_size, size_of, offset, capped}
-use Rattle.tsa_place_layout.specs.Standing.{IsBelow, AllBelow}
+use Rattle.tsa_place_model.specs.Layouts.{Part, Structure, Structures, structure_at, no_members, kind_size, times, thing_size, members_size, size_of, offset, capped}
+use Rattle.tsa_place_model.specs.Standing.{IsBelow, AllBelow}
 use Rattle.tsa_place_layout.specs.Tables.{shown, latest, begins_from, IsKept}
 use Rattle.tsa_place_layout.specs.declared.structures.Defined.{Defined}
-use Rattle.tsa_place_layout.proofs.Standing.{earlier_structure, earlier_size}
+use Rattle.tsa_place_model.proofs.Standing.{earlier_structure, earlier_size}
 
 module _ (size : ℕ → ℕ) where
   -- what stands before a member, and from it on, is all

@@ -2,8 +2,9 @@
 use Rattle.std.proofs.Common.{◌≡◌, ◌∙◌, ℕ, suc, ◌+◌, ◌<◌, arith, List, ◌∷◌, drop, length, get_or, Option, option_and_then, sym, ap}
 use Rattle.std.proofs.Math.Seq.{drop-cons}
 use Rattle.tsa_base.specs.declared.value.Value.{Value}
-use Rattle.tsa_place_paths.specs.declared.path.PathStep.{PathStep}
-use Rattle.tsa_place_layout.specs.Calls.{Layout, Spot, take_step, take_steps}
+use Rattle.tsa_place_model.specs.declared.path.PathStep.{PathStep}
+use Rattle.tsa_place_model.specs.Calls.{Layout, take_step, take_steps}
+use Rattle.tsa_place_model.specs.declared.spot.Spot.{Spot}
 
 module _ (l : Layout) (locals : ℕ → Option Value) (steps seen : List PathStep) (i : ℕ) (same : seen ≡ steps) where
   pub step_next : (d : PathStep) (spot after : Option Spot) → i < length seen → after ≡ option_and_then (take_step l locals (get_or seen i d)) spot

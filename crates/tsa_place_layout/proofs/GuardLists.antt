@@ -6,9 +6,9 @@ use Rattle.tsa_tree.specs.declared.attr.Attr.{Attr}
 use Rattle.tsa_tree.specs.declared.expr.Expr.{Expr}
 use Rattle.tsa_tree.specs.expressions.Shapes.{shape, shapes}
 use Rattle.tsa_tree.specs.types.Scopes.{Scope}
-use Rattle.tsa_place_paths.specs.LockPaths.{lock_way}
-use Rattle.tsa_place_paths.specs.Ways.{Way}
-use Rattle.tsa_place_layout.specs.Parts.{argument_ways, guard_ways, is_guard, no_stable}
+use Rattle.tsa_place_model.specs.LockPaths.{lock_way}
+use Rattle.tsa_place_model.specs.Ways.{Way}
+use Rattle.tsa_place_model.specs.Parts.{argument_ways, guard_ways, is_guard, no_stable}
 
 -- what is made of a list, one after another
 module _ {A B : Type 0} (all : List A → List B) (one : A → List B) (nil : all [] ≡ []) (more : (x : A) (xs : List A) → all (x ∷ xs) ≡ one x ++ all xs) where

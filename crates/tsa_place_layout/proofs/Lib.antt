@@ -1,9 +1,6 @@
-pub mod Sizes
-pub mod Standing
 pub mod Tables
 pub mod GuardLists
 pub mod MemberLists
-pub mod Below
 pub mod Begins
 pub mod Evaluating
 pub mod WayLists

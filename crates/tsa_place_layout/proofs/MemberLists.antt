@@ -4,8 +4,8 @@ use Rattle.std.proofs.lemmas.List.{append-nil, append_assoc}
 use Rattle.tsa_tree.specs.declared.decl.Decl.{Decl}
 use Rattle.tsa_tree.specs.declarations.Shapes.{decl_shape, decl_shapes}
 use Rattle.tsa_tree.specs.types.Scopes.{Scope, Members, with_owned}
-use Rattle.tsa_place_layout.specs.Layouts.{Part}
-use Rattle.tsa_place_layout.specs.Parts.{part_in, member_behind, members_after, parts_behind}
+use Rattle.tsa_place_model.specs.Layouts.{Part}
+use Rattle.tsa_place_model.specs.Parts.{part_in, member_behind, members_after, parts_behind}
 
 module _ (here : Scope) (before : Members) where
   no_parts : parts_behind here before (decl_shapes []) ≡ []

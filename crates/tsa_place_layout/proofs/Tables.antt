@@ -6,9 +6,9 @@ use Rattle.std.proofs.lemmas.Bool.{eq-eqb}
 use Rattle.std.proofs.lemmas.Bool.Decides.{nat_tests}
 use Rattle.std.proofs.lemmas.List.{length-append}
 use Rattle.std.proofs.lemmas.Option.{slice_get_within, slice_get-get_or, get_or_from_slice_get}
-use Rattle.tsa_place_layout.specs.Layouts.{Structure, Structures, structure_at, no_members, size_of, members_size, capped}
-use Rattle.tsa_place_layout.specs.Standing.{AllBelow, IsOrdered}
-use Rattle.tsa_place_layout.proofs.Standing.{earlier_size, members_below}
+use Rattle.tsa_place_model.specs.Layouts.{Structure, Structures, structure_at, no_members, size_of, members_size, capped}
+use Rattle.tsa_place_model.specs.Standing.{AllBelow, IsOrdered}
+use Rattle.tsa_place_model.proofs.Standing.{earlier_size, members_below}
 use Rattle.tsa_place_layout.specs.Tables.{shown, latest, begins_from, IsSized, IsKept}
 use Rattle.tsa_place_layout.proofs.Begins.{as_many, begins_later, kept_at, none_at, other}
 use Rattle.tsa_place_layout.specs.declared.structures.Defined.{Defined}

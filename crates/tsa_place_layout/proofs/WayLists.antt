@@ -2,9 +2,10 @@
 use Rattle.std.proofs.Common.{◌≡◌, ◌∙◌, ℕ, zero, suc, ◌+◌, ◌-◌, ◌<◌, ◌≤◌, arith, List, [], ◌∷◌, ◌++◌, drop, length, get_or, Option, Some, None, refl, sym, ap}
 use Rattle.std.proofs.Math.Seq.{drop-cons}
 use Rattle.std.proofs.lemmas.List.{append-nil, append_assoc, drop_all}
-use Rattle.tsa_place_paths.specs.Ways.{Way}
-use Rattle.tsa_place_layout.specs.Places.{Placed}
-use Rattle.tsa_place_layout.specs.Calls.{Layout, Guard, owner_at, around, own_text, text_along, own_guards, guards_along, guard_by, guards_by}
+use Rattle.tsa_place_model.specs.Ways.{Way}
+use Rattle.tsa_place_model.specs.declared.place.Placed.{Placed}
+use Rattle.tsa_place_model.specs.Calls.{Layout, owner_at, around, own_text, text_along, own_guards, guards_along, guard_by, guards_by}
+use Rattle.tsa_place_model.specs.declared.place.Guard.{Guard}
 use Rattle.tsa_place_layout.proofs.GuardLists.{made_end, made_next}
 
 module _ (l : Layout) where

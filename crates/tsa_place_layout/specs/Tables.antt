@@ -1,8 +1,8 @@
 -- Structs as they are kept, each with how many places it takes.
 use Rattle.std.specs.Prelude.{◌≡◌, ℕ, ◌+◌, List, [], ◌∷◌, Some, slice_get}
 use Rattle.tsa_place_layout.specs.declared.structures.Defined.{Defined}
-use Rattle.tsa_place_layout.specs.Layouts.{Part, Structure, Structures, structure_at, size_of, thing_size, capped}
-use Rattle.tsa_place_layout.specs.Standing.{IsOrdered}
+use Rattle.tsa_place_model.specs.Layouts.{Part, Structure, Structures, structure_at, size_of, thing_size, capped}
+use Rattle.tsa_place_model.specs.Standing.{IsOrdered}
 
 abbrev pub shown : Defined → Structure
 shown d = record { is_lock = d.is_lock; members = d.members.items }

@@ -1,6 +1,6 @@
 //! Structs as items (C11 6.7.2.1): each is known behind its item, by its number and its name of a type.
 ghost use Rattle.std.specs.Prelude.{◌≡◌, ◌∷◌, length, option_map, OnOk};
-ghost use Rattle.tsa_place_layout.specs.Parts.{structure_in, behind_structure};
+ghost use Rattle.tsa_place_model.specs.Parts.{structure_in, behind_structure};
 ghost use Rattle.tsa_tree.specs.declarations.Shapes.{decl_shapes};
 ghost use Rattle.tsa_tree.specs.expressions.Shapes.{name_shape};
 
@@ -14,7 +14,7 @@ use tsa_types_scope::{Names, Scope};
 use tsa_types_operators::single;
 
 /// Defines the next struct, with its members and their guards.
-#[tactic(auto, using(crate::proofs::Below::parts_below))]
+#[tactic(auto, using(tsa_place_model::proofs::Below::parts_below))]
 pub fn define_struct<'a>(
     structs: &mut Structures,
     scope: &mut Scope<'a>,

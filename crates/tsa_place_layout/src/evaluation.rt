@@ -1,29 +1,10 @@
 //! Where a path leads in the start store (C11 6.5.2, 6.5.3.2): from its root step by step, along pointers to what they point to.
 ghost use Rattle.std.specs.Prelude.{◌≡◌, slice_get, option_and_then};
-ghost use Rattle.tsa_place_layout.specs.Calls.{index_in as spec_index_in, pointee as spec_pointee, place_in as spec_place_in, element_place, take_root, take_step, take_steps, evaluated};
+ghost use Rattle.tsa_place_model.specs.Calls.{index_in as spec_index_in, pointee as spec_pointee, element_place, take_root, take_step, take_steps, evaluated};
 
 use crate::layout::Layout;
 use tsa_base::Value;
-use tsa_place_paths::{Path, PathStep, Root};
-
-/// Where a path leads: to a place, or to a value that is held.
-#[derive(Clone, Copy, Debug, PartialEq, Eq)]
-pub enum Spot {
-    Place(u32),
-    Holds(Value),
-}
-
-impl Spot {
-    /// The place, where it is one.
-    fn place(self) -> Option<u32>
-        ensures { result ≡ spec_place_in self }
-    {
-        match self {
-            Spot::Place(place) => Some(place),
-            Spot::Holds(_) => None,
-        }
-    }
-}
+use tsa_place_model::{Path, PathStep, Root, Spot};
 
 /// What a value points to; nothing by null.
 fn pointee(value: Value) -> Option<Spot>

@@ -1,13 +1,14 @@
 //! The paths of guards (C11 6.5.2, 6.5.3.2): one for each argument of `guarded_by`, or none.
 ghost use Rattle.std.specs.Prelude.{◌≡◌, ◌++◌, IfOk, OnOk};
-ghost use Rattle.tsa_place_layout.specs.Parts.{argument_ways, guard_ways, is_guard as spec_is_guard, no_stable};
+ghost use Rattle.tsa_place_model.specs.Parts.{argument_ways, guard_ways, is_guard as spec_is_guard, no_stable};
 ghost use Rattle.tsa_tree.specs.attributes.Syntax.{attr_shapes};
 ghost use Rattle.tsa_tree.specs.expressions.Shapes.{shapes};
 
 use tsa_base::NoMemory;
 use tsa_tree::attr::{Attr, AttrKind};
 use tsa_tree::expr::Expr;
-use tsa_place_paths::{Path, Sight};
+use tsa_place_paths::Sight;
+use tsa_place_model::Path;
 use tsa_types_scope::Scope;
 
 /// Whether an attribute is `guarded_by`.

@@ -1,11 +1,11 @@
 //! What is known of the places of a unit, or of its first items, with what is asked of them.
 ghost use Rattle.std.specs.Prelude.{◌≡◌, ◌≤◌, length, slice_get, option_map};
-ghost use Rattle.tsa_place_layout.specs.Layouts.{structure_at};
-ghost use Rattle.tsa_place_layout.specs.Parts.{place_limit};
-ghost use Rattle.tsa_place_layout.specs.Calls.{there, global_place, member_place, element_place, part_of, is_lock_kind, initial_at, declarator_of};
+ghost use Rattle.tsa_place_model.specs.Layouts.{structure_at};
+ghost use Rattle.tsa_place_model.specs.Parts.{place_limit};
+ghost use Rattle.tsa_place_model.specs.Calls.{there, global_place, member_place, element_place, part_of, is_lock_kind, initial_at, declarator_of};
 
 use crate::parts::Part;
-use crate::place::{Holder, Placed};
+use tsa_place_model::{Holder, Placed};
 use crate::structures::Structures;
 use std::marker::Model;
 use tsa_base::{Span, Value};
@@ -23,8 +23,8 @@ pub struct Layout<'t> {
 
 impl<'t> Model for Layout<'t> {
     ghost use Rattle.std.specs.Prelude.{◌≤◌, length};
-    ghost use Rattle.tsa_place_layout.specs.Calls.{Layout};
-    ghost use Rattle.tsa_place_layout.specs.Parts.{place_limit};
+    ghost use Rattle.tsa_place_model.specs.Calls.{Layout};
+    ghost use Rattle.tsa_place_model.specs.Parts.{place_limit};
 
     ghost Value = { Layout };
 

@@ -1,6 +1,6 @@
 //! The members of a struct with their guards, in which those before them are known first (C11 6.7.2.1).
 ghost use Rattle.std.specs.Prelude.{◌≡◌, ◌++◌, ◌∷◌, [], IfOk, OnOk};
-ghost use Rattle.tsa_place_layout.specs.Parts.{part_in, whole as spec_whole, member_behind, members_after, parts_behind};
+ghost use Rattle.tsa_place_model.specs.Parts.{part_in, whole as spec_whole, member_behind, members_after, parts_behind};
 ghost use Rattle.tsa_tree.specs.types.DeclaredTypes.{thing_type};
 ghost use Rattle.tsa_tree.specs.declarations.Shapes.{decl_shape, decl_shapes};
 ghost use Rattle.tsa_tree.specs.types.Scopes.{with_owned};

@@ -1,6 +1,6 @@
 //! What members and globals are declared as.
 ghost use Rattle.std.specs.Prelude.{◌≡◌, IfOk};
-ghost use Rattle.tsa_place_layout.specs.Parts.{guard_ways, whole as spec_whole};
+ghost use Rattle.tsa_place_model.specs.Parts.{guard_ways, whole as spec_whole};
 ghost use Rattle.tsa_tree.specs.declarations.Shapes.{decl_shape, type_shape};
 ghost use Rattle.tsa_tree.specs.types.DeclaredTypes.{thing_type};
 
@@ -9,7 +9,7 @@ use std::marker::Model;
 use tsa_base::{NoMemory, Span};
 use tsa_tree::decl::{CType, Decl};
 use tsa_tree::kind::{Kind, ThingType};
-use tsa_place_paths::Path;
+use tsa_place_model::Path;
 use tsa_types_scope::{Scope, Symbols};
 use tsa_types_expressions::View;
 
@@ -34,7 +34,7 @@ impl Drop for Part {
 }
 
 impl Model for Part {
-    ghost use Rattle.tsa_place_layout.specs.Layouts.{Part};
+    ghost use Rattle.tsa_place_model.specs.Layouts.{Part};
 
     ghost Value = { Part };
 

@@ -1,7 +1,7 @@
 //! Structs with their members, and how many places things take (C11 6.2.5p20, 6.7.2.1). Counts stop at one more than a unit may have.
 ghost use Rattle.std.specs.Prelude.{◌≡◌, MatchOption, ◌∷◌, [], length, slice_get, option_map, IfOk, OnOk, OnErr};
-ghost use Rattle.tsa_place_layout.specs.Standing.{AllBelow, IsOrdered};
-ghost use Rattle.tsa_place_layout.specs.Layouts.{capped, size_of, kind_size as spec_kind_size, thing_size as spec_thing_size, members_size, structure_at, no_members, offset};
+ghost use Rattle.tsa_place_model.specs.Standing.{AllBelow, IsOrdered};
+ghost use Rattle.tsa_place_model.specs.Layouts.{capped, size_of, kind_size as spec_kind_size, thing_size as spec_thing_size, members_size, structure_at, no_members, offset};
 ghost use Rattle.tsa_place_layout.specs.Tables.{begins_from, IsKept};
 
 use crate::parts::Part;
@@ -69,7 +69,7 @@ pub struct Structures {
 
 impl Model for Structures {
     ghost use Rattle.std.specs.Prelude.{[]};
-    ghost use Rattle.tsa_place_layout.specs.Layouts.{Structures};
+    ghost use Rattle.tsa_place_model.specs.Layouts.{Structures};
     ghost use Rattle.tsa_place_layout.specs.Tables.{latest, IsSized};
 
     ghost Value = { Structures };

@@ -1,13 +1,12 @@
 //! What a place lies in, up to its global, and what is told along that: its text (C11 6.5.2.1, 6.5.2.3) and its guards.
 ghost use Rattle.std.specs.Prelude.{◌≡◌, ◌++◌, IfOk, OnOk};
-ghost use Rattle.tsa_place_layout.specs.Calls.{owner_at, way_to as spec_way_to, index_text, dot, part_name, part_of, own_text, text_of, guard_by, guards_by, own_guards, guards_of};
+ghost use Rattle.tsa_place_model.specs.Calls.{owner_at, way_to as spec_way_to, index_text, dot, part_name, part_of, own_text, text_of, guard_by, guards_by, own_guards, guards_of};
 
 use crate::layout::Layout;
-use crate::place::{Guard, Holder, Placed};
+use tsa_place_model::{Guard, Holder, Path, Placed};
 use itoa::Buffer;
 use std::alloc::Global;
 use tsa_base::NoMemory;
-use tsa_place_paths::Path;
 
 /// Appends an index in brackets, where there is one.
 fn add_index(text: &mut Vec<u8>, index: Option<u32>) -> Result<(), NoMemory>

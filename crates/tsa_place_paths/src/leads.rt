@@ -1,10 +1,10 @@
 //! Where expressions lead along pointers that never change (C11 6.5.2.1, 6.5.2.3, 6.5.3.2).
 ghost use Rattle.std.specs.Prelude.{◌≡◌, true, IfOk};
-ghost use Rattle.tsa_place_paths.specs.LockPaths.{in_range as spec_in_range, led as spec_led, pointed as spec_pointed, meant as spec_meant};
+ghost use Rattle.tsa_place_model.specs.LockPaths.{in_range as spec_in_range, led as spec_led, pointed as spec_pointed, meant as spec_meant};
 ghost use Rattle.tsa_tree.specs.types.Types.{single as spec_single};
-ghost use Rattle.tsa_place_paths.specs.Ways.{onward as spec_onward};
+ghost use Rattle.tsa_place_model.specs.Ways.{onward as spec_onward};
 
-use crate::path::{Path, PathStep};
+use tsa_place_model::{Path, PathStep};
 use std::marker::Model;
 use tsa_base::NoMemory;
 use tsa_types_operators::single;
@@ -20,7 +20,7 @@ pub struct Led {
 }
 
 impl Model for Led {
-    ghost use Rattle.tsa_place_paths.specs.LockPaths.{Led};
+    ghost use Rattle.tsa_place_model.specs.LockPaths.{Led};
 
     ghost Value = { Led };
 

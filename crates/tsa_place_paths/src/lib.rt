@@ -2,9 +2,7 @@
 #![tactic(auto)]
 
 mod leads;
-mod path;
 mod sight;
 
 pub use leads::{Led, meant};
-pub use path::{Path, PathStep, Root};
 pub use sight::{Sight, is_pointer};

@@ -1,10 +1,10 @@
 //! The paths of lock expressions, where `&` and `*` cancel and a pointer is followed once more, and those of a call's arguments.
 ghost use Rattle.std.specs.Prelude.{◌≡◌, option_map, IfOk};
-ghost use Rattle.tsa_place_paths.specs.LockPaths.{is_address as spec_is_address, is_pointer as spec_is_pointer};
+ghost use Rattle.tsa_place_model.specs.LockPaths.{is_address as spec_is_address, is_pointer as spec_is_pointer};
 ghost use Rattle.tsa_tree.specs.expressions.Shapes.{shape};
 
 use crate::leads::{Led, in_range, meant};
-use crate::path::{Path, PathStep, Root};
+use tsa_place_model::{Path, PathStep, Root};
 use tsa_base::NoMemory;
 use tsa_types_scope::Scope;
 use tsa_types_expressions::View;
@@ -52,9 +52,9 @@ impl<'w, 'a> Sight<'w, 'a> {
     ghost use Rattle.std.specs.Prelude.{None, true, option_and_then};
     ghost use Rattle.tsa_tree.specs.types.Scopes.{known_in, context_of};
     ghost use Rattle.tsa_tree.specs.types.DeclaredTypes.{value_in};
-    ghost use Rattle.tsa_place_paths.specs.LockPaths.{stable_in, to_member, name_way, member_step as spec_member_step, element_step as spec_element_step, index_step as spec_index_step, variable as spec_variable, or_variable, leads as spec_leads, lock_way};
-    ghost use Rattle.tsa_place_paths.specs.Ways.{from};
-    ghost use Rattle.tsa_place_paths.specs.Arguments.{constant_argument as spec_constant_argument, local_argument as spec_local_argument, or_local, index_argument as spec_index_argument, argument_way};
+    ghost use Rattle.tsa_place_model.specs.LockPaths.{stable_in, to_member, name_way, member_step as spec_member_step, element_step as spec_element_step, index_step as spec_index_step, variable as spec_variable, or_variable, leads as spec_leads, lock_way};
+    ghost use Rattle.tsa_place_model.specs.Ways.{from};
+    ghost use Rattle.tsa_place_model.specs.Arguments.{constant_argument as spec_constant_argument, local_argument as spec_local_argument, or_local, index_argument as spec_index_argument, argument_way};
 
     /// Whether a local never changes.
     fn is_stable(self, local: u32) -> bool
@@ -204,7 +204,7 @@ impl<'w, 'a> Sight<'w, 'a> {
 
     /// Where an expression leads as a place, or, where it stands as a pointer, to what that points. The recursion is as deep as the tree is high.
     #[cycle(leading)]
-    #[tactic(auto, unfolding(crate::specs::LockPaths::leads))]
+    #[tactic(auto, unfolding(tsa_place_model::specs::LockPaths::leads))]
     fn leads(self, as_pointer: bool, expr: &Expr<'_>) -> Result<Option<Led>, NoMemory>
         ensures { IfOk result (λ led. led ≡ spec_leads (stable_in self.entry.stable.now) self.entry.scope.now as_pointer (shape expr.now)) }
     {

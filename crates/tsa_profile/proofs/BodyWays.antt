@@ -10,13 +10,13 @@ use Rattle.tsa_tree.specs.statements.Syntax.{Statements}
 use Rattle.tsa_tree.specs.types.DeclaredTypes.{thing_type}
 use Rattle.tsa_tree.specs.types.Scopes.{Scope, further}
 use Rattle.tsa_tree.specs.types.Targets.{declared_in_all}
-use Rattle.tsa_place_paths.specs.Ways.{Way}
+use Rattle.tsa_place_model.specs.Ways.{Way}
 use Rattle.tsa_core.specs.Bodies.{Known, knows, Point, known_in_body, declared, point_of, body_of}
 use Rattle.tsa_core.specs.Meanings.{Call}
 use Rattle.tsa_core.specs.Programs.{Attr, Function, Program, Declared}
 use Rattle.tsa_core.specs.Uses.{Uses, uses_of}
 use Rattle.tsa_core.proofs.MappedLists.{map_at}
-use Rattle.tsa_place.proofs.Laid.{front_at}
+use Rattle.tsa_place_model.proofs.Laid.{front_at}
 use Rattle.tsa_core_points.specs.CoreLaws.{known_of}
 use Rattle.tsa_core_points.specs.Points.{PlacedPoint, placed, placed_all}
 use Rattle.tsa_core_points.proofs.Known.{points_are_of_the_core, uses_are_of_the_core}

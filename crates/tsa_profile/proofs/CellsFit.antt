@@ -23,13 +23,13 @@ use Rattle.tsa_tree.specs.types.Operands.{goes_to, is_struct_place, breaks_prefi
 use Rattle.tsa_tree.specs.types.Premises.{first, premise}
 use Rattle.tsa_tree.specs.types.Scopes.{Scope, context_of}
 use Rattle.tsa_tree.specs.types.Types as typed
-use Rattle.tsa_place_paths.specs.LockPaths.{Led, leads}
-use Rattle.tsa_place_layout.specs.declared.place.Placed.{Placed}
-use Rattle.tsa_place_layout.specs.Calls.{Layout, is_structure, evaluated, no_locals, place_in}
-use Rattle.tsa_place_layout.specs.Parts.{no_stable}
-use Rattle.tsa_place_layout.specs.Stores.{is_of}
-use Rattle.tsa_place.specs.Items.{or_zero}
-use Rattle.tsa_place.specs.GlobalPlaces.{address_in, cell_value, values_in}
+use Rattle.tsa_place_model.specs.LockPaths.{Led, leads}
+use Rattle.tsa_place_model.specs.declared.place.Placed.{Placed}
+use Rattle.tsa_place_model.specs.Calls.{Layout, is_structure, evaluated, no_locals, place_in}
+use Rattle.tsa_place_model.specs.Parts.{no_stable}
+use Rattle.tsa_place_model.specs.Stores.{is_of}
+use Rattle.tsa_place_model.specs.Items.{or_zero}
+use Rattle.tsa_place_model.specs.GlobalPlaces.{address_in, cell_value, values_in}
 use Rattle.tsa_core.proofs.CaseNumbers.{value_fits, unsigned_below}
 use Rattle.tsa_core.proofs.KindTests.{both_true, and_true, not_false}
 use Rattle.tsa_core.proofs.NoFailure.{none_of_both, none_of_first, keeps_typed}

@@ -17,21 +17,21 @@ use Rattle.tsa_tree.specs.types.Initialisers.{is_earlier, is_constant_place}
 use Rattle.tsa_tree.specs.types.Operands.{lacks, breaks_index, element_type}
 use Rattle.tsa_tree.specs.types.Scopes.{Scope, context_of, known_in}
 use Rattle.tsa_tree.specs.types.Types.{place}
-use Rattle.tsa_types_scope.specs.Lookups.{members_at, numbered}
-use Rattle.tsa_place_paths.specs.Arguments.{way_of}
-use Rattle.tsa_place_paths.specs.LockPaths as path
-use Rattle.tsa_place_paths.specs.LockPaths.{Led, led, leads, member_step, element_step, in_range, or_variable, index_step, name_way}
-use Rattle.tsa_place_paths.specs.Ways.{Way, from, onward}
-use Rattle.tsa_place_paths.specs.declared.path.Root.TheVariants.{Global}
-use Rattle.tsa_place_paths.specs.declared.path.PathStep.{PathStep}
-use Rattle.tsa_place_paths.specs.declared.path.PathStep.TheVariants.{Field, Constant, Variable, Follow}
-use Rattle.tsa_place_layout.specs.declared.evaluation.Spot.{Spot}
-use Rattle.tsa_place_layout.specs.declared.evaluation.Spot.TheVariants.{Place}
-use Rattle.tsa_place_layout.specs.Calls.{Layout, global_place, member_place, element_place, index_in, take_step, no_locals, part_guards}
-use Rattle.tsa_place_layout.specs.Layouts.{Part, Structures, no_members, structure_at}
-use Rattle.tsa_place_layout.specs.Parts.{no_stable}
-use Rattle.tsa_place_layout.specs.Places.{has_some}
-use Rattle.tsa_place.proofs.Laid.{IsLaid}
+use Rattle.tsa_tree.specs.types.Lookups.{members_at, numbered}
+use Rattle.tsa_place_model.specs.Arguments.{way_of}
+use Rattle.tsa_place_model.specs.LockPaths as path
+use Rattle.tsa_place_model.specs.LockPaths.{Led, led, leads, member_step, element_step, in_range, or_variable, index_step, name_way}
+use Rattle.tsa_place_model.specs.Ways.{Way, from, onward}
+use Rattle.tsa_place_model.specs.declared.path.Root.TheVariants.{Global}
+use Rattle.tsa_place_model.specs.declared.path.PathStep.{PathStep}
+use Rattle.tsa_place_model.specs.declared.path.PathStep.TheVariants.{Field, Constant, Variable, Follow}
+use Rattle.tsa_place_model.specs.declared.spot.Spot.{Spot}
+use Rattle.tsa_place_model.specs.declared.spot.Spot.TheVariants.{Place}
+use Rattle.tsa_place_model.specs.Calls.{Layout, global_place, member_place, element_place, index_in, take_step, no_locals, part_guards}
+use Rattle.tsa_place_model.specs.Layouts.{Part, Structures, no_members, structure_at}
+use Rattle.tsa_place_model.specs.Parts.{no_stable}
+use Rattle.tsa_place_model.specs.Places.{has_some}
+use Rattle.tsa_place_model.proofs.Laid.{IsLaid}
 use Rattle.tsa_core.specs.Uses.{access_guards, member_guards, field_guards, name_guards}
 use Rattle.tsa_core.proofs.KindTests.{both_true}
 use Rattle.tsa_core.proofs.KindsOfTerms.{of_owner}

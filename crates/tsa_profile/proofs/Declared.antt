@@ -22,13 +22,13 @@ use Rattle.tsa_tree.specs.types.Premises.{premise, first}
 use Rattle.tsa_tree.specs.types.Scopes.{Scope, context_of, is_taken}
 use Rattle.tsa_tree.specs.types.Units.{Tags, with_tag, is_marked, outset, tags_behind, locks_of, item_premises, behind_item, items_premises}
 use Rattle.tsa_tree.specs.units.Syntax.{UnitItem, structure_item, alias_item, enumeration_item, global_item, function_item, body_item}
-use Rattle.tsa_place_layout.specs.Calls.{Layout}
-use Rattle.tsa_place_layout.specs.declared.place.Placed.{Placed}
-use Rattle.tsa_place_layout.specs.Places.{Given, Values, Inside, a_place, kind_places, places_inside, places_of}
-use Rattle.tsa_place_layout.specs.Layouts.{size_of}
-use Rattle.tsa_place.specs.Items.{known_global, global_part, behind_data}
-use Rattle.tsa_place.specs.GlobalPlaces.{cell_value, given_by, values_in, no_places}
-use Rattle.tsa_place.specs.Units.{data_placed, too_many_at, or_behind, placed_behind}
+use Rattle.tsa_place_model.specs.Calls.{Layout}
+use Rattle.tsa_place_model.specs.declared.place.Placed.{Placed}
+use Rattle.tsa_place_model.specs.Places.{Given, Values, Inside, a_place, kind_places, places_inside, places_of}
+use Rattle.tsa_place_model.specs.Layouts.{size_of}
+use Rattle.tsa_place_model.specs.Items.{known_global, global_part, behind_data}
+use Rattle.tsa_place_model.specs.GlobalPlaces.{cell_value, given_by, values_in, no_places}
+use Rattle.tsa_place_model.specs.Units.{data_placed, too_many_at, or_behind, placed_behind}
 use Rattle.tsa_core.proofs.KindTests.{both_true, not_false}
 use Rattle.tsa_core.proofs.NoFailure.{keeps_typed, none_of_both, none_of_first}
 use Rattle.tsa_core.proofs.ScopesAlike.{Alike}

@@ -5,12 +5,12 @@ use Rattle.tsa_tree.specs.declared.kind.Kind.{Kind}
 use Rattle.tsa_tree.specs.declared.kind.Kind.TheVariants as type
 use Rattle.tsa_tree.specs.declared.kind.ThingType.{ThingType}
 use Rattle.tsa_tree.specs.types.Types.{single}
-use Rattle.tsa_place_layout.specs.declared.place.Placed.{Placed}
-use Rattle.tsa_place_layout.specs.Layouts.{Part, Structures, kind_size, size_of, thing_size, structure_at}
-use Rattle.tsa_place_layout.specs.Places.{Given, Values, item_of, a_place, element_of, member_of, kind_places, elements_places, thing_places, members_places, places_inside}
-use Rattle.tsa_place_layout.specs.Standing.{IsBelow, IsOrdered}
-use Rattle.tsa_place_layout.proofs.Standing.{below_more, object_is}
-use Rattle.tsa_place.proofs.Later.{own_members_below, all_at}
+use Rattle.tsa_place_model.specs.declared.place.Placed.{Placed}
+use Rattle.tsa_place_model.specs.Layouts.{Part, Structures, kind_size, size_of, thing_size, structure_at}
+use Rattle.tsa_place_model.specs.Places.{Given, Values, item_of, a_place, element_of, member_of, kind_places, elements_places, thing_places, members_places, places_inside}
+use Rattle.tsa_place_model.specs.Standing.{IsBelow, IsOrdered}
+use Rattle.tsa_place_model.proofs.Standing.{below_more, object_is}
+use Rattle.tsa_place_model.proofs.Later.{own_members_below, all_at}
 use Rattle.tsa_core.proofs.TypedTerms.{some_same}
 
 abbrev pub Every : (Placed → Type 0) → List Placed → Type 0

@@ -24,14 +24,14 @@ use Rattle.tsa_tree.specs.types.Premises.{first}
 use Rattle.tsa_tree.specs.types.Scopes.{Scope, Members, context_of, known_in, with_globals}
 use Rattle.tsa_tree.specs.types.Units.{behind_item}
 use Rattle.tsa_tree.specs.units.Syntax.{global_item}
-use Rattle.tsa_place_paths.specs.Ways.{Way}
-use Rattle.tsa_place_paths.specs.declared.path.PathStep.{PathStep}
-use Rattle.tsa_place_paths.specs.declared.path.PathStep.TheVariants.{Variable}
-use Rattle.tsa_place_paths.specs.LockPaths.{Led, member_step, element_step, name_way, or_variable, variable, to_element, in_range, leads}
-use Rattle.tsa_place_layout.specs.Calls.{Layout, evaluated, no_locals}
-use Rattle.tsa_place_layout.specs.Parts.{no_stable}
-use Rattle.tsa_place.specs.Items.{known_global, or_zero}
-use Rattle.tsa_place.specs.GlobalPlaces.{address_in, cell_value}
+use Rattle.tsa_place_model.specs.Ways.{Way}
+use Rattle.tsa_place_model.specs.declared.path.PathStep.{PathStep}
+use Rattle.tsa_place_model.specs.declared.path.PathStep.TheVariants.{Variable}
+use Rattle.tsa_place_model.specs.LockPaths.{Led, member_step, element_step, name_way, or_variable, variable, to_element, in_range, leads}
+use Rattle.tsa_place_model.specs.Calls.{Layout, evaluated, no_locals}
+use Rattle.tsa_place_model.specs.Parts.{no_stable}
+use Rattle.tsa_place_model.specs.Items.{known_global, or_zero}
+use Rattle.tsa_place_model.specs.GlobalPlaces.{address_in, cell_value}
 use Rattle.tsa_core.proofs.KindTests.{both_true}
 use Rattle.tsa_core.proofs.SameConstants.{SameConstants, same_value}
 use Rattle.tsa_core.proofs.ScopesAlike.{Alike, no_function, known_found, value_same}

@@ -9,8 +9,8 @@ use Rattle.tsa_tree.specs.types.Scopes.{Scope}
 use Rattle.tsa_tree.specs.types.Symbols.{number_of}
 use Rattle.tsa_tree.specs.types.Units.{outset}
 use Rattle.tsa_tree.specs.units.Syntax.{UnitItem}
-use Rattle.tsa_place_paths.specs.LockPaths.{stable_in}
-use Rattle.tsa_place_paths.specs.Ways.{Way}
+use Rattle.tsa_place_model.specs.LockPaths.{stable_in}
+use Rattle.tsa_place_model.specs.Ways.{Way}
 use Rattle.tsa_core.specs.Bodies.{known_in_body, body_of}
 use Rattle.tsa_core.specs.Programs.{Bodied, Declared, Function, Program, attrs_of, bodied_function, declared_functions, function_in, function_of, program_of, stable_locals}
 use Rattle.tsa_core.specs.Uses.{uses_of}

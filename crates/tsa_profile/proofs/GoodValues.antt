@@ -6,11 +6,11 @@ use Rattle.tsa_base.proofs.Truths.{never}
 use Rattle.tsa_tree.specs.declared.kind.Kind.{Kind}
 use Rattle.tsa_tree.specs.declared.kind.Kind.TheVariants as type
 use Rattle.tsa_tree.specs.types.Arithmetic.{is_int}
-use Rattle.tsa_place_layout.specs.declared.place.Placed.{Placed}
-use Rattle.tsa_place_layout.specs.Calls.{is_structure}
-use Rattle.tsa_place_layout.specs.Stores.{is_of}
-use Rattle.tsa_place.specs.Items.{zero_of}
-use Rattle.tsa_place.proofs.Laid.{front_at}
+use Rattle.tsa_place_model.specs.declared.place.Placed.{Placed}
+use Rattle.tsa_place_model.specs.Calls.{is_structure}
+use Rattle.tsa_place_model.specs.Stores.{is_of}
+use Rattle.tsa_place_model.specs.Items.{zero_of}
+use Rattle.tsa_place_model.proofs.Laid.{front_at}
 
 -- the kinds of what is declared
 abbrev pub is_data : Kind → Bool

@@ -16,7 +16,7 @@ use Rattle.tsa_tree.specs.types.Scopes.{Scope, found}
 use Rattle.tsa_tree.specs.units.Syntax.{UnitItem}
 use Rattle.tsa_core.proofs.BodyScopes.{SameTypes, through, with_param_types, small_kept}
 use Rattle.tsa_core.proofs.KindTests.{neither, not_false, and_true}
-use Rattle.tsa_place_paths.specs.Ways.{Way}
+use Rattle.tsa_place_model.specs.Ways.{Way}
 use Rattle.tsa_profile_accesses.specs.declared.premise.ProfileCode.TheVariants.{PF1, PF2, PF4, PF6, PF7, PF9}
 use Rattle.tsa_profile_accesses.specs.Premises.{premise, first}
 use Rattle.tsa_profile_accesses.specs.declared.standing.Standing.TheVariants.{Inside}

@@ -12,7 +12,7 @@ use Rattle.tsa_tree.specs.types.Initialisers.{elements, parts_of, is_misfit, or_
 use Rattle.tsa_tree.specs.types.Premises.{first}
 use Rattle.tsa_tree.specs.types.Scopes.{Scope, Members}
 use Rattle.tsa_tree.specs.types.Types.{single}
-use Rattle.tsa_place_layout.specs.Places.{item_at, item_of}
+use Rattle.tsa_place_model.specs.Places.{item_at, item_of}
 use Rattle.tsa_core.proofs.NoFailure.{none_of_both, none_of_first}
 use Rattle.tsa_profile.proofs.GoodValues.{is_data}
 

@@ -7,8 +7,8 @@ use Rattle.tsa_tree.specs.declared.kind.ThingType.{ThingType}
 use Rattle.tsa_tree.specs.types.Scopes.{Scope, FunctionEntry}
 use Rattle.tsa_tree.specs.types.Units.{outset, behind_item}
 use Rattle.tsa_tree.specs.units.Syntax.{UnitItem}
-use Rattle.tsa_types_scope.specs.Lookups.{params_in}
-use Rattle.tsa_place_layout.specs.Calls.{Layout}
+use Rattle.tsa_tree.specs.types.Lookups.{params_in}
+use Rattle.tsa_place_model.specs.Calls.{Layout}
 use Rattle.tsa_core.specs.Programs.{Declared, declared_by, declared_functions, function_in}
 use Rattle.tsa_core.proofs.MappedLists.{map_at}
 use Rattle.tsa_core.proofs.SignaturesFit.{Agree, HasItsResult, entry_signed, own_signed, item_agree}

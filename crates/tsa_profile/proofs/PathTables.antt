@@ -19,7 +19,7 @@ use Rattle.tsa_tree.specs.types.Symbols.{number_of}
 use Rattle.tsa_tree.specs.types.Units.{outset, around_body, body_premises, behind_item, item_premises, items_premises}
 use Rattle.tsa_tree.specs.units.Syntax.{UnitItem, structure_item, alias_item, enumeration_item, global_item, function_item, body_item}
 use Rattle.tsa_tree.proofs.types.UnitNodes.{premises_tell_it}
-use Rattle.tsa_place_paths.specs.Ways.{Way}
+use Rattle.tsa_place_model.specs.Ways.{Way}
 use Rattle.tsa_core.specs.Programs.{Bodied, Declared, Program, unless_known, first_head, declared_by, declared_functions, bodied_by, bodied_function, function_in, function_of, program_of}
 use Rattle.tsa_core.specs.Programs as program
 use Rattle.tsa_core.proofs.NoFailure.{none_of_both}

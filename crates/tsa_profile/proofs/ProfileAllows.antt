@@ -8,8 +8,8 @@ use Rattle.tsa_tree.specs.types.Globals.{with_global}
 use Rattle.tsa_tree.specs.types.Scopes.{Scope}
 use Rattle.tsa_tree.specs.types.Units.{behind_item}
 use Rattle.tsa_tree.specs.units.Syntax.{UnitItem, structure_item, alias_item, enumeration_item, global_item, function_item, body_item}
-use Rattle.tsa_place_layout.specs.declared.place.Placed.{Placed}
-use Rattle.tsa_place_layout.specs.Calls.{Layout, is_structure, is_addressable}
+use Rattle.tsa_place_model.specs.declared.place.Placed.{Placed}
+use Rattle.tsa_place_model.specs.Calls.{Layout, is_structure, is_addressable}
 use Rattle.tsa_core.specs.Programs.{Attr}
 use Rattle.tsa_core.proofs.KindTests.{and_true}
 use Rattle.tsa_profile_accesses.specs.declared.premise.ProfileCode.{ProfileCode}

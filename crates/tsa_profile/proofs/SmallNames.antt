@@ -20,8 +20,8 @@ use Rattle.tsa_tree.specs.types.Globals.{global_entry}
 use Rattle.tsa_tree.specs.types.Scopes.{Scope, Members, found, context_of, known_in, with_name, with_named, with_struct, a_type_name, is_taken, is_named_taken}
 use Rattle.tsa_tree.specs.types.Types.{single}
 use Rattle.tsa_tree.specs.units.Syntax.{UnitItem, structure_item, alias_item, enumeration_item, global_item, function_item, body_item}
-use Rattle.tsa_place_layout.specs.Parts.{members_after, unless, unless_taken, unless_named}
-use Rattle.tsa_place.specs.Items.{worth_written, worth, enumerators_behind, behind_data}
+use Rattle.tsa_place_model.specs.Parts.{members_after, unless, unless_taken, unless_named}
+use Rattle.tsa_place_model.specs.Items.{worth_written, worth, enumerators_behind, behind_data}
 use Rattle.tsa_core.proofs.ScopesAlike.{known_found}
 use Rattle.tsa_profile.proofs.NumbersFit.{IsFit, IsSmall, value_is_fit}
 

@@ -13,12 +13,12 @@ use Rattle.tsa_tree.specs.types.Scopes.{Scope}
 use Rattle.tsa_tree.specs.types.Units.{outset, behind_item, refusal_of_types}
 use Rattle.tsa_tree.specs.units.Sound.{SoundItems}
 use Rattle.tsa_tree.specs.units.Syntax.{UnitItem, structure_item, alias_item, enumeration_item, global_item, function_item, body_item}
-use Rattle.tsa_place_layout.specs.declared.place.Placed.{Placed}
-use Rattle.tsa_place_layout.specs.Calls.{Layout, is_structure, is_addressable}
-use Rattle.tsa_place_layout.specs.Stores.{may_point, is_value_of, start}
-use Rattle.tsa_place.specs.Leading.{HasPlaces}
-use Rattle.tsa_place.proofs.Laid.{nothing_laid}
-use Rattle.tsa_place.specs.GlobalPlaces.{no_places}
+use Rattle.tsa_place_model.specs.declared.place.Placed.{Placed}
+use Rattle.tsa_place_model.specs.Calls.{Layout, is_structure, is_addressable}
+use Rattle.tsa_place_model.specs.Stores.{may_point, is_value_of, start}
+use Rattle.tsa_place_model.specs.Leading.{HasPlaces}
+use Rattle.tsa_place_model.proofs.Laid.{nothing_laid}
+use Rattle.tsa_place_model.specs.GlobalPlaces.{no_places}
 use Rattle.tsa_core.proofs.LaidScopes.{Fits, MembersFit}
 use Rattle.tsa_core.specs.Programs.{layout_or_none, program_of}
 use Rattle.tsa_path.proofs.StandDeclared.{no_heads}

@@ -26,19 +26,19 @@ use Rattle.tsa_tree.specs.types.Structs.{with_member, member_premises, members_p
 use Rattle.tsa_tree.specs.types.Units.{item_premises, items_premises, behind_item}
 use Rattle.tsa_tree.specs.units.Sound.{SoundItem, SoundItems}
 use Rattle.tsa_tree.specs.units.Syntax.{UnitItem, names_of_item, structure_item, alias_item, enumeration_item, global_item, function_item, body_item}
-use Rattle.tsa_place_layout.specs.declared.place.Placed.{Placed}
-use Rattle.tsa_place_layout.specs.Calls.{Layout}
-use Rattle.tsa_place_layout.specs.Layouts.{Part, Structure, Structures, structure_at}
-use Rattle.tsa_place_layout.specs.Parts.{member_behind, parts_behind, part_in, structure_in, unless}
-use Rattle.tsa_place_layout.specs.Places.{item_of, places_of}
-use Rattle.tsa_place_layout.proofs.Below.{part_within}
-use Rattle.tsa_place_layout.proofs.Standing.{earlier_structure}
-use Rattle.tsa_place.specs.Items.{known_global, global_part, behind_data}
-use Rattle.tsa_place.specs.GlobalPlaces.{values_in, given_by}
-use Rattle.tsa_place.specs.Units.{data_placed, too_many_at, or_behind, placed_behind}
-use Rattle.tsa_place.proofs.Laid as laid
-use Rattle.tsa_place.proofs.Laid.{IsLaid, front_at}
-use Rattle.tsa_place.proofs.Pieces.{some_at}
+use Rattle.tsa_place_model.specs.declared.place.Placed.{Placed}
+use Rattle.tsa_place_model.specs.Calls.{Layout}
+use Rattle.tsa_place_model.specs.Layouts.{Part, Structure, Structures, structure_at}
+use Rattle.tsa_place_model.specs.Parts.{member_behind, parts_behind, part_in, structure_in, unless}
+use Rattle.tsa_place_model.specs.Places.{item_of, places_of}
+use Rattle.tsa_place_model.proofs.Below.{part_within}
+use Rattle.tsa_place_model.proofs.Standing.{earlier_structure}
+use Rattle.tsa_place_model.specs.Items.{known_global, global_part, behind_data}
+use Rattle.tsa_place_model.specs.GlobalPlaces.{values_in, given_by}
+use Rattle.tsa_place_model.specs.Units.{data_placed, too_many_at, or_behind, placed_behind}
+use Rattle.tsa_place_model.proofs.Laid as laid
+use Rattle.tsa_place_model.proofs.Laid.{IsLaid, front_at}
+use Rattle.tsa_place_model.proofs.Pieces.{some_at}
 use Rattle.tsa_core.specs.Kinds.{Setting, Belongs}
 use Rattle.tsa_core.proofs.KindTests.{both_true, not_false, not_true}
 use Rattle.tsa_core.proofs.KindsOfTerms.{part_at}

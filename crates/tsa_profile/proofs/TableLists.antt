@@ -1,7 +1,7 @@
 -- The paths of functions by their numbers.
 use Rattle.std.proofs.Common.{◌≡◌, ◌∙◌, ℕ, List, Option, Some, None, map, option_map, option_and_then, slice_get, refl, sym, ap}
 use Rattle.std.proofs.lemmas.Option.{slice_get-map}
-use Rattle.tsa_place_paths.specs.Ways.{Way}
+use Rattle.tsa_place_model.specs.Ways.{Way}
 use Rattle.tsa_core.specs.Programs.{Function}
 
 abbrev flat : Option (Option (List Way)) → Option (List Way)

@@ -15,7 +15,7 @@ use Rattle.tsa_tree.specs.units.Syntax.{UnitItem, structure_item, alias_item, en
 use Rattle.tsa_core.specs.Programs.{Attr}
 use Rattle.tsa_core.proofs.KindTests.{and_true}
 use Rattle.tsa_core.proofs.NoFailure as typing
-use Rattle.tsa_place_layout.specs.Parts.{member_behind}
+use Rattle.tsa_place_model.specs.Parts.{member_behind}
 use Rattle.tsa_profile_accesses.specs.Premises.{first}
 use Rattle.tsa_profile_declarations.specs.Declarations.{guard_premises, given_init}
 use Rattle.tsa_profile_points.specs.Bodies.{points_premises}

@@ -6,9 +6,9 @@ use Rattle.tsa_tree.specs.expressions.Syntax.{Expression}
 use Rattle.tsa_tree.specs.types.DeclaredTypes.{thing_type}
 use Rattle.tsa_tree.specs.types.Units.{refusal_of_types}
 use Rattle.tsa_tree.specs.units.Syntax.{UnitItem, global_item}
-use Rattle.tsa_place_layout.specs.declared.place.Placed.{Placed}
-use Rattle.tsa_place_layout.specs.Calls.{Layout}
-use Rattle.tsa_place.specs.Units.{placed_in}
+use Rattle.tsa_place_model.specs.declared.place.Placed.{Placed}
+use Rattle.tsa_place_model.specs.Calls.{Layout}
+use Rattle.tsa_place_model.specs.Units.{placed_in}
 use Rattle.tsa_core.specs.Programs.{program_with}
 use Rattle.tsa_profile.specs.declared.items_end.Parameter.{Parameter}
 use Rattle.tsa_profile.specs.Arguments.{behind_unit, parameter_type, value_seen, view_behind}

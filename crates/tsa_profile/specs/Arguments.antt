@@ -9,10 +9,10 @@ use Rattle.tsa_tree.specs.types.Premises as types
 use Rattle.tsa_tree.specs.types.Scopes.{Scope}
 use Rattle.tsa_tree.specs.types.Units.{outset, behind_item}
 use Rattle.tsa_tree.specs.units.Syntax.{UnitItem}
-use Rattle.tsa_types_scope.specs.Lookups.{params_in}
-use Rattle.tsa_place_layout.specs.Calls.{Layout}
-use Rattle.tsa_place_layout.specs.Parts.{no_stable}
-use Rattle.tsa_place.specs.GlobalPlaces.{values_in}
+use Rattle.tsa_tree.specs.types.Lookups.{params_in}
+use Rattle.tsa_place_model.specs.Calls.{Layout}
+use Rattle.tsa_place_model.specs.Parts.{no_stable}
+use Rattle.tsa_place_model.specs.GlobalPlaces.{values_in}
 use Rattle.tsa_core.specs.Programs.{Attr, program_with}
 use Rattle.tsa_profile_accesses.specs.Premises as profile
 use Rattle.tsa_profile_accesses.specs.Expressions.{View}

@@ -2,7 +2,7 @@
 -- reads and writes, in order of the text, and those that the function which it calls names, as they are here.
 use Rattle.std.specs.Prelude.{List, [], ◌∷◌, ◌++◌, map, Option, Some, None, option_and_then, slice_get}
 use Rattle.std.specs.List.{flat_map}
-use Rattle.tsa_place_paths.specs.Ways.{Way}
+use Rattle.tsa_place_model.specs.Ways.{Way}
 use Rattle.tsa_core.specs.Bodies.{Body, Point}
 use Rattle.tsa_core.specs.Meanings.{Call}
 use Rattle.tsa_core.specs.Programs.{Function, Program}

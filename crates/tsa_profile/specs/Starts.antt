@@ -8,10 +8,10 @@ use Rattle.tsa_tree.specs.types.Arithmetic.{is_int}
 use Rattle.tsa_tree.specs.types.Units.{refusal_of_types}
 use Rattle.tsa_tree.specs.units.Sound.{SoundItems}
 use Rattle.tsa_tree.specs.units.Syntax.{UnitItem}
-use Rattle.tsa_place_layout.specs.declared.place.Placed.{Placed}
-use Rattle.tsa_place_layout.specs.Calls.{Layout, is_structure}
-use Rattle.tsa_place_layout.specs.Stores.{is_of, IsWellTyped, start}
-use Rattle.tsa_place.specs.Leading.{HasPlaces}
+use Rattle.tsa_place_model.specs.declared.place.Placed.{Placed}
+use Rattle.tsa_place_model.specs.Calls.{Layout, is_structure}
+use Rattle.tsa_place_model.specs.Stores.{is_of, IsWellTyped, start}
+use Rattle.tsa_place_model.specs.Leading.{HasPlaces}
 use Rattle.tsa_profile_context.specs.Units.{refusal_of_profile}
 
 -- an object of a struct, which is const only where the type says so, guarded or not

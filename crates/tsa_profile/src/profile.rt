@@ -3,7 +3,7 @@ ghost use Rattle.std.specs.Prelude.{◌≡◌, [], Ok, map, IfOk};
 ghost use Rattle.tsa_core.specs.Programs.{program_of};
 ghost use Rattle.tsa_profile_context.specs.ItemJudgements.{Judges, forget};
 ghost use Rattle.tsa_profile_context.specs.Units.{refusal_of_profile, refusal_with};
-ghost use Rattle.tsa_place.specs.Units.{placed_in};
+ghost use Rattle.tsa_place_model.specs.Units.{placed_in};
 ghost use Rattle.tsa_profile.specs.Paths.{paths_if};
 ghost use Rattle.tsa_tree.specs.units.Shapes.{item_shapes};
 

@@ -2,7 +2,7 @@
 ghost use Rattle.std.specs.Prelude.{◌≡◌, None, Ok, map, option_map, option_and_then, slice_get, IfOk};
 ghost use Rattle.tsa_profile.specs.Arguments.{argument_of};
 ghost use Rattle.tsa_core.specs.Programs.{program_of};
-ghost use Rattle.tsa_place.specs.Units.{placed_in};
+ghost use Rattle.tsa_place_model.specs.Units.{placed_in};
 ghost use Rattle.tsa_profile.specs.Paths.{paths_if};
 ghost use Rattle.tsa_profile_context.specs.Units.{refusal_with};
 ghost use Rattle.tsa_tree.specs.expressions.Shapes.{shape};

@@ -2,7 +2,7 @@
 ghost use Rattle.std.specs.Prelude.{◌≡◌, List, Some, IfOk};
 ghost use Rattle.tsa_profile.specs.Arguments.{is_in_profile as spec_is_in_profile, value_seen as spec_value_seen, view_with};
 ghost use Rattle.tsa_core.specs.Programs.{Attr};
-ghost use Rattle.tsa_place.specs.GlobalPlaces.{address_in, values_in};
+ghost use Rattle.tsa_place_model.specs.GlobalPlaces.{address_in, values_in};
 ghost use Rattle.tsa_tree.specs.declarations.Syntax.{value};
 ghost use Rattle.tsa_tree.specs.expressions.Shapes.{shape};
 

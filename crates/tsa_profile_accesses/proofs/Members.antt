@@ -2,9 +2,9 @@
 use Rattle.std.proofs.Common.{◌≡◌, ℕ, List, Option, Some, None, refl}
 use Rattle.std.specs.Prelude.{option_and_then}
 use Rattle.tsa_tree.specs.types.Scopes.{Scope}
-use Rattle.tsa_types_scope.specs.Lookups.{members_at, numbered}
-use Rattle.tsa_place_paths.specs.Ways.{Way}
-use Rattle.tsa_place_layout.specs.Calls.{Layout}
+use Rattle.tsa_tree.specs.types.Lookups.{members_at, numbered}
+use Rattle.tsa_place_model.specs.Ways.{Way}
+use Rattle.tsa_place_model.specs.Calls.{Layout}
 use Rattle.tsa_core.specs.Uses.{field_guards}
 use Rattle.tsa_profile_accesses.specs.Members.{found_guards}
 

@@ -5,8 +5,8 @@ use Rattle.tsa_tree.specs.declared.expr.Expr.{Expr}
 use Rattle.tsa_tree.specs.declared.kind.ThingType.{ThingType}
 use Rattle.tsa_tree.specs.expressions.Shapes.{shape, shapes}
 use Rattle.tsa_tree.specs.types.Scopes.{Scope, known_in}
-use Rattle.tsa_place_paths.specs.Arguments.{argument_way}
-use Rattle.tsa_place_paths.specs.Ways.{Way}
+use Rattle.tsa_place_model.specs.Arguments.{argument_way}
+use Rattle.tsa_place_model.specs.Ways.{Way}
 use Rattle.tsa_core.specs.Uses.{argument_ways, call_ways, called_ways}
 use Rattle.std.specs.Borrow.{Bor}
 use Rattle.tsa_tree.proofs.expressions.Trees.{call_at}

@@ -4,9 +4,9 @@ use Rattle.tsa_tree.specs.declared.kind.ExpressionType.{ExpressionType}
 use Rattle.tsa_tree.specs.expressions.Syntax.{Expression}
 use Rattle.tsa_tree.specs.types.Expressions.{owner}
 use Rattle.tsa_tree.specs.types.Scopes.{Scope}
-use Rattle.tsa_place_paths.specs.LockPaths.{Led, leads, meant, member_step}
-use Rattle.tsa_place_paths.specs.Ways.{Way}
-use Rattle.tsa_place_layout.specs.Calls.{Layout}
+use Rattle.tsa_place_model.specs.LockPaths.{Led, leads, meant, member_step}
+use Rattle.tsa_place_model.specs.Ways.{Way}
+use Rattle.tsa_place_model.specs.Calls.{Layout}
 use Rattle.tsa_core.specs.Cells.{cells_read, inner_cells}
 use Rattle.tsa_core.specs.Meanings.{is_cell, is_place, meaning, null_pointer, of_field, of_type}
 use Rattle.tsa_core.specs.Terms.{Sense}

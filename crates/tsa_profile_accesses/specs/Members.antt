@@ -1,8 +1,8 @@
 -- The guards of a member that was looked up in a struct.
 use Rattle.std.specs.Prelude.{ℕ, List, [], Option, Some, None}
 use Rattle.tsa_tree.specs.declared.kind.ThingType.{ThingType}
-use Rattle.tsa_place_paths.specs.Ways.{Way}
-use Rattle.tsa_place_layout.specs.Calls.{Layout}
+use Rattle.tsa_place_model.specs.Ways.{Way}
+use Rattle.tsa_place_model.specs.Calls.{Layout}
 use Rattle.tsa_core.specs.Uses.{member_guards}
 
 abbrev pub found_guards : Layout → (owner : Option Way) → (struct : Option ℕ) → Option (ℕ × ThingType) → List (Option Way)

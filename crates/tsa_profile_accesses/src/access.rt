@@ -6,7 +6,7 @@ use crate::thing::{Thing, is_loaded};
 use std::alloc::Global;
 use std::marker::Model;
 use tsa_base::{NoMemory, Span};
-use tsa_place_paths::Path;
+use tsa_place_model::Path;
 
 /// A cell as it is read or written: where the expression stands that stands for it, and the paths of its guards in order, of which some may have none.
 pub struct Access {

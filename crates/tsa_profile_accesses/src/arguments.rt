@@ -2,7 +2,7 @@
 ghost use Rattle.std.specs.Prelude.{◌≡◌, option_map, IfOk};
 ghost use Rattle.tsa_core.specs.Uses.{argument_ways, call_ways, called_ways};
 ghost use Rattle.tsa_tree.specs.expressions.Shapes.{shape, shapes};
-ghost use Rattle.tsa_place_paths.specs.LockPaths.{stable_in};
+ghost use Rattle.tsa_place_model.specs.LockPaths.{stable_in};
 ghost use Rattle.tsa_profile_accesses.specs.Arguments.{arguments_of};
 
 use crate::body::Body;
@@ -11,7 +11,7 @@ use tsa_types_expressions::function_of;
 use tsa_tree::expr::{BinaryOp, Expr, ExprKind, UnaryOp};
 use tsa_tree::kind::ThingType;
 use tsa_tree::meaning::Entry;
-use tsa_place_paths::Path;
+use tsa_place_model::Path;
 
 impl<'w, 'a> Body<'w, 'a> {
     /// The paths of arguments beside their parameters, as many as there are of both.

@@ -2,27 +2,28 @@
 ghost use Rattle.std.specs.Prelude.{◌≡◌, true, ◌++◌, length, Some, None, slice_get, option_map, option_and_then, IfOk, OnOk};
 ghost use Rattle.tsa_core.specs.Meanings.{of_name};
 ghost use Rattle.tsa_core.specs.Uses.{guards_owned, member_guards, name_guards as spec_name_guards};
-ghost use Rattle.tsa_place_layout.specs.Calls.{part_guards};
-ghost use Rattle.tsa_place_layout.specs.Layouts.{structure_at};
-ghost use Rattle.tsa_place_paths.specs.Ways.{from};
-ghost use Rattle.tsa_place_paths.specs.declared.path.Root.TheVariants as root;
-ghost use Rattle.tsa_types_scope.specs.Lookups.{members_at, numbered};
+ghost use Rattle.tsa_place_model.specs.Calls.{part_guards};
+ghost use Rattle.tsa_place_model.specs.Layouts.{structure_at};
+ghost use Rattle.tsa_place_model.specs.Ways.{from};
+ghost use Rattle.tsa_place_model.specs.declared.path.Root.TheVariants as root;
+ghost use Rattle.tsa_tree.specs.types.Lookups.{members_at, numbered};
 ghost use Rattle.tsa_tree.specs.expressions.Shapes.{shape};
 ghost use Rattle.tsa_tree.specs.types.Scopes.{known_in};
 ghost use Rattle.tsa_tree.specs.types.Operands.{element_type as spec_element_type};
-ghost use Rattle.tsa_place_paths.specs.LockPaths.{stable_in, name_way, element_step};
+ghost use Rattle.tsa_place_model.specs.LockPaths.{stable_in, name_way, element_step};
 ghost use Rattle.tsa_profile_accesses.specs.Members.{found_guards};
 ghost use Rattle.tsa_profile_accesses.specs.ExpressionViews.{a_value, member_of, thing_of};
 
 use tsa_base::NoMemory;
-use tsa_place_layout::{Holder, Layout};
+use tsa_place_layout::Layout;
+use tsa_place_model::{Holder, Path, Root};
 use tsa_types_operators::element_type;
 use tsa_types_expressions::owner;
 use crate::{NamedLocks, Seen, Thing, add_owned, copies, member_thing, named_thing, path_of};
 use tsa_tree::expr::Expr;
 use tsa_tree::kind::ThingType;
 use tsa_tree::meaning::{Entry, Meaning};
-use tsa_place_paths::{Path, Root, Sight};
+use tsa_place_paths::Sight;
 
 /// What has a member: the path to it, where it has one, and its struct, where it is one.
 #[derive(Clone, Copy)]

@@ -10,7 +10,8 @@ use crate::thing::{Thing, prefix_thing};
 use std::alloc::Global;
 use std::marker::Model;
 use tsa_base::{NoMemory, Span};
-use tsa_place_paths::{Led, Path, meant};
+use tsa_place_paths::{Led, meant};
+use tsa_place_model::Path;
 use tsa_tree::expr::UnaryOp;
 
 /// What an expression is, where it leads, and the guards of its access.

@@ -4,7 +4,7 @@ ghost use Rattle.tsa_core.specs.Uses.{guards_owned, owned_by};
 
 use std::alloc::Global;
 use tsa_base::NoMemory;
-use tsa_place_paths::{Path, Root};
+use tsa_place_model::{Path, Root};
 
 /// A path that begins at a struct object, behind the path to that; none where that has none. Any other path stays the same.
 fn owned(alloc: Global, owner: Option<&Path>, path: &Path) -> Result<Option<Path>, NoMemory>

@@ -6,7 +6,7 @@ ghost use Rattle.tsa_profile_accesses.specs.Locks.{is_empty, is_try as spec_is_t
 use std::alloc::Global;
 use std::marker::Model;
 use tsa_base::NoMemory;
-use tsa_place_paths::Path;
+use tsa_place_model::Path;
 use tsa_path::substitute;
 use tsa_tree::attr::AttrKind;
 

@@ -3,7 +3,7 @@ use Rattle.std.proofs.Common.{◌≡◌, ◌∙◌, false, List, ap}
 use Rattle.tsa_tree.specs.declarations.Syntax.{Declaration}
 use Rattle.tsa_tree.specs.types.Globals.{with_global}
 use Rattle.tsa_tree.specs.types.Scopes.{Scope}
-use Rattle.tsa_place_layout.specs.Parts.{no_stable}
+use Rattle.tsa_place_model.specs.Parts.{no_stable}
 use Rattle.tsa_core.specs.Programs.{Attr}
 use Rattle.tsa_profile_accesses.specs.Premises.{Premise}
 use Rattle.tsa_profile_accesses.specs.Expressions.{View}

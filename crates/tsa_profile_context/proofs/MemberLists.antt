@@ -4,7 +4,7 @@ use Rattle.tsa_tree.specs.declarations.Shapes.{decl_shape, decl_shapes}
 use Rattle.tsa_tree.specs.declarations.Syntax.{Declaration}
 use Rattle.tsa_tree.specs.declared.decl.Decl.{Decl}
 use Rattle.tsa_tree.specs.types.Scopes.{Scope, Members, with_owned}
-use Rattle.tsa_place_layout.specs.Parts.{member_behind, members_after}
+use Rattle.tsa_place_model.specs.Parts.{member_behind, members_after}
 use Rattle.tsa_core.specs.Programs.{Attr}
 use Rattle.tsa_profile_accesses.specs.declared.premise.Failure.{Failure}
 use Rattle.tsa_profile_accesses.specs.Premises.{or_else, first}

@@ -8,7 +8,7 @@ use Rattle.tsa_tree.specs.types.Scopes.{Scope}
 use Rattle.tsa_tree.specs.types.Units.{outset, behind_item}
 use Rattle.tsa_tree.specs.units.Shapes.{item_shapes}
 use Rattle.tsa_tree.specs.units.Syntax.{UnitItem}
-use Rattle.tsa_place_paths.specs.LockPaths.{stable_in}
+use Rattle.tsa_place_model.specs.LockPaths.{stable_in}
 use Rattle.tsa_core.specs.Programs.{Attr, first_head}
 use Rattle.tsa_core_points.specs.Points.{PlacedPoint}
 use Rattle.tsa_profile_accesses.specs.Premises.{Premise, first, or_else, premise}

@@ -4,7 +4,7 @@ use Rattle.tsa_tree.specs.types.Scopes.{Scope}
 use Rattle.tsa_tree.specs.types.Symbols.{number_of}
 use Rattle.tsa_tree.specs.types.Units.{behind_item}
 use Rattle.tsa_tree.specs.units.Syntax.{UnitItem, body_item}
-use Rattle.tsa_place_paths.specs.Ways.{Way}
+use Rattle.tsa_place_model.specs.Ways.{Way}
 use Rattle.tsa_core.specs.Programs.{Attr, declared_by}
 use Rattle.tsa_profile_context.specs.Units.{Unit, attributes_behind, paths_at, points_in}
 

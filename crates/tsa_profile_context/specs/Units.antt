@@ -9,9 +9,9 @@ use Rattle.tsa_tree.specs.types.Scopes.{Scope, Members, found, with_owned}
 use Rattle.tsa_tree.specs.types.Symbols.{number_of}
 use Rattle.tsa_tree.specs.types.Units.{outset, behind_item}
 use Rattle.tsa_tree.specs.units.Syntax.{UnitItem, structure_item, alias_item, enumeration_item, global_item, function_item, body_item}
-use Rattle.tsa_place_paths.specs.LockPaths.{stable_in}
-use Rattle.tsa_place_paths.specs.Ways.{Way}
-use Rattle.tsa_place_layout.specs.Parts.{no_stable, member_behind}
+use Rattle.tsa_place_model.specs.LockPaths.{stable_in}
+use Rattle.tsa_place_model.specs.Ways.{Way}
+use Rattle.tsa_place_model.specs.Parts.{no_stable, member_behind}
 use Rattle.tsa_core.specs.Programs.{Attr, Declared, Program, attrs_of, bodied_function, declared_by, stable_locals, program_of}
 use Rattle.tsa_core_points.specs.Points.{PlacedPoint, placed_all}
 use Rattle.tsa_profile_accesses.specs.declared.premise.Failure.{Failure}

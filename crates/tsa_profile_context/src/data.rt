@@ -2,7 +2,7 @@
 ghost use Rattle.std.specs.Prelude.{◌≡◌, [], None, option_map, OnOk};
 ghost use Rattle.tsa_profile_declarations.specs.Declarations.{guard_premises};
 ghost use Rattle.tsa_core_environment.specs.Members.{behind_member};
-ghost use Rattle.tsa_place_layout.specs.Parts.{members_after};
+ghost use Rattle.tsa_place_model.specs.Parts.{members_after};
 ghost use Rattle.tsa_profile_context.specs.ItemJudgements.{Judges};
 ghost use Rattle.tsa_profile_context.specs.Judging.{unit_at, with_scope};
 ghost use Rattle.tsa_profile_context.specs.Units.{global_premises, member_premises, view_in};

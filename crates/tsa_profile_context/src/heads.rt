@@ -4,7 +4,7 @@ ghost use Rattle.tsa_core_environment.specs.Functions.{outside_of};
 ghost use Rattle.tsa_profile_context.specs.ItemJudgements.{Judges, forget};
 ghost use Rattle.tsa_profile_context.specs.Judging.{entered, inner_premises, outer_premises, unit_at, with_function, with_scope};
 ghost use Rattle.tsa_profile_context.specs.Units.{heads_premises, stable_of};
-ghost use Rattle.tsa_place_paths.specs.LockPaths.{stable_in};
+ghost use Rattle.tsa_place_model.specs.LockPaths.{stable_in};
 ghost use Rattle.tsa_profile_accesses.specs.NodeAnswers.{view_of};
 ghost use Rattle.tsa_profile_accesses.specs.Premises.{first};
 ghost use Rattle.tsa_core.specs.Programs.{attrs_of};

@@ -4,14 +4,13 @@ ghost use Rattle.tsa_profile_context.specs.Judging.{unit_at};
 ghost use Rattle.tsa_profile_context.specs.Units.{is_bodied, stable_of};
 ghost use Rattle.tsa_tree.specs.declarations.Shapes.{head_shape};
 ghost use Rattle.tsa_profile_accesses.specs.NodeAnswers.{view_of};
-ghost use Rattle.tsa_place_paths.specs.LockPaths.{stable_in};
+ghost use Rattle.tsa_place_model.specs.LockPaths.{stable_in};
 
 use crate::context::Ground;
 use tsa_base::NoMemory;
-use tsa_profile_accesses::Body;
+use tsa_profile_accesses::{Body, NamedLocks};
 use tsa_place_paths::Sight;
 use tsa_types_scope::Scope;
-use tsa_profile_accesses::NamedLocks;
 use tsa_tree::item::FnTree;
 
 impl<'t, 'a> Ground<'t, 'a> {

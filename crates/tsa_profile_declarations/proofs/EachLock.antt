@@ -7,7 +7,7 @@ use Rattle.tsa_tree.specs.declared.attr.Attr as tree
 use Rattle.tsa_tree.specs.declared.expr.Expr.{Expr}
 use Rattle.tsa_tree.specs.expressions.Shapes.{shape, shapes}
 use Rattle.tsa_tree.specs.types.Scopes.{Scope}
-use Rattle.tsa_place_paths.specs.LockPaths.{lock_way}
+use Rattle.tsa_place_model.specs.LockPaths.{lock_way}
 
 module _ (stable : ℕ → Bool) (here : Scope) (a : Attribute) (args : List Expr) (i : ℕ) (locks : List Attr) where
   abbrev left : ℕ → List Attr

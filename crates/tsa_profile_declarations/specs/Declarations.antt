@@ -12,8 +12,8 @@ use Rattle.tsa_tree.specs.points.Syntax.{expression_span}
 use Rattle.tsa_tree.specs.types.DeclaredTypes.{thing_type}
 use Rattle.tsa_tree.specs.types.Runnable.{is_small, is_lock_function, is_environment, is_generic}
 use Rattle.tsa_tree.specs.types.Scopes.{Scope, found}
-use Rattle.tsa_place_paths.specs.LockPaths.{lock_way}
-use Rattle.tsa_place_paths.specs.Ways.{Way}
+use Rattle.tsa_place_model.specs.LockPaths.{lock_way}
+use Rattle.tsa_place_model.specs.Ways.{Way}
 use Rattle.tsa_path.specs.PathTables.{is_known}
 use Rattle.tsa_profile_accesses.specs.declared.premise.ProfileCode.TheVariants.{PF1, PF2, PF4, PF6, PF7, PF9}
 use Rattle.tsa_profile_accesses.specs.Premises.{Premise, premise}

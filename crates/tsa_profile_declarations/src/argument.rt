@@ -9,12 +9,11 @@ ghost use Rattle.tsa_profile_accesses.specs.Premises.{first, or_else};
 ghost use Rattle.tsa_profile_accesses.specs.NodeAnswers.{view_of};
 
 use tsa_base::NoMemory;
-use tsa_place_paths::Path;
+use tsa_place_model::Path;
 use tsa_path::PathSet;
 use tsa_tree::attr::AttrKind;
 use tsa_tree::expr::{Expr, ExprKind};
-use tsa_profile_accesses::Body;
-use tsa_profile_accesses::{Failure, ProfileCode};
+use tsa_profile_accesses::{Body, Failure, ProfileCode};
 use tsa_profile_guards::{own_failure, place_failure};
 
 /// Whether attributes of a kind tell the order of locks, which need have no path there.

@@ -3,7 +3,7 @@ ghost use Rattle.std.specs.Prelude.{◌≡◌, ◌++◌, IfOk, OnOk};
 ghost use Rattle.tsa_core.specs.Programs.{attr_args, attrs_of, succeeds as spec_succeeds};
 ghost use Rattle.tsa_tree.specs.attributes.Syntax.{attr_shape, attr_shapes};
 ghost use Rattle.tsa_tree.specs.expressions.Shapes.{shape};
-ghost use Rattle.tsa_place_paths.specs.LockPaths.{lock_way, stable_in};
+ghost use Rattle.tsa_place_model.specs.LockPaths.{lock_way, stable_in};
 
 use tsa_base::NoMemory;
 use tsa_tree::attr::Attr;

@@ -11,7 +11,7 @@ use Rattle.tsa_tree.specs.declared.expr.ExprKind.TheVariants.{Number, Null, Name
 use Rattle.tsa_tree.specs.expressions.Shapes.{kind_shape, shape, shapes}
 use Rattle.tsa_tree.specs.expressions.Syntax.{Expression}
 use Rattle.tsa_tree.specs.types.Scopes.{Scope}
-use Rattle.tsa_place_layout.specs.Calls.{Layout}
+use Rattle.tsa_place_model.specs.Calls.{Layout}
 use Rattle.tsa_core.specs.Cells.{argument_cells, cells_read, inner_cells, own_cell}
 use Rattle.tsa_core.specs.Meanings.{is_loaded, meaning}
 use Rattle.tsa_profile_accesses.specs.Accesses.{Access}

@@ -19,8 +19,8 @@ use Rattle.tsa_tree.specs.types.Expressions.{number_type}
 use Rattle.tsa_tree.specs.types.Operands.{binary_type, element_type}
 use Rattle.tsa_tree.specs.types.Scopes.{Scope, known_in}
 use Rattle.tsa_tree.specs.types.Types.{value}
-use Rattle.tsa_place_paths.specs.LockPaths.{element_step, leads, name_way}
-use Rattle.tsa_place_layout.specs.Calls.{Layout}
+use Rattle.tsa_place_model.specs.LockPaths.{element_step, leads, name_way}
+use Rattle.tsa_place_model.specs.Calls.{Layout}
 use Rattle.tsa_core.specs.Cells.{argument_cells, cells_read, inner_cells}
 use Rattle.tsa_core.specs.Meanings.{is_loaded, is_place, meaning, of_call, of_name, of_prefix, operands, to_member}
 use Rattle.tsa_core.specs.Terms.{Sense}

@@ -4,7 +4,7 @@ use Rattle.tsa_base.specs.declared.token.Span.{Span}
 use Rattle.tsa_tree.specs.declared.expr.BinaryOp.{BinaryOp}
 use Rattle.tsa_tree.specs.expressions.Syntax.{Expression, number, null, named, call, unary, binary, field, index}
 use Rattle.tsa_tree.specs.types.Scopes.{Scope}
-use Rattle.tsa_place_layout.specs.Calls.{Layout}
+use Rattle.tsa_place_model.specs.Calls.{Layout}
 use Rattle.tsa_core.specs.Cells.{cells_read, inner_cells, own_cell, read_before}
 use Rattle.tsa_core.specs.Uses.{Access as PlainAccess, access_guards}
 use Rattle.tsa_profile_accesses.specs.Accesses.{Access}

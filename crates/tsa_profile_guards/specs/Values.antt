@@ -3,8 +3,8 @@ use Rattle.std.specs.Prelude.{ℕ, Bool, false, ◌&&◌, is_none, List, Option,
 use Rattle.std.specs.List.{list_any}
 use Rattle.tsa_base.specs.declared.token.Span.{Span}
 use Rattle.tsa_tree.specs.types.Scopes.{Scope, known_in}
-use Rattle.tsa_place_layout.specs.Calls.{Layout}
-use Rattle.tsa_place_paths.specs.Ways.{Way}
+use Rattle.tsa_place_model.specs.Calls.{Layout}
+use Rattle.tsa_place_model.specs.Ways.{Way}
 use Rattle.tsa_core.specs.Meanings.{is_cell, of_name}
 use Rattle.tsa_core.specs.Uses.{name_guards}
 use Rattle.tsa_profile_accesses.specs.Accesses.{Access}

@@ -14,13 +14,12 @@ ghost use Rattle.tsa_tree.specs.types.Scopes.{known_in};
 ghost use Rattle.tsa_profile_guards.specs.Failures.{failing, failing_arguments};
 ghost use Rattle.tsa_profile_guards.specs.Values.{name_code, name_read, unled};
 ghost use Rattle.tsa_profile_accesses.specs.NodeAnswers.{view_of};
-ghost use Rattle.tsa_place_paths.specs.LockPaths.{stable_in};
+ghost use Rattle.tsa_place_model.specs.LockPaths.{stable_in};
 
 use tsa_base::{NoMemory, Span};
-use tsa_profile_accesses::{Body, code_if, operator_at};
+use tsa_profile_accesses::{Accesses, Body, Failure, Footprint, ProfileCode, Seen, Standing, Uses, are_some, binary_thing, called_thing, code_if, operator_at, prefix_thing, value_thing};
 use tsa_types_operators::value;
 use tsa_types_expressions::number_type;
-use tsa_profile_accesses::{Accesses, Failure, Footprint, ProfileCode, Seen, Standing, Uses, are_some, binary_thing, called_thing, prefix_thing, value_thing};
 use tsa_tree::expr::{BinaryOp, Expr, ExprKind, UnaryOp};
 use tsa_tree::kind::{ExpressionType, Kind};
 

@@ -16,7 +16,7 @@ use Rattle.tsa_tree.specs.types.Targets.{declared_in_all}
 use Rattle.tsa_tree.specs.types.Units.{behind_item}
 use Rattle.tsa_tree.specs.units.Shapes.{item_shape}
 use Rattle.tsa_tree.specs.units.Syntax.{function_item, body_item}
-use Rattle.tsa_place_paths.specs.LockPaths.{stable_in}
+use Rattle.tsa_place_model.specs.LockPaths.{stable_in}
 use Rattle.tsa_core.specs.Programs.{Attr, Declared, attrs_of, unless_known}
 use Rattle.tsa_core_points.specs.Points.{PlacedPoint, placed_all}
 use Rattle.tsa_profile_accesses.specs.declared.premise.Failure.{Failure}

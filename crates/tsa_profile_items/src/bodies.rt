@@ -14,14 +14,13 @@ ghost use Rattle.tsa_core_points.specs.Steps.{step_shape};
 ghost use Rattle.tsa_tree.specs.statements.Shapes.{stmt_shapes};
 ghost use Rattle.tsa_tree.specs.types.Scopes.{further};
 ghost use Rattle.tsa_tree.specs.types.Targets.{declared_in_all};
-ghost use Rattle.tsa_place_paths.specs.LockPaths.{stable_in};
+ghost use Rattle.tsa_place_model.specs.LockPaths.{stable_in};
 
 use tsa_base::{NoMemory, Span};
 use tsa_profile_points::{Around, Judged, attribute_paths};
 use tsa_profile_context::{Ground, Knowledge, ProfileRefusal, answer_of, or_else, put_scope, take_scope};
 use tsa_path::PathTable;
-use tsa_core_points::{Step, body_steps};
-use tsa_core_points::Walk;
+use tsa_core_points::{Step, Walk, body_steps};
 use tsa_profile_accesses::{Failure, NamedLock, NamedLocks, ProfileCode};
 use tsa_tree::stmt::Stmt;
 

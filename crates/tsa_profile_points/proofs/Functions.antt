@@ -1,7 +1,7 @@
 -- What is found of a whole body.
 use Rattle.std.proofs.Common.{◌≡◌, ◌∙◌, ◌+◌, ℕ, arith, List, [], ◌++◌, length, filter, Option, Some, None, sym, ap}
 use Rattle.std.proofs.lemmas.List.{append-nil}
-use Rattle.tsa_place_paths.specs.Ways.{Way}
+use Rattle.tsa_place_model.specs.Ways.{Way}
 use Rattle.tsa_core.specs.Programs.{Attr}
 use Rattle.tsa_core_points.specs.Points.{PlacedPoint}
 use Rattle.tsa_profile_accesses.specs.Premises.{first, or_else}

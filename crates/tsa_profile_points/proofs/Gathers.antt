@@ -1,7 +1,7 @@
 -- Paths that are gathered one by one are gathered in order.
 use Rattle.std.proofs.Common.{◌≡◌, ◌∙◌, List, [], ◌∷◌, ◌++◌, Option, Some, None, refl, sym, ap}
 use Rattle.std.specs.List.{flat_map}
-use Rattle.tsa_place_paths.specs.Ways.{Way}
+use Rattle.tsa_place_model.specs.Ways.{Way}
 use Rattle.tsa_profile_accesses.specs.Accesses.{Access}
 use Rattle.tsa_profile_points.specs.Gathering.{with_way, with_all, with_guards, with_ways}
 use Rattle.tsa_profile_points.specs.Ways.{present}

@@ -2,7 +2,7 @@
 use Rattle.std.proofs.Common.{◌≡◌, ◌∙◌, ℕ, ◌+◌, suc, arith, cond, Bool, true, false, List, [], ◌∷◌, ◌++◌, drop, length, filter, map, Option, refl, sym, ap, if◌then◌else◌}
 use Rattle.std.proofs.lemmas.List.{append_assoc, length-append}
 use Rattle.std.proofs.lemmas.List.Elements.{filter-append}
-use Rattle.tsa_place_paths.specs.Ways.{Way}
+use Rattle.tsa_place_model.specs.Ways.{Way}
 use Rattle.tsa_core_points.specs.CoreLaws.{known_of}
 use Rattle.tsa_core_points.specs.Points.{PlacedPoint}
 use Rattle.tsa_core_points.specs.Steps.{BodyStep, step_shape}

@@ -5,7 +5,7 @@ use Rattle.tsa_base.specs.declared.token.Span.{Span}
 use Rattle.tsa_tree.specs.expressions.Syntax.{Expression}
 use Rattle.tsa_tree.specs.points.Syntax.{Deed}
 use Rattle.tsa_tree.specs.types.Scopes.{Scope}
-use Rattle.tsa_place_paths.specs.Ways.{Way}
+use Rattle.tsa_place_model.specs.Ways.{Way}
 use Rattle.tsa_core.specs.Programs.{Attr}
 use Rattle.tsa_path.specs.declared.refusal.InternRefusal.TheVariants.{Full, NoMemory}
 use Rattle.tsa_path.specs.PathTables.{is_full, refusal, with_path}

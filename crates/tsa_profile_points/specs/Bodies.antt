@@ -9,7 +9,7 @@ use Rattle.tsa_tree.specs.points.Syntax.{Deed, declares, evaluates, assigns, tes
 use Rattle.tsa_tree.specs.types.DeclaredTypes.{thing_type}
 use Rattle.tsa_tree.specs.types.Runnable.{is_small}
 use Rattle.tsa_tree.specs.types.Scopes.{Scope}
-use Rattle.tsa_place_layout.specs.Calls.{Layout}
+use Rattle.tsa_place_model.specs.Calls.{Layout}
 use Rattle.tsa_core.specs.Programs.{Attr}
 use Rattle.tsa_core_points.specs.Points.{PlacedPoint}
 use Rattle.tsa_profile_accesses.specs.declared.premise.ProfileCode.TheVariants.{PF4, PF7}

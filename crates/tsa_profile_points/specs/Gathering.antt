@@ -2,7 +2,7 @@
 use Rattle.std.specs.Prelude.{List, [], ◌∷◌, Option, Some, None, if◌then◌else◌}
 use Rattle.tsa_tree.specs.expressions.Syntax.{Expression}
 use Rattle.tsa_tree.specs.types.Scopes.{Scope}
-use Rattle.tsa_place_paths.specs.Ways.{Way}
+use Rattle.tsa_place_model.specs.Ways.{Way}
 use Rattle.tsa_path.specs.PathTables.{is_full, with_path}
 use Rattle.tsa_profile_accesses.specs.Accesses.{Access}
 use Rattle.tsa_profile_accesses.specs.Arguments.{arguments_of}

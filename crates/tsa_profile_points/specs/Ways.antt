@@ -6,8 +6,8 @@ use Rattle.tsa_tree.specs.declarations.Syntax.{Initialiser, value}
 use Rattle.tsa_tree.specs.expressions.Syntax.{Expression}
 use Rattle.tsa_tree.specs.points.Syntax.{Deed, declares, evaluates, assigns, tests, returns}
 use Rattle.tsa_tree.specs.types.Scopes.{Scope}
-use Rattle.tsa_place_paths.specs.Ways.{Way}
-use Rattle.tsa_place_layout.specs.Calls.{Layout}
+use Rattle.tsa_place_model.specs.Ways.{Way}
+use Rattle.tsa_place_model.specs.Calls.{Layout}
 use Rattle.tsa_core.specs.Bodies.{Known}
 use Rattle.tsa_core.specs.Meanings.{call_in}
 use Rattle.tsa_core.specs.Programs.{Attr}

@@ -10,7 +10,7 @@ use std::mem::replace;
 use tsa_base::NoMemory;
 use tsa_profile_accesses::{Access, Footprint, NamedLock};
 use tsa_path::{InternRefusal, PathTable, substitute};
-use tsa_place_paths::Path;
+use tsa_place_model::Path;
 
 /// Paths, each once, whether there was no room for one, and room for what a point reads and writes. Contracts see the list of the paths, or none where
 /// there was no room.
@@ -24,7 +24,7 @@ pub struct Gathered {
 
 impl Model for Gathered {
     ghost use Rattle.std.specs.Prelude.{List, Option, Some, None, if◌then◌else◌};
-    ghost use Rattle.tsa_place_paths.specs.Ways.{Way};
+    ghost use Rattle.tsa_place_model.specs.Ways.{Way};
 
     ghost Value = { Option (List Way) };
 

@@ -13,13 +13,12 @@ ghost use Rattle.tsa_profile_accesses.specs.Expressions.{expression};
 ghost use Rattle.tsa_profile_accesses.specs.Premises.{first};
 
 use crate::premises::{earlier, failure_if};
-use tsa_profile_accesses::{Body, is_truth};
+use tsa_profile_accesses::{Body, Failure, Footprint, NamedLocks, ProfileCode, Standing, is_truth};
 use tsa_profile_declarations::{init_failure, is_small};
 use tsa_profile_guards::{reads, writes};
 use tsa_base::{NoMemory, Span};
 use tsa_place_layout::{Layout, declared_thing};
 use tsa_types_scope::Scope;
-use tsa_profile_accesses::{Failure, Footprint, NamedLocks, ProfileCode, Standing};
 use tsa_tree::decl::{Decl, Init};
 use tsa_tree::expr::{BinaryOp, Expr};
 use tsa_tree::kind::{Kind, ThingType};

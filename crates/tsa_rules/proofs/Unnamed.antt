@@ -3,7 +3,7 @@ use Rattle.std.proofs.Common.{◌≡◌, ℕ, Bool, true, false, not, ◌&&◌, 
 use Rattle.std.proofs.lemmas.List.Folds.{list_any-append}
 use Rattle.std.specs.List.{list_any}
 use Rattle.tsa_tree.specs.declared.attr.AttrKind.{AttrKind}
-use Rattle.tsa_place_paths.specs.Ways.{Way}
+use Rattle.tsa_place_model.specs.Ways.{Way}
 use Rattle.tsa_core.specs.Control.{Outcome, Next}
 use Rattle.tsa_core.specs.Programs.{Attr, Function, Program}
 use Rattle.tsa_core.specs.Uses.{Access}

@@ -1,7 +1,7 @@
 -- The case of a path at a point: all that the rules go by there, and the rules by that alone.
 use Rattle.std.specs.Prelude.{◌≡◌, ◌<◌, ◌≤◌, ℕ, Bool, true, false, ◌&&◌, ◌||◌, not, length, Option, Some, None, option_map, is_some}
 use Rattle.tsa_tree.specs.declared.attr.AttrKind.TheVariants as attr
-use Rattle.tsa_place_paths.specs.Ways.{Way}
+use Rattle.tsa_place_model.specs.Ways.{Way}
 use Rattle.tsa_core.specs.Bodies.{Action, declare, test, give}
 use Rattle.tsa_core.specs.Control.{Outcome, Next, Yes, No}
 use Rattle.tsa_core.specs.Programs.{Function, Program}

@@ -1,8 +1,8 @@
 -- Functions as they should be, as they are written, with sheets of rows that pass; and some that leave what they shouldn't.
 use Rattle.std.specs.Prelude.{◌≡◌, ℕ, Bool, true, false, List, [], ◌∷◌, ◌++◌, Option, Some, None, codes}
-use Rattle.tsa_place_paths.specs.Ways.{Way}
-use Rattle.tsa_place_paths.specs.declared.path.Root.TheVariants.{Local}
-use Rattle.tsa_place_paths.specs.declared.path.PathStep.TheVariants.{Field, Follow}
+use Rattle.tsa_place_model.specs.Ways.{Way}
+use Rattle.tsa_place_model.specs.declared.path.Root.TheVariants.{Local}
+use Rattle.tsa_place_model.specs.declared.path.PathStep.TheVariants.{Field, Follow}
 use Rattle.tsa_core.specs.Examples.{program}
 use Rattle.tsa_core.specs.Programs.{Program}
 use Rattle.tsa_rules.specs.Statuses.{Status, Free, Shared, Exclusive, Lent, Pending}

@@ -9,8 +9,8 @@ use Rattle.tsa_tree.specs.types.DeclaredTypes.{thing_type}
 use Rattle.tsa_tree.specs.types.Scopes.{Scope}
 use Rattle.tsa_tree.specs.types.Units.{outset}
 use Rattle.tsa_tree.specs.units.Syntax.{UnitItem}
-use Rattle.tsa_place_layout.specs.Calls.{Layout}
-use Rattle.tsa_place_layout.specs.Layouts.{Part, structure_at}
+use Rattle.tsa_place_model.specs.Calls.{Layout}
+use Rattle.tsa_place_model.specs.Layouts.{Part, structure_at}
 use Rattle.tsa_core.specs.Bodies.{Known, known_in_body}
 use Rattle.tsa_core.specs.Programs.{Bodied, Declared, bodied_function, declared_functions, program_of}
 use Rattle.tsa_path.specs.PathTexts.{Label, Names}

@@ -2,10 +2,10 @@
 use Rattle.std.specs.Prelude.{◌≡◌, ℕ, Bool, true, false, List, [], ◌∷◌, ◌++◌, Option, Some, None, codes}
 use Rattle.tsa_tree.specs.declared.attr.AttrKind.{AttrKind}
 use Rattle.tsa_tree.specs.declared.attr.AttrKind.TheVariants as attr
-use Rattle.tsa_place_paths.specs.declared.path.Root.{Root}
-use Rattle.tsa_place_paths.specs.declared.path.Root.TheVariants.{Global, Local}
-use Rattle.tsa_place_paths.specs.declared.path.PathStep.{PathStep}
-use Rattle.tsa_place_paths.specs.declared.path.PathStep.TheVariants.{Field, Constant, Variable, Follow}
+use Rattle.tsa_place_model.specs.declared.path.Root.{Root}
+use Rattle.tsa_place_model.specs.declared.path.Root.TheVariants.{Global, Local}
+use Rattle.tsa_place_model.specs.declared.path.PathStep.{PathStep}
+use Rattle.tsa_place_model.specs.declared.path.PathStep.TheVariants.{Field, Constant, Variable, Follow}
 use Rattle.tsa_core.specs.Examples.{program}
 use Rattle.tsa_core.specs.Programs.{LockKind, Program}
 use Rattle.tsa_rules.specs.Attributes.{claim, claim_count, kind_of, lock_kind_of, named}

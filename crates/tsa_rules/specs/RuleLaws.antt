@@ -1,8 +1,8 @@
 -- Rules, worked out from functions as they are written: which fail at a point for the statuses free, shared, exclusive, lent and pending.
 use Rattle.std.specs.Prelude.{◌≡◌, ℕ, List, [], ◌∷◌, ◌++◌, map, Option, Some, codes}
-use Rattle.tsa_place_paths.specs.Ways.{Way}
-use Rattle.tsa_place_paths.specs.declared.path.Root.TheVariants.{Global, Local}
-use Rattle.tsa_place_paths.specs.declared.path.PathStep.TheVariants.{Field, Variable, Follow}
+use Rattle.tsa_place_model.specs.Ways.{Way}
+use Rattle.tsa_place_model.specs.declared.path.Root.TheVariants.{Global, Local}
+use Rattle.tsa_place_model.specs.declared.path.PathStep.TheVariants.{Field, Variable, Follow}
 use Rattle.tsa_core.specs.Examples.{program}
 use Rattle.tsa_core.specs.Programs.{Program}
 use Rattle.tsa_rules.specs.Fails.{Rule, TS01, TS02, TS03, TS05, TS06, TS07, TS08, TS09, TS11, TS12}

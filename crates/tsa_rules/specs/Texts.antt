@@ -1,7 +1,7 @@
 -- What is asked of functions as they are written: the statuses that their points leave, and the rules that fail there.
 use Rattle.std.specs.Prelude.{ℕ, List, [], ◌∷◌, ◌++◌, map, filter, Option, option_map, slice_get, codes}
-use Rattle.tsa_place_paths.specs.Ways.{Way, from}
-use Rattle.tsa_place_paths.specs.declared.path.Root.TheVariants.{Global}
+use Rattle.tsa_place_model.specs.Ways.{Way, from}
+use Rattle.tsa_place_model.specs.declared.path.Root.TheVariants.{Global}
 use Rattle.tsa_core.specs.Control.{Outcome}
 use Rattle.tsa_core.specs.Examples.{program}
 use Rattle.tsa_core.specs.Programs.{Function, Program}

@@ -1,6 +1,6 @@
 //! What each point of a function makes of the status of one path, and the statuses with which the function begins and with which it may leave.
 ghost use Rattle.std.specs.Prelude.{◌≡◌, ℕ};
-ghost use Rattle.tsa_place_paths.specs.Ways.{Way};
+ghost use Rattle.tsa_place_model.specs.Ways.{Way};
 ghost use Rattle.tsa_core.specs.Programs.{Function, Program};
 ghost use Rattle.tsa_rules.specs.Cases.{after_asked, after_claim_in, after_role, answer_in, answer_told, attempt_in, case_of, effect_in, entry_in, exit_in, is_still, is_taken_in, later_in, left_by_claim, lock_of, tests_variable};
 ghost use Rattle.tsa_rules.specs.Effects.{after_attempt, after_decision as spec_after_decision, deeper as spec_deeper, effect, entry, entry_by, exit, exit_by, given_back as spec_given_back, if_taken as spec_if_taken, is_success, later, taken_by as spec_taken_by};

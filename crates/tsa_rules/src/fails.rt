@@ -1,6 +1,6 @@
 //! The rules that one status can break at a point of a function.
 ghost use Rattle.std.specs.Prelude.{◌≡◌, ℕ, not, ◌&&◌, ◌||◌};
-ghost use Rattle.tsa_place_paths.specs.Ways.{Way};
+ghost use Rattle.tsa_place_model.specs.Ways.{Way};
 ghost use Rattle.tsa_core.specs.Programs.{Function, Program};
 ghost use Rattle.tsa_rules.specs.Cases.{breaks_giving, breaks_mode, breaks_taking, case_of, exit_in, fails_in, is_leaving_in, later_in};
 ghost use Rattle.tsa_rules.specs.Fails.{fails, wants_takable};

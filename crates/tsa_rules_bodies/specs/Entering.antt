@@ -6,7 +6,7 @@ use Rattle.tsa_tree.specs.statements.Shapes.{stmt_shapes}
 use Rattle.tsa_tree.specs.statements.Syntax.{Statements}
 use Rattle.tsa_tree.specs.types.Symbols.{number_of}
 use Rattle.tsa_tree.specs.units.Syntax.{UnitItem, body_item}
-use Rattle.tsa_place_paths.specs.LockPaths.{stable_in}
+use Rattle.tsa_place_model.specs.LockPaths.{stable_in}
 use Rattle.tsa_core_environment.specs.Functions.{outside_of}
 use Rattle.tsa_profile_context.specs.Units.{Unit, stable_of}
 use Rattle.tsa_rules_bodies.specs.Knowing.{Knowledge, behind, entered}

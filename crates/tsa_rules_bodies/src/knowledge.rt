@@ -11,7 +11,7 @@ ghost use Rattle.tsa_tree.specs.types.Heads as heads;
 ghost use Rattle.tsa_tree.specs.types.Premises as types;
 ghost use Rattle.tsa_tree.specs.types.Units as typed;
 ghost use Rattle.tsa_tree.specs.units.Shapes.{function_shape, item_shape};
-ghost use Rattle.tsa_place_paths.specs.LockPaths.{stable_in};
+ghost use Rattle.tsa_place_model.specs.LockPaths.{stable_in};
 
 use std::alloc::Global;
 use std::marker::Model;

@@ -1,6 +1,6 @@
 //! The body of a function by its number.
 ghost use Rattle.std.specs.Prelude.{◌≡◌, [], None, Ok, Some, option_map, IfOk};
-ghost use Rattle.tsa_place.specs.Units.{placed_in};
+ghost use Rattle.tsa_place_model.specs.Units.{placed_in};
 ghost use Rattle.tsa_profile_context.specs.Judging.{unit_at};
 ghost use Rattle.tsa_rules_bodies.specs.Entering.{IsAt, Seeks};
 ghost use Rattle.tsa_rules_bodies.specs.Finding.{IsFound};

@@ -1,6 +1,6 @@
 -- A row that is begun and noted step by step says what the point says.
 use Rattle.std.proofs.Common.{◌≡◌, ◌∙◌, ◌<◌, ℕ, ◌+◌, ◌-◌, arith, List, [], None, refl, ap, subst}
-use Rattle.tsa_place_paths.specs.Ways.{Way}
+use Rattle.tsa_place_model.specs.Ways.{Way}
 use Rattle.tsa_core.specs.Bodies.{Known}
 use Rattle.tsa_rules.specs.Marks.{no_mark}
 use Rattle.tsa_rules_table.specs.Notes.{IsLastRow, IsRow, NotesAttributes, NotesLeft, NotesRight}

@@ -10,10 +10,10 @@ use Rattle.tsa_tree.specs.declared.attr.AttrKind.TheVariants as attr
 use Rattle.tsa_tree.specs.declared.kind.Kind.{Kind}
 use Rattle.tsa_tree.specs.points.Syntax.{Deed, declares, evaluates, assigns, tests, switches, jumps, idles, returns, ends}
 use Rattle.tsa_tree.specs.types.Scopes.{Scope}
-use Rattle.tsa_place_paths.specs.Ways.{Way}
+use Rattle.tsa_place_model.specs.Ways.{Way}
 use Rattle.tsa_core.specs.Bodies.{Point, declared, kinds_by}
 use Rattle.tsa_core.specs.Programs.{Attr, Program}
-use Rattle.tsa_place.proofs.Laid.{by_last}
+use Rattle.tsa_place_model.proofs.Laid.{by_last}
 use Rattle.tsa_path.specs.PathTables.{AreDifferent}
 use Rattle.tsa_core_points.specs.CoreLaws.{known_of}
 use Rattle.tsa_core_points.specs.Points.{PlacedPoint, placed}

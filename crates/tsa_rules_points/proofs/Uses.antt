@@ -5,7 +5,7 @@ use Rattle.tsa_tree.specs.declarations.Syntax.{Declaration, Initialiser, value, 
 use Rattle.tsa_tree.specs.declared.expr.BinaryOp.{BinaryOp}
 use Rattle.tsa_tree.specs.expressions.Syntax.{Expression}
 use Rattle.tsa_tree.specs.points.Syntax.{Deed, declares, evaluates, assigns, tests, switches, jumps, idles, returns, ends}
-use Rattle.tsa_place_paths.specs.Ways.{Way}
+use Rattle.tsa_place_model.specs.Ways.{Way}
 use Rattle.tsa_core.specs.Bodies.{Known}
 use Rattle.tsa_core.specs.Programs.{Attr}
 use Rattle.tsa_core.specs.Uses.{init_uses, uses_by}

@@ -2,7 +2,7 @@
 use Rattle.std.specs.Prelude.{◌≡◌, ◌<◌, ℕ, ◌+◌, List, Option, None, Some}
 use Rattle.tsa_tree.specs.expressions.Syntax.{Expression}
 use Rattle.tsa_tree.specs.points.Syntax.{Deed, switches}
-use Rattle.tsa_place_paths.specs.Ways.{Way}
+use Rattle.tsa_place_model.specs.Ways.{Way}
 use Rattle.tsa_core.specs.Bodies.{Known}
 use Rattle.tsa_core.specs.Programs.{Attr}
 use Rattle.tsa_core.specs.Uses.{Access}

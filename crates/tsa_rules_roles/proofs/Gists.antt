@@ -21,7 +21,7 @@ use Rattle.tsa_tree.specs.types.Constants.{number_value}
 use Rattle.tsa_tree.specs.types.Expressions.{number_type, owner}
 use Rattle.tsa_tree.specs.types.Operands.{binary_type, prefix_type}
 use Rattle.tsa_tree.specs.types.Scopes.{Scope, known_in}
-use Rattle.tsa_types_scope.specs.Lookups.{members_at, numbered}
+use Rattle.tsa_tree.specs.types.Lookups.{members_at, numbered}
 use Rattle.tsa_core.specs.Meanings.{beside, of_number, loaded, meaning, null_pointer, of_binary, of_call, of_field, of_prefix, of_type, operands, prefix_term, to_member}
 use Rattle.tsa_core.specs.Terms.{constant, prefixed, joined, Sense}
 use Rattle.tsa_rules_roles.specs.declared.gist.Gist.{Gist}

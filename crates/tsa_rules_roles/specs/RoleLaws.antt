@@ -1,6 +1,6 @@
 -- What the duties of the points of a function tell of it.
 use Rattle.std.specs.Prelude.{◌≡◌, ◌<◌, ℕ, List, length, Some, None}
-use Rattle.tsa_place_paths.specs.Ways.{Way}
+use Rattle.tsa_place_model.specs.Ways.{Way}
 use Rattle.tsa_core.specs.Programs.{Function, Program}
 use Rattle.tsa_rules.specs.Cases.{kept_of, role_of}
 use Rattle.tsa_rules.specs.Marks.{mark_of}

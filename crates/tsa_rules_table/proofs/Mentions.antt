@@ -1,6 +1,6 @@
 -- The declaration of a local, noted of one path after another.
 use Rattle.std.proofs.Common.{◌≡◌, ℕ, nat_lt, ◌&&◌, if◌then◌else◌, List, Some, slice_get}
-use Rattle.tsa_place_paths.specs.Ways.{Way}
+use Rattle.tsa_place_model.specs.Ways.{Way}
 use Rattle.tsa_rules.specs.Points.{mentions}
 use Rattle.tsa_rules_table.specs.declared.note.Note.TheVariants.{Mentions}
 use Rattle.tsa_rules_table.specs.Rows.{Rows, last_row, mark_in}

@@ -1,6 +1,6 @@
 -- The numbers of some paths: where they stand.
 use Rattle.std.specs.Prelude.{ℕ, nat_lt, List, length, Option, Some, None, if◌then◌else◌}
-use Rattle.tsa_place_paths.specs.Ways.{Way}
+use Rattle.tsa_place_model.specs.Ways.{Way}
 use Rattle.tsa_path.specs.PathTables.{number_of}
 
 -- a number, where it is below a count

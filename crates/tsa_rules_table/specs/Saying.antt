@@ -1,6 +1,6 @@
 -- What a mark says after some notes of a path: each is about the path that it names.
 use Rattle.std.specs.Prelude.{◌≡◌, ℕ, Bool, false, ◌&&◌, List, [], ◌∷◌, Option, None, Some, slice_get, if◌then◌else◌}
-use Rattle.tsa_place_paths.specs.Ways.{Way}
+use Rattle.tsa_place_model.specs.Ways.{Way}
 use Rattle.tsa_core.specs.Programs.{Attr}
 use Rattle.tsa_core.specs.Uses.{Access}
 use Rattle.tsa_path.specs.PathTables.{AreDifferent}

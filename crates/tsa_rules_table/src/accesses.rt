@@ -10,7 +10,7 @@ use crate::notes::copy;
 use crate::numbers::Numbers;
 use tsa_base::NoMemory;
 use tsa_profile_accesses::Access;
-use tsa_place_paths::Path;
+use tsa_place_model::Path;
 
 impl Marks {
     /// Notes the same of each guard of an access.

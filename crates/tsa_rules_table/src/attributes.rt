@@ -16,7 +16,7 @@ use tsa_base::NoMemory;
 use tsa_path::substitute;
 use tsa_rules::Claim;
 use tsa_profile_accesses::NamedLock;
-use tsa_place_paths::Path;
+use tsa_place_model::Path;
 
 /// What a lock's attribute claims.
 fn claim_of(lock: &NamedLock) -> Claim

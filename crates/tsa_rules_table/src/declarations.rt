@@ -10,7 +10,7 @@ use crate::marks::Marks;
 use crate::note::Note;
 use crate::numbers::Numbers;
 use tsa_base::NoMemory;
-use tsa_place_paths::{Path, PathStep, Root};
+use tsa_place_model::{Path, PathStep, Root};
 
 /// Whether a path begins at a local.
 fn is_rooted_at(root: Root, local: u32) -> bool

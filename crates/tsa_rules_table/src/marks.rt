@@ -4,7 +4,7 @@ ghost use Rattle.tsa_rules_table.specs.Notes.{IsLastRow};
 ghost use Rattle.tsa_rules_table.specs.Rows.{last_row, mark_in, rows_in, Puts};
 ghost use Rattle.tsa_rules_table.specs.Saying.{Adds};
 ghost use Rattle.tsa_rules.specs.Marks.{no_mark};
-ghost use Rattle.tsa_place_paths.specs.Ways.{Way};
+ghost use Rattle.tsa_place_model.specs.Ways.{Way};
 
 use crate::note::Note;
 use indexmap::IndexMap;

@@ -8,7 +8,7 @@ use crate::note::Note;
 use crate::numbers::Numbers;
 use std::alloc::Global;
 use tsa_base::NoMemory;
-use tsa_place_paths::Path;
+use tsa_place_model::Path;
 
 /// The same path once more, where there is one.
 pub(crate) fn copy(alloc: Global, path: &Option<Path>) -> Result<Option<Path>, NoMemory>

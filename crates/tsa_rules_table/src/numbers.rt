@@ -7,7 +7,7 @@ use std::alloc::Global;
 use std::marker::Model;
 use tsa_base::NoMemory;
 use tsa_path::{InternRefusal, PathTable};
-use tsa_place_paths::Path;
+use tsa_place_model::Path;
 
 /// A copy of a table of paths, by which paths are numbered: what the table takes in later has no number. Contracts see the list of the paths that have one.
 #[derive(Drop)]
@@ -18,7 +18,7 @@ pub struct Numbers {
 
 impl Model for Numbers {
     ghost use Rattle.std.specs.Prelude.{◌≤◌, List, length, take};
-    ghost use Rattle.tsa_place_paths.specs.Ways.{Way};
+    ghost use Rattle.tsa_place_model.specs.Ways.{Way};
 
     ghost Value = { List Way };
 

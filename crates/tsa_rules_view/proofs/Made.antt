@@ -3,7 +3,7 @@ use Rattle.std.proofs.Common.{◌≡◌, ◌∙◌, ◌++◌, List, [], None, re
 use Rattle.tsa_tree.specs.declarations.Shapes.{head_shape}
 use Rattle.tsa_tree.specs.statements.Shapes.{stmt_shapes}
 use Rattle.tsa_tree.specs.types.DeclaredTypes.{thing_type}
-use Rattle.tsa_place_paths.specs.Ways.{Way}
+use Rattle.tsa_place_model.specs.Ways.{Way}
 use Rattle.tsa_core.specs.Programs.{program_of}
 use Rattle.tsa_path.specs.PathTables.{AreDifferent}
 use Rattle.tsa_core_points.specs.Walks.{placed_in_body, points_along, walk}

@@ -1,7 +1,7 @@
 -- What names a path at a point, and that nothing does where there is no such point.
 use Rattle.std.proofs.Common.{◌≡◌, ◌<◌, ◌≤◌, ℕ, List, [], Option, Some, None, option_and_then, slice_get, refl, sym, ap, subst}
 use Rattle.std.proofs.lemmas.Option.{slice_get_past}
-use Rattle.tsa_place_paths.specs.Ways.{Way}
+use Rattle.tsa_place_model.specs.Ways.{Way}
 use Rattle.tsa_core.specs.Programs.{Function, Program}
 use Rattle.tsa_rules_table.specs.Rows.{mark_in, rows_in}
 use Rattle.tsa_rules.specs.Attributes.{all_as_called, named}

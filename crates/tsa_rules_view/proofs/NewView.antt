@@ -2,8 +2,8 @@
 use Rattle.std.proofs.Common.{◌≡◌, ℕ, zero, suc, nat_lt, Bool, true, false, length, List, [], ◌∷◌, Option, Some, None, is_some, option_and_then, slice_get, refl, sym, subst, if◌then◌else◌}
 use Rattle.tsa_tree.specs.types.FirstFailing.{first_failing}
 use Rattle.tsa_tree.specs.units.Syntax.{UnitItem}
-use Rattle.tsa_place_paths.specs.Ways.{Way}
-use Rattle.tsa_place_layout.specs.Calls.{Layout}
+use Rattle.tsa_place_model.specs.Ways.{Way}
+use Rattle.tsa_place_model.specs.Calls.{Layout}
 use Rattle.tsa_core.specs.Bodies.{Body}
 use Rattle.tsa_core.specs.Programs.{Function, LockKind, Program, lock_kinds, program_of}
 use Rattle.tsa_profile_points.specs.Ways.{each_once, unless_many}

@@ -1,9 +1,9 @@
 -- The structs to which paths lead, and their kinds, are those of the program.
 use Rattle.std.specs.Prelude.{◌≡◌, ℕ, Option, Some, None, option_and_then, slice_get}
 use Rattle.std.proofs.Common.{refl, ap, ◌∙◌}
-use Rattle.tsa_place_paths.specs.Ways.{Way}
-use Rattle.tsa_place_paths.specs.declared.path.Root.{Root}
-use Rattle.tsa_place_paths.specs.declared.path.Root.TheVariants as root
+use Rattle.tsa_place_model.specs.Ways.{Way}
+use Rattle.tsa_place_model.specs.declared.path.Root.{Root}
+use Rattle.tsa_place_model.specs.declared.path.Root.TheVariants as root
 use Rattle.tsa_core.specs.Programs.{Function, LockKind, Program}
 use Rattle.tsa_rules.specs.Attributes.{is_reentrant, local_kinds, lock_kind_at, lock_kind_of, root_struct, struct_along, struct_of}
 use Rattle.tsa_rules_view.specs.Kinds.{is_taken_again, kind_in, kind_numbered}

@@ -1,6 +1,6 @@
 -- The only row of a table says what the function's own attributes say.
 use Rattle.std.proofs.Common.{◌≡◌, ◌∙◌, ◌+◌, ◌-◌, List, [], None, ap, subst}
-use Rattle.tsa_place_paths.specs.Ways.{Way}
+use Rattle.tsa_place_model.specs.Ways.{Way}
 use Rattle.tsa_core.specs.Programs.{Attr}
 use Rattle.tsa_path.specs.PathTables.{AreDifferent}
 use Rattle.tsa_rules_table.specs.Notes.{IsLastRow, IsRow, NotesAttributes}

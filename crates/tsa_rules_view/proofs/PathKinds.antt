@@ -1,8 +1,8 @@
 -- The kinds of locks along paths, one path more.
 use Rattle.std.proofs.Common.{◌≡◌, ◌∙◌, ℕ, zero, suc, ◌+◌, arith, List, [], ◌∷◌, ◌++◌, take, Option, Some, option_map, slice_get, sym, ap, ap₂}
 use Rattle.tsa_tree.specs.declared.kind.Kind.{Kind}
-use Rattle.tsa_place_paths.specs.Ways.{Way}
-use Rattle.tsa_place_layout.specs.Calls.{Layout}
+use Rattle.tsa_place_model.specs.Ways.{Way}
+use Rattle.tsa_place_model.specs.Calls.{Layout}
 use Rattle.tsa_core.specs.Programs.{LockKind}
 use Rattle.tsa_core.proofs.MappedLists.{map_append}
 use Rattle.tsa_rules_view.specs.declared.kind.LockKind.{LockKind as CodeKind}

@@ -7,7 +7,7 @@ use Rattle.tsa_base.specs.declared.token.Span.{Span}
 use Rattle.tsa_tree.specs.declared.kind.Kind.{Kind}
 use Rattle.tsa_tree.specs.points.Syntax.{Deed, declares, evaluates, assigns, tests, switches, jumps, idles, returns, ends}
 use Rattle.tsa_tree.specs.units.Syntax.{UnitItem}
-use Rattle.tsa_place_paths.specs.Ways.{Way}
+use Rattle.tsa_place_model.specs.Ways.{Way}
 use Rattle.tsa_core.specs.Bodies.{Known, knows, known_in_body, kinds_by}
 use Rattle.tsa_core.specs.Meanings.{Call}
 use Rattle.tsa_core.specs.Programs.{Attr, Function, Program, program_of}
@@ -31,7 +31,7 @@ use Rattle.tsa_rules_points.specs.Points.{Agrees, AllAgree, begun_here, called_a
 use Rattle.tsa_rules_bodies.specs.Laws.{StandsFor, body_at, result_at}
 use Rattle.tsa_rules_bodies.specs.Laws as site
 use Rattle.tsa_rules_bodies.specs.Sites.{Site, within}
-use Rattle.tsa_place_paths.specs.LockPaths.{stable_in}
+use Rattle.tsa_place_model.specs.LockPaths.{stable_in}
 use Rattle.tsa_rules_view.specs.Views.{number_called}
 use Rattle.tsa_profile.proofs.PathTables.{map_both}
 

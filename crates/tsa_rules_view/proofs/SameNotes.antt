@@ -1,7 +1,7 @@
 -- The same is noted of the same points.
 use Rattle.std.proofs.Common.{◌≡◌, List, subst}
 use Rattle.tsa_tree.specs.declared.kind.Kind.{Kind}
-use Rattle.tsa_place_paths.specs.Ways.{Way}
+use Rattle.tsa_place_model.specs.Ways.{Way}
 use Rattle.tsa_core_points.specs.Points.{PlacedPoint}
 use Rattle.tsa_profile_points.specs.Bodies.{Around}
 use Rattle.tsa_rules_points.specs.declared.notes.Notes.{Notes}

@@ -1,8 +1,8 @@
 -- Paths are followed step by step.
 use Rattle.std.proofs.Common.{◌≡◌, ◌∙◌, ℕ, suc, ◌+◌, ◌<◌, arith, List, ◌∷◌, drop, length, get_or, Option, sym, ap}
 use Rattle.std.proofs.Math.Seq.{drop-cons}
-use Rattle.tsa_place_paths.specs.declared.path.PathStep.{PathStep}
-use Rattle.tsa_place_layout.specs.Calls.{Layout}
+use Rattle.tsa_place_model.specs.declared.path.PathStep.{PathStep}
+use Rattle.tsa_place_model.specs.Calls.{Layout}
 use Rattle.tsa_rules.specs.Attributes.{struct_behind, struct_along}
 
 module _ (l : Layout) (steps seen : List PathStep) (i : ℕ) (same : seen ≡ steps) where

@@ -4,10 +4,10 @@ use Rattle.tsa_lex.specs.Quick.{quick_tokens_of}
 use Rattle.tsa_tree.specs.declared.kind.Kind.TheVariants as type
 use Rattle.tsa_tree.specs.types.Texts.{unit_in}
 use Rattle.tsa_tree.specs.units.Syntax.{UnitItem}
-use Rattle.tsa_place_paths.specs.declared.path.Root.{Root}
-use Rattle.tsa_place_paths.specs.declared.path.Root.TheVariants as root
-use Rattle.tsa_place_paths.specs.declared.path.PathStep.{PathStep}
-use Rattle.tsa_place_paths.specs.declared.path.PathStep.TheVariants as way
+use Rattle.tsa_place_model.specs.declared.path.Root.{Root}
+use Rattle.tsa_place_model.specs.declared.path.Root.TheVariants as root
+use Rattle.tsa_place_model.specs.declared.path.PathStep.{PathStep}
+use Rattle.tsa_place_model.specs.declared.path.PathStep.TheVariants as way
 use Rattle.tsa_core.specs.Programs.{LockKind, lock_kinds, program_of}
 use Rattle.tsa_rules_view.specs.Kinds.{kind_in, is_taken_again}
 use Rattle.tsa_rules_view.specs.Structs.{struct_by}

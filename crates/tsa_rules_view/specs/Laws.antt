@@ -1,6 +1,6 @@
 -- The locks to which paths lead are those of the program.
 use Rattle.std.specs.Prelude.{◌≡◌, Option}
-use Rattle.tsa_place_paths.specs.Ways.{Way}
+use Rattle.tsa_place_model.specs.Ways.{Way}
 use Rattle.tsa_core.specs.Programs.{Function, LockKind, Program}
 use Rattle.tsa_rules.specs.Attributes.{local_kinds, struct_of, lock_kind_of, is_reentrant}
 use Rattle.tsa_rules_view.specs.Kinds.{kind_in, is_taken_again}

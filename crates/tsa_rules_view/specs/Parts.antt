@@ -4,8 +4,8 @@ use Rattle.tsa_tree.specs.declarations.Syntax.{Parameter}
 use Rattle.tsa_tree.specs.declared.kind.Kind.{Kind}
 use Rattle.tsa_tree.specs.types.DeclaredTypes.{thing_type}
 use Rattle.tsa_tree.specs.types.Scopes.{Scope}
-use Rattle.tsa_place_paths.specs.Ways.{Way}
-use Rattle.tsa_place_layout.specs.Calls.{Layout}
+use Rattle.tsa_place_model.specs.Ways.{Way}
+use Rattle.tsa_place_model.specs.Calls.{Layout}
 use Rattle.tsa_core.specs.Programs.{LockKind}
 use Rattle.tsa_rules.specs.declared.case.Lock.{Lock}
 use Rattle.tsa_rules_view.specs.Kinds.{kind_in, is_taken_again}

@@ -1,10 +1,10 @@
 -- The struct to which a path leads, by a layout and the kinds of locals.
 use Rattle.std.specs.Prelude.{ℕ, List, Option, None, option_and_then, slice_get}
 use Rattle.tsa_tree.specs.declared.kind.Kind.{Kind}
-use Rattle.tsa_place_paths.specs.Ways.{Way}
-use Rattle.tsa_place_paths.specs.declared.path.Root.{Root}
-use Rattle.tsa_place_paths.specs.declared.path.Root.TheVariants as root
-use Rattle.tsa_place_layout.specs.Calls.{Layout}
+use Rattle.tsa_place_model.specs.Ways.{Way}
+use Rattle.tsa_place_model.specs.declared.path.Root.{Root}
+use Rattle.tsa_place_model.specs.declared.path.Root.TheVariants as root
+use Rattle.tsa_place_model.specs.Calls.{Layout}
 use Rattle.tsa_rules.specs.Attributes.{part_struct, struct_along}
 use Rattle.tsa_path.specs.Written.{struct_in}
 

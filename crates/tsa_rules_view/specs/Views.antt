@@ -1,6 +1,6 @@
 -- What a function's view tells: all that the rules go by, by points and by the numbers of paths.
 use Rattle.std.specs.Prelude.{◌≡◌, ◌<◌, ℕ, List, [], length, map, Option, Some, None, option_map, slice_get}
-use Rattle.tsa_place_paths.specs.Ways.{Way}
+use Rattle.tsa_place_model.specs.Ways.{Way}
 use Rattle.tsa_core.specs.Bodies.{Point}
 use Rattle.tsa_core.specs.Programs.{Function, LockKind, Program}
 use Rattle.tsa_rules.specs.declared.case.Case.{Case}

@@ -13,7 +13,7 @@ ghost use Rattle.tsa_tree.specs.declarations.Shapes.{head_shape};
 ghost use Rattle.tsa_tree.specs.types.Scopes.{with_locals};
 ghost use Rattle.tsa_rules_view.specs.Made.{AreNoted, IsMade, IsNoted, IsWhole};
 ghost use Rattle.tsa_rules_view.specs.Parts.{kinds_along, param_kinds as spec_param_kinds};
-ghost use Rattle.tsa_place_paths.specs.LockPaths.{stable_in};
+ghost use Rattle.tsa_place_model.specs.LockPaths.{stable_in};
 
 use crate::content::RuleView;
 use crate::parts::{are_few, kinds_of, own_marks, param_kinds};

@@ -7,7 +7,7 @@ ghost use Rattle.tsa_rules.specs.declared.rule.Rule.{Rule};
 ghost use Rattle.tsa_rules.specs.Fails.{fails as spec_fails, rule_number};
 ghost use Rattle.tsa_rules.specs.Points.{points_of};
 ghost use Rattle.tsa_rules_view.specs.Views.{IsViewOf};
-ghost use Rattle.tsa_place_paths.specs.Ways.{Way};
+ghost use Rattle.tsa_place_model.specs.Ways.{Way};
 
 use crate::content::RuleView;
 use tsa_graph_edges::Outcome;

@@ -9,7 +9,7 @@ ghost use Rattle.tsa_rules.specs.Walks.{Agree, ReachAt, course_of};
 ghost use Rattle.tsa_tree.specs.units.Shapes.{item_shapes};
 ghost use Rattle.tsa_tree.specs.units.Syntax.{UnitItem};
 ghost use Rattle.tsa_rules_view.specs.Views.{IsViewIn};
-ghost use Rattle.tsa_place_paths.specs.Ways.{Way};
+ghost use Rattle.tsa_place_model.specs.Ways.{Way};
 
 use crate::content::RuleView;
 use tsa_rules::Statuses;

@@ -4,9 +4,9 @@ ghost use Rattle.tsa_rules_view.specs.Structs.{root_by, struct_by};
 ghost use Rattle.tsa_path.specs.Written.{struct_in as spec_struct_in};
 ghost use Rattle.tsa_rules.specs.Attributes.{member_struct, struct_behind};
 
-use tsa_place_layout::{Holder, Layout};
+use tsa_place_layout::Layout;
+use tsa_place_model::{Holder, Path, PathStep, Root};
 use tsa_tree::kind::Kind;
-use tsa_place_paths::{Path, PathStep, Root};
 
 /// What paths of a function may lead along: the layout of its unit, and the kinds of its locals, parameters first.
 #[derive(Clone, Copy)]

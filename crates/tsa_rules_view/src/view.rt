@@ -7,7 +7,7 @@ ghost use Rattle.tsa_rules.specs.Attributes.{declared_kinds, lock_kind_of, named
 ghost use Rattle.tsa_rules.specs.Points.{attrs_at, point_at, points_of};
 ghost use Rattle.tsa_rules.specs.Cases.{case_of, IsSmall};
 ghost use Rattle.tsa_rules_view.specs.Views.{case_in, kept_from, kind_in, lock_in, number_called, text_of, IsViewOf};
-ghost use Rattle.tsa_place_paths.specs.Ways.{Way};
+ghost use Rattle.tsa_place_model.specs.Ways.{Way};
 
 use crate::content::RuleView;
 use crate::{LockKind, is_reentrant};
@@ -15,7 +15,7 @@ use tsa_rules_table::{Marks, Numbers};
 use tsa_rules::{Case, Claim, Lock, Role};
 use tsa_tree::attr::AttrKind;
 use tsa_tree::kind::Kind;
-use tsa_place_paths::Path;
+use tsa_place_model::Path;
 
 impl<'a> RuleView<'a> {
     /// How many paths there are.

@@ -3,7 +3,7 @@ use Rattle.std.proofs.Common.{◌≡◌, ◌∙◌, ℕ, zero, suc, ◌+◌, ◌
 use Rattle.std.specs.List.{list_any}
 use Rattle.std.specs.Prelude.{All, Contains, IsSome}
 use Rattle.tsa_base.specs.declared.value.Value.{Value}
-use Rattle.tsa_place_paths.specs.Ways.{Way}
+use Rattle.tsa_place_model.specs.Ways.{Way}
 use Rattle.tsa_core.specs.Bodies.{can_have}
 use Rattle.tsa_core.specs.Control.{Outcome, Next}
 use Rattle.tsa_core.specs.KindLaws.{signatures}
@@ -11,7 +11,7 @@ use Rattle.tsa_core.specs.Kinds.{scalar_kind}
 use Rattle.tsa_core.specs.Meanings.{Call}
 use Rattle.tsa_core.specs.PointKinds.{answer_of}
 use Rattle.tsa_core.specs.Programs.{Attr, Function, Program}
-use Rattle.tsa_place_layout.specs.Stores.{is_value_of}
+use Rattle.tsa_place_model.specs.Stores.{is_value_of}
 use Rattle.tsa_path.proofs.Same.{way_equal}
 use Rattle.tsa_rules.specs.declared.status.Status.{Status}
 use Rattle.tsa_rules.specs.declared.status.Status.TheVariants.{Free, Lent, Pending}
@@ -19,7 +19,7 @@ use Rattle.tsa_rules.specs.Attributes.{all_as_called, claim, is_path, is_reentra
 use Rattle.tsa_rules.specs.Conditions.{Condition, answer_by, condition_at}
 use Rattle.tsa_rules.specs.Effects.{after_asking, after_attempt, after_claim, after_test, attempt_at, attempt_of, effect, exit_with, if_taken, is_success, taken_by}
 use Rattle.tsa_rules.specs.Points.{attrs_at, attrs_called, edges_of, function_at, is_a_try, or_no_function, point_at, try_variables, uses_at}
-use Rattle.tsa_locks.specs.Locks.{Mode}
+use Rattle.tsa_sched.specs.declared.event.Mode.{Mode}
 use Rattle.tsa_mean.specs.Acts.{point_of}
 use Rattle.tsa_mean.specs.Frames.{frame_at, frame_behind, left_of, or_here, point_behind, right_of, with_work, work_at}
 use Rattle.tsa_mean.specs.Returns.{attrs_of, lock_of}

@@ -15,7 +15,7 @@ use Rattle.tsa_rules.specs.Attributes.{is_try}
 use Rattle.tsa_rules.specs.Conditions.{Condition, the_call, answer_by, condition_at, condition_in}
 use Rattle.tsa_rules.specs.Effects.{answer_of_call, attempt_at, attempt_of, exit_with, is_success, of_call}
 use Rattle.tsa_rules.specs.Points.{attrs_at, function_at, is_a_try}
-use Rattle.tsa_locks.specs.Locks.{Mode}
+use Rattle.tsa_sched.specs.declared.event.Mode.{Mode}
 use Rattle.tsa_mean.specs.Acts.{point_of}
 use Rattle.tsa_mean.specs.Frames.{frame_by_answer, frame_with_answer, left_of, or_none, outcome_of, right_of, value_with_answer, with_work}
 use Rattle.tsa_mean.specs.States.{Frame, Holds, working}

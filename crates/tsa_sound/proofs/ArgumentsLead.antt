@@ -7,16 +7,16 @@ use Rattle.tsa_tree.specs.declared.kind.Kind.TheVariants as type
 use Rattle.tsa_tree.specs.declared.number.Number.{Number}
 use Rattle.tsa_tree.specs.declared.number.Number.TheVariants as numeral
 use Rattle.tsa_tree.specs.types.Operands.{integer_kind}
-use Rattle.tsa_place_paths.specs.Ways.{Way}
-use Rattle.tsa_place_paths.specs.declared.path.PathStep.{PathStep}
-use Rattle.tsa_place_paths.specs.declared.path.PathStep.TheVariants.{Field, Constant, Variable, Follow}
-use Rattle.tsa_place_paths.specs.declared.path.Root.{Root}
-use Rattle.tsa_place_paths.specs.declared.path.Root.TheVariants.{Global, Local, Owner}
-use Rattle.tsa_place_layout.specs.Calls.{Layout, index_in, pointee, take_root, take_steps}
+use Rattle.tsa_place_model.specs.Ways.{Way}
+use Rattle.tsa_place_model.specs.declared.path.PathStep.{PathStep}
+use Rattle.tsa_place_model.specs.declared.path.PathStep.TheVariants.{Field, Constant, Variable, Follow}
+use Rattle.tsa_place_model.specs.declared.path.Root.{Root}
+use Rattle.tsa_place_model.specs.declared.path.Root.TheVariants.{Global, Local, Owner}
+use Rattle.tsa_place_model.specs.Calls.{Layout, index_in, pointee, take_root, take_steps}
 use Rattle.tsa_core.specs.Kinds.{Setting, conversion_kind, if_so, value_kind}
 use Rattle.tsa_core.specs.Meanings.{of_number}
 use Rattle.tsa_core.specs.PointKinds.{ArgsServe, Serves}
-use Rattle.tsa_place_layout.specs.Stores.{is_value_of}
+use Rattle.tsa_place_model.specs.Stores.{is_value_of}
 use Rattle.tsa_core.specs.Terms.{Term, variable, converted}
 use Rattle.tsa_path.specs.Laws.{Denotes, IsHeld, IsPassed, IsSameValue, IsValue, bits}
 use Rattle.tsa_path.specs.Substitution.{given}

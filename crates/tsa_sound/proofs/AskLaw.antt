@@ -8,17 +8,17 @@ use Rattle.tsa_tree.specs.declared.attr.AttrKind.TheVariants as attr
 use Rattle.tsa_tree.specs.declared.kind.Kind.{Kind}
 use Rattle.tsa_tree.specs.declared.kind.Kind.TheVariants as type
 use Rattle.tsa_tree.specs.declared.number.Number.TheVariants as numeral
-use Rattle.tsa_place_paths.specs.Ways.{Way}
-use Rattle.tsa_place.specs.Items as cell
+use Rattle.tsa_place_model.specs.Ways.{Way}
+use Rattle.tsa_place_model.specs.Items as cell
 use Rattle.tsa_core.specs.Kinds.{scalar_kind}
 use Rattle.tsa_core.specs.Programs.{Attr, Program}
-use Rattle.tsa_place_layout.specs.Stores.{is_value_of}
+use Rattle.tsa_place_model.specs.Stores.{is_value_of}
 use Rattle.tsa_path.specs.Values.{of_truth}
 use Rattle.tsa_rules.specs.declared.status.Status.TheVariants.{Free}
 use Rattle.tsa_rules.specs.Attributes.{all_as_called, as_called, is_try}
 use Rattle.tsa_rules.specs.Effects.{entry_by, exit_by, exit_with, is_taken_by}
 use Rattle.tsa_rules.specs.Points.{attrs_at, attrs_called, function_at, is_a_try, uses_at}
-use Rattle.tsa_locks.specs.Locks.{Mode}
+use Rattle.tsa_sched.specs.declared.event.Mode.{Mode}
 use Rattle.tsa_sched.specs.declared.pick.Pick.{Pick}
 use Rattle.tsa_mean.specs.Acts.{Act, changes_lock, on_lock, point_of, to_ask}
 use Rattle.tsa_mean.specs.Frames.{frame_with_answer}

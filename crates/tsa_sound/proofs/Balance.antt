@@ -12,7 +12,8 @@ use Rattle.tsa_rules.specs.declared.status.Status.TheVariants.{Free}
 use Rattle.tsa_rules.specs.Conditions.{yes_or_no}
 use Rattle.tsa_rules.specs.Effects as effect
 use Rattle.tsa_rules.specs.Effects.{entry_by, exit_by, exit_with, if_taken}
-use Rattle.tsa_locks.specs.Locks.{Mode, Exclusive, Shared}
+use Rattle.tsa_sched.specs.declared.event.Mode.{Mode}
+use Rattle.tsa_sched.specs.declared.event.Mode.TheVariants.{Exclusive, Shared}
 use Rattle.tsa_mean.specs.Acts.{point_of, to_leave}
 use Rattle.tsa_mean.specs.Returns.{attrs_of, change_in, change_of, given_back, if_lock, is_success, lock_of, taken_over, takes_if}
 use Rattle.tsa_mean.specs.Safe.{LeavesAsDeclared}

@@ -1,7 +1,7 @@
 -- Tests: a try variable's answer is told by the outcome, and settled statuses stay.
 use Rattle.std.proofs.Common.{◌≡◌, ◌∙◌, ℕ, nat_lt, Bool, true, false, not, List, length, Option, Some, None, slice_get, refl, ap, sym, subst}
 use Rattle.std.specs.Prelude.{Contains}
-use Rattle.tsa_place_paths.specs.Ways.{Way}
+use Rattle.tsa_place_model.specs.Ways.{Way}
 use Rattle.tsa_core.specs.Programs.{Program}
 use Rattle.tsa_rules.specs.declared.status.Status.TheVariants.{Pending}
 use Rattle.tsa_rules.specs.Conditions.{Condition, Subject, the_call, the_local, answer_by, condition_at, condition_in}

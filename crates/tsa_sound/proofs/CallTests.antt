@@ -11,7 +11,7 @@ use Rattle.tsa_tree.specs.declared.number.Number.{Number}
 use Rattle.tsa_tree.specs.declared.number.Number.TheVariants as numeral
 use Rattle.tsa_tree.specs.declared.number.Trap.{Trap}
 use Rattle.tsa_tree.specs.types.Constants.{without_trap}
-use Rattle.tsa_place_layout.specs.Calls.{Layout}
+use Rattle.tsa_place_model.specs.Calls.{Layout}
 use Rattle.tsa_core.specs.Kinds.{Setting, binary_kind, of_both, value_kind}
 use Rattle.tsa_core.specs.Meanings.{of_number}
 use Rattle.tsa_core.specs.Terms.{Term, constant, variable, answer, global, member, element, target, load, address, converted, prefixed, joined}

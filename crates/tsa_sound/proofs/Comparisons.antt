@@ -5,7 +5,7 @@ use Rattle.tsa_base.specs.declared.value.Value.TheVariants.{Int}
 use Rattle.tsa_tree.specs.declared.expr.BinaryOp.{BinaryOp}
 use Rattle.tsa_tree.specs.declared.expr.BinaryOp.TheVariants as op
 use Rattle.tsa_tree.specs.declared.expr.UnaryOp.TheVariants as prefix
-use Rattle.tsa_place_layout.specs.Calls.{Layout}
+use Rattle.tsa_place_model.specs.Calls.{Layout}
 use Rattle.tsa_core.specs.Kinds.{Setting}
 use Rattle.tsa_core.specs.Terms.{Term, variable, answer, prefixed, joined}
 use Rattle.tsa_rules.specs.Conditions.{Condition, Subject, the_call, the_local, answer_beside, answer_by, beside, comparison, condition, condition_in, either, itself, subject_in}

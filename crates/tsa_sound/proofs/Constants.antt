@@ -14,8 +14,8 @@ use Rattle.tsa_tree.specs.declared.number.Trap.{Trap}
 use Rattle.tsa_tree.specs.declared.number.Trap.TheVariants.{Overflow, Division}
 use Rattle.tsa_tree.specs.types.Arithmetic.{is_nonzero, operate, operate_prefix, truth}
 use Rattle.tsa_tree.specs.types.Constants.{as_truth, go_on, worked_binary}
-use Rattle.tsa_place_layout.specs.Calls.{Layout}
-use Rattle.tsa_place.specs.Items as cell
+use Rattle.tsa_place_model.specs.Calls.{Layout}
+use Rattle.tsa_place_model.specs.Items as cell
 use Rattle.tsa_core.specs.Kinds.{Setting}
 use Rattle.tsa_core.specs.Meanings.{of_number}
 use Rattle.tsa_core.specs.Terms.{Term, constant, variable, answer, global, member, element, target, load, address, converted, prefixed, joined}

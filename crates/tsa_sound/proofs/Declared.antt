@@ -8,15 +8,15 @@ use Rattle.tsa_tree.specs.declared.attr.AttrKind.TheVariants as attr
 use Rattle.tsa_tree.specs.declared.kind.Kind.{Kind}
 use Rattle.tsa_tree.specs.declared.kind.Kind.TheVariants as type
 use Rattle.tsa_tree.specs.types.Operands.{integer_kind}
-use Rattle.tsa_place_paths.specs.Ways.{Way}
+use Rattle.tsa_place_model.specs.Ways.{Way}
 use Rattle.tsa_core.specs.Bodies.{can_have, declare}
-use Rattle.tsa_place_layout.specs.Calls.{Layout}
+use Rattle.tsa_place_model.specs.Calls.{Layout}
 use Rattle.tsa_core.specs.Control.{Next}
 use Rattle.tsa_core.specs.Kinds.{Setting, conversion_kind, if_so, scalar_kind, value_kind}
 use Rattle.tsa_core.specs.Meanings.{Call}
 use Rattle.tsa_core.specs.PointKinds.{ActionHolds}
 use Rattle.tsa_core.specs.Programs.{Attr, Function, Program}
-use Rattle.tsa_place_layout.specs.Stores.{is_value_of}
+use Rattle.tsa_place_model.specs.Stores.{is_value_of}
 use Rattle.tsa_core.specs.Terms.{Term, answer, converted}
 use Rattle.tsa_rules.specs.declared.rule.Rule.TheVariants.{TS12}
 use Rattle.tsa_rules.specs.declared.status.Status.{Status}
@@ -26,7 +26,7 @@ use Rattle.tsa_rules.specs.Attributes.{claim, claims, claims_path, is_reentrant,
 use Rattle.tsa_rules.specs.Effects.{after_attempt, after_call, after_claim, attempt_at, effect, exit_with, if_taken, is_success, left_by_try, taken_by}
 use Rattle.tsa_rules.specs.Fails.{is_mentioned}
 use Rattle.tsa_rules.specs.Points.{attrs_at, function_at, is_a_try, local_begun, mentions, try_kept, try_number, try_variables}
-use Rattle.tsa_locks.specs.Locks.{Mode}
+use Rattle.tsa_sched.specs.declared.event.Mode.{Mode}
 use Rattle.tsa_mean.specs.Acts.{point_of}
 use Rattle.tsa_mean.specs.Frames.{frame_behind, or_none, value_with_answer}
 use Rattle.tsa_mean.specs.Operators.{converted_to}

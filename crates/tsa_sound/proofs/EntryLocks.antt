@@ -3,7 +3,7 @@ use Rattle.std.proofs.Common.{◌≡◌, ◌∙◌, Option, Some, None, true, op
 use Rattle.std.specs.Prelude.{All, Contains, IsSome}
 use Rattle.tsa_tree.specs.declared.attr.AttrKind.{AttrKind}
 use Rattle.tsa_tree.specs.declared.attr.AttrKind.TheVariants as attr
-use Rattle.tsa_place_paths.specs.Ways.{Way}
+use Rattle.tsa_place_model.specs.Ways.{Way}
 use Rattle.tsa_core.specs.Programs.{Attr, Program}
 use Rattle.tsa_path.proofs.Same.{way_itself}
 use Rattle.tsa_rules.specs.declared.rule.Rule.TheVariants.{TS03, TS04, TS07}

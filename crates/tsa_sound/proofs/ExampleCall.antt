@@ -1,7 +1,7 @@
 -- A unit that hands a lock over to a function meets all that the laws ask of a program.
 use Rattle.std.proofs.Common.{ℕ, zero, suc, ◌≡◌, ◌^◌, length, refl, subst, leb-true}
 use Rattle.std.specs.Prelude.{IsSome, slice_get}
-use Rattle.tsa_place_layout.specs.Layouts.{structure_at}
+use Rattle.tsa_place_model.specs.Layouts.{structure_at}
 use Rattle.tsa_core.proofs.Worked.{worked}
 use Rattle.tsa_path.specs.Laws.{IsSmall}
 use Rattle.tsa_rules.specs.Points.{function_at}

@@ -2,11 +2,11 @@
 use Rattle.std.proofs.Common.{◌≡◌, ◌∙◌, ℕ, zero, suc, Bool, true, false, List, [], ◌∷◌, length, ◌≤◌, ◌<◌, filter, if◌then◌else◌, Some, None, inl, option_and_then, slice_get, refl, ap, sym, subst, arith, eqb-true, nat_eq}
 use Rattle.std.specs.List.{list_any}
 use Rattle.std.specs.Prelude.{All, AllPairs, Contains, IsSome}
-use Rattle.tsa_place_paths.specs.declared.path.PathStep.TheVariants.{Follow}
+use Rattle.tsa_place_model.specs.declared.path.PathStep.TheVariants.{Follow}
 use Rattle.tsa_tree.specs.declared.attr.AttrKind.TheVariants as attr
 use Rattle.tsa_tree.specs.declared.kind.Kind.{Kind}
 use Rattle.tsa_tree.specs.declared.kind.Kind.TheVariants as type
-use Rattle.tsa_place_paths.specs.Ways.{Way}
+use Rattle.tsa_place_model.specs.Ways.{Way}
 use Rattle.tsa_core.specs.Bodies.{go_on}
 use Rattle.tsa_core.specs.Meanings.{Call}
 use Rattle.tsa_core.specs.Programs.{Attr, Function}

@@ -6,14 +6,14 @@ use Rattle.tsa_base.specs.declared.token.Span.{Span}
 use Rattle.tsa_base.specs.declared.value.Value.{Value}
 use Rattle.tsa_base.specs.declared.value.Value.TheVariants.{Pointer}
 use Rattle.tsa_tree.specs.declared.kind.Kind.TheVariants as type
-use Rattle.tsa_place_paths.specs.Ways.{Way, from}
-use Rattle.tsa_place_paths.specs.declared.path.Root.TheVariants as root
-use Rattle.tsa_place_layout.specs.Calls.{Layout, element_place, global_place, guards_by, guards_of, member_place}
-use Rattle.tsa_place_layout.specs.declared.place.Holder.TheVariants.{Global, Member}
-use Rattle.tsa_place_layout.specs.Layouts.{Part, no_members, structure_at, size_of}
-use Rattle.tsa_place_layout.specs.declared.place.Placed.{Placed}
-use Rattle.tsa_place_layout.specs.Places.{has_some}
-use Rattle.tsa_place_layout.specs.Calls.{around, guards_along}
+use Rattle.tsa_place_model.specs.Ways.{Way, from}
+use Rattle.tsa_place_model.specs.declared.path.Root.TheVariants as root
+use Rattle.tsa_place_model.specs.Calls.{Layout, element_place, global_place, guards_by, guards_of, member_place}
+use Rattle.tsa_place_model.specs.declared.place.Holder.TheVariants.{Global, Member}
+use Rattle.tsa_place_model.specs.Layouts.{Part, no_members, structure_at, size_of}
+use Rattle.tsa_place_model.specs.declared.place.Placed.{Placed}
+use Rattle.tsa_place_model.specs.Places.{has_some}
+use Rattle.tsa_place_model.specs.Calls.{around, guards_along}
 use Rattle.tsa_rules.specs.KeptLaws.{locked_write}
 use Rattle.tsa_mean.proofs.Lists.{all_more, all_none}
 use Rattle.tsa_mean.proofs.Worked.{turned}

@@ -10,14 +10,14 @@ use Rattle.tsa_tree.specs.declared.kind.Kind.{Kind}
 use Rattle.tsa_tree.specs.declared.kind.Kind.TheVariants as type
 use Rattle.tsa_tree.specs.declared.number.Number.{Number}
 use Rattle.tsa_tree.specs.declared.number.Number.TheVariants as numeral
-use Rattle.tsa_place_paths.specs.Ways.{Way}
+use Rattle.tsa_place_model.specs.Ways.{Way}
 use Rattle.tsa_core.specs.Bodies.{give}
-use Rattle.tsa_place_layout.specs.Calls.{Layout}
+use Rattle.tsa_place_model.specs.Calls.{Layout}
 use Rattle.tsa_core.specs.Kinds.{Setting, scalar_kind, value_kind}
 use Rattle.tsa_core.specs.Meanings.{of_number}
 use Rattle.tsa_core.specs.PointKinds.{ActionHolds}
 use Rattle.tsa_core.specs.Programs.{Attr, Program}
-use Rattle.tsa_place_layout.specs.Stores.{is_value_of}
+use Rattle.tsa_place_model.specs.Stores.{is_value_of}
 use Rattle.tsa_rules.specs.declared.rule.Rule.TheVariants.{TS09}
 use Rattle.tsa_rules.specs.declared.status.Status.{Status}
 use Rattle.tsa_rules.specs.declared.status.Status.TheVariants as status
@@ -28,7 +28,7 @@ use Rattle.tsa_rules.specs.Conditions.{answer_in, constant_in, constant_result, 
 use Rattle.tsa_rules.specs.Effects.{answer_given, exit, exit_by, exit_with, if_taken, is_success, is_taken_by}
 use Rattle.tsa_rules.specs.Points.{is_leaving}
 use Rattle.tsa_rules.proofs.Fitting.{what_does_not_fail_fits}
-use Rattle.tsa_locks.specs.Locks.{Mode}
+use Rattle.tsa_sched.specs.declared.event.Mode.{Mode}
 use Rattle.tsa_mean.specs.Acts.{point_of, to_leave}
 use Rattle.tsa_mean.specs.Frames.{right_of}
 use Rattle.tsa_mean.specs.Outs.{yields}

@@ -1,7 +1,7 @@
 -- Points that call nothing are left for others, with the statuses as they are.
 use Rattle.std.proofs.Common.{◌≡◌, ◌∙◌, ℕ, ℤ, List, Option, Some, None, inr, refl, ap, sym, subst}
 use Rattle.std.specs.Prelude.{Contains}
-use Rattle.tsa_place_paths.specs.Ways.{Way}
+use Rattle.tsa_place_model.specs.Ways.{Way}
 use Rattle.tsa_core.specs.Control.{Outcome, Next, Rest, Chosen}
 use Rattle.tsa_core.specs.Programs.{Program}
 use Rattle.tsa_rules.specs.declared.status.Status.TheVariants.{Pending}

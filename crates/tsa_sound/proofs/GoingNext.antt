@@ -2,7 +2,7 @@
 use Rattle.std.proofs.Common.{◌≡◌, ◌∙◌, ℕ, true, List, Option, Some, None, inr, refl, ap, sym, subst}
 use Rattle.std.specs.Prelude.{Contains, IsSome}
 use Rattle.tsa_base.specs.declared.value.Value.{Value}
-use Rattle.tsa_place_paths.specs.Ways.{Way}
+use Rattle.tsa_place_model.specs.Ways.{Way}
 use Rattle.tsa_core.specs.Bodies.{can_have}
 use Rattle.tsa_core.specs.Control.{Next}
 use Rattle.tsa_core.specs.Meanings.{Call}

@@ -3,7 +3,7 @@ use Rattle.std.proofs.Common.{◌≡◌, ◌∙◌, ℕ, zero, suc, ◌<◌, ◌
 use Rattle.std.specs.Prelude.{All, Contains, IsSome, cond}
 use Rattle.tsa_tree.specs.declared.attr.AttrKind.{AttrKind}
 use Rattle.tsa_tree.specs.declared.attr.AttrKind.TheVariants as attr
-use Rattle.tsa_place_paths.specs.Ways.{Way}
+use Rattle.tsa_place_model.specs.Ways.{Way}
 use Rattle.tsa_core.specs.Meanings.{Call}
 use Rattle.tsa_core.specs.Programs.{Attr, Program}
 use Rattle.tsa_path.proofs.Same.{way_equal, way_itself}
@@ -14,7 +14,8 @@ use Rattle.tsa_rules.specs.Attributes.{claim, claim_count, claims, claims_path, 
 use Rattle.tsa_rules.specs.Effects.{entry_by}
 use Rattle.tsa_rules.specs.Points.{attrs_at, is_status}
 use Rattle.tsa_rules.specs.Statuses.{IsHeld}
-use Rattle.tsa_locks.specs.Locks.{Mode, Exclusive, Shared}
+use Rattle.tsa_sched.specs.declared.event.Mode.{Mode}
+use Rattle.tsa_sched.specs.declared.event.Mode.TheVariants.{Exclusive, Shared}
 use Rattle.tsa_mean.specs.Acts.{point_of}
 use Rattle.tsa_mean.specs.States.{Frame}
 use Rattle.tsa_mean.proofs.Lists.{all_more, all_none}

@@ -1,7 +1,7 @@
 -- What a frame's statuses say of the holds of its thread.
 use Rattle.std.proofs.Common.{◌≡◌, ◌∙◌, ℕ, zero, suc, ◌+◌, ◌<◌, ◌≤◌, nat_le, Bool, true, List, [], ◌∷◌, length, Option, Some, None, slice_index_or, if◌then◌else◌, refl, ap, sym, arith, eq-eqb, leb-true}
 use Rattle.std.specs.Prelude.{Contains, IsSome}
-use Rattle.tsa_place_paths.specs.Ways.{Way}
+use Rattle.tsa_place_model.specs.Ways.{Way}
 use Rattle.tsa_core.specs.Control.{Next}
 use Rattle.tsa_core.specs.Programs.{Program}
 use Rattle.tsa_rules.specs.declared.status.Status.{Status}
@@ -10,7 +10,8 @@ use Rattle.tsa_rules.specs.declared.status.Status.TheVariants.{Free, Pending}
 use Rattle.tsa_rules.specs.Points.{is_status}
 use Rattle.tsa_rules.specs.Statuses.{IsHeld, IsExclusive}
 use Rattle.tsa_rules.proofs.Possible.{statuses_stay_possible}
-use Rattle.tsa_locks.specs.Locks.{Mode, Exclusive, Shared}
+use Rattle.tsa_sched.specs.declared.event.Mode.{Mode}
+use Rattle.tsa_sched.specs.declared.event.Mode.TheVariants.{Exclusive, Shared}
 use Rattle.tsa_mean.specs.Returns.{if_lock}
 use Rattle.tsa_mean.specs.States.{Frame, Holds, Work, calling, working}
 use Rattle.tsa_sound.specs.Facts.{FunctionFacts}

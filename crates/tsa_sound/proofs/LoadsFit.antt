@@ -2,15 +2,15 @@
 use Rattle.std.proofs.Common.{if◌then◌else◌, ◌≡◌, ◌∙◌, ℕ, Bool, true, false, not, ◌&&◌, ◌||◌, List, [], ◌∷◌, Option, Some, None, option_map, option_and_then, is_some, slice_get, inl, inr, refl, ap, sym, subst}
 use Rattle.tsa_tree.specs.declared.kind.Kind.{Kind}
 use Rattle.tsa_tree.specs.declared.kind.ThingType.{ThingType}
-use Rattle.tsa_place_paths.specs.Ways.{Way}
-use Rattle.tsa_place_paths.specs.declared.path.PathStep.TheVariants.{Follow}
+use Rattle.tsa_place_model.specs.Ways.{Way}
+use Rattle.tsa_place_model.specs.declared.path.PathStep.TheVariants.{Follow}
 use Rattle.tsa_core.specs.Bodies.{Action, evaluate, set_local, set_cell, declare, test, branch, go_on, give}
-use Rattle.tsa_place_layout.specs.Calls.{global_place, index_in, initial_at, is_structure, member_place, pointee, take_step}
+use Rattle.tsa_place_model.specs.Calls.{global_place, index_in, initial_at, is_structure, member_place, pointee, take_step}
 use Rattle.tsa_core.specs.Kinds.{Setting, cell_kind, if_so, member_thing, place_type, struct_in, value_kind, within}
-use Rattle.tsa_place_layout.specs.Layouts.{Part, structure_at}
+use Rattle.tsa_place_model.specs.Layouts.{Part, structure_at}
 use Rattle.tsa_core.specs.Meanings.{is_place}
-use Rattle.tsa_place_layout.specs.declared.place.Placed.{Placed}
-use Rattle.tsa_place_layout.specs.Stores.{IsWellTyped, Store, is_value_of}
+use Rattle.tsa_place_model.specs.declared.place.Placed.{Placed}
+use Rattle.tsa_place_model.specs.Stores.{IsWellTyped, Store, is_value_of}
 use Rattle.tsa_core.specs.Terms.{Term, constant, variable, answer, global, member, element, target, load, address, converted, prefixed, joined}
 use Rattle.tsa_path.specs.ArgumentLaws.{KeepsConst}
 use Rattle.tsa_path.specs.Values.{at_index}

@@ -3,11 +3,11 @@ use Rattle.std.proofs.Common.{◌≡◌, ℕ, zero, suc, ◌<◌, ◌≤◌, Boo
 use Rattle.tsa_base.specs.declared.value.Value.{Value}
 use Rattle.tsa_tree.specs.declared.kind.Kind.{Kind}
 use Rattle.tsa_tree.specs.declared.kind.Kind.TheVariants as type
-use Rattle.tsa_place_layout.specs.Calls.{Layout}
-use Rattle.tsa_place.specs.Items.{zero_of}
+use Rattle.tsa_place_model.specs.Calls.{Layout}
+use Rattle.tsa_place_model.specs.Items.{zero_of}
 use Rattle.tsa_core.specs.Kinds.{Setting}
 use Rattle.tsa_core.specs.PointKinds.{ArgsServe, serves}
-use Rattle.tsa_place_layout.specs.Stores.{is_value_of}
+use Rattle.tsa_place_model.specs.Stores.{is_value_of}
 use Rattle.tsa_core.specs.Terms.{Term}
 use Rattle.tsa_mean.specs.Outs.{bind, yields}
 use Rattle.tsa_mean.specs.Working.{Locals, local_at, rvalue, rvalues}

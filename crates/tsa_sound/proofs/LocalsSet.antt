@@ -3,14 +3,14 @@ use Rattle.std.proofs.Common.{◌≡◌, ◌∙◌, ℕ, zero, suc, ◌<◌, nat
 use Rattle.std.specs.List.{list_any}
 use Rattle.std.specs.Prelude.{All, IsSome}
 use Rattle.tsa_base.specs.declared.value.Value.{Value}
-use Rattle.tsa_place_layout.specs.declared.evaluation.Spot.{Spot}
-use Rattle.tsa_place_layout.specs.declared.evaluation.Spot.TheVariants.{Place, Holds}
-use Rattle.tsa_place_paths.specs.Ways.{Way}
-use Rattle.tsa_place_paths.specs.declared.path.PathStep.{PathStep}
-use Rattle.tsa_place_paths.specs.declared.path.PathStep.TheVariants.{Field, Constant, Variable, Follow}
-use Rattle.tsa_place_paths.specs.declared.path.Root.{Root}
-use Rattle.tsa_place_paths.specs.declared.path.Root.TheVariants.{Global, Local, Owner}
-use Rattle.tsa_place_layout.specs.Calls.{element_place, index_in, place_in, take_root, take_step, take_steps}
+use Rattle.tsa_place_model.specs.declared.spot.Spot.{Spot}
+use Rattle.tsa_place_model.specs.declared.spot.Spot.TheVariants.{Place, Holds}
+use Rattle.tsa_place_model.specs.Ways.{Way}
+use Rattle.tsa_place_model.specs.declared.path.PathStep.{PathStep}
+use Rattle.tsa_place_model.specs.declared.path.PathStep.TheVariants.{Field, Constant, Variable, Follow}
+use Rattle.tsa_place_model.specs.declared.path.Root.{Root}
+use Rattle.tsa_place_model.specs.declared.path.Root.TheVariants.{Global, Local, Owner}
+use Rattle.tsa_place_model.specs.Calls.{element_place, index_in, place_in, take_root, take_step, take_steps}
 use Rattle.tsa_core.specs.Programs.{Function, Program}
 use Rattle.tsa_rules.specs.declared.status.Status.{Status}
 use Rattle.tsa_rules.specs.declared.status.Status.TheVariants as status

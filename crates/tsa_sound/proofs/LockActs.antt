@@ -8,7 +8,9 @@ use Rattle.tsa_rules.specs.declared.status.Status.{Status}
 use Rattle.tsa_rules.specs.declared.status.Status.TheVariants as status
 use Rattle.tsa_rules.specs.declared.status.Status.TheVariants.{Free, Lent, Pending}
 use Rattle.tsa_rules.specs.Effects.{exit_by, same_answer}
-use Rattle.tsa_locks.specs.Locks.{Lock, Mode, Exclusive, Shared, give, given, holds, owned, shared_by}
+use Rattle.tsa_locks.specs.Locks.{Lock, give, given, holds, owned, shared_by}
+use Rattle.tsa_sched.specs.declared.event.Mode.{Mode}
+use Rattle.tsa_sched.specs.declared.event.Mode.TheVariants.{Exclusive, Shared}
 use Rattle.tsa_mean.specs.Acts.{Act, changes_lock, on_lock, to_ask, to_give, to_take, to_try}
 use Rattle.tsa_mean.specs.Returns.{if_lock, once}
 use Rattle.tsa_mean.specs.Safe.{CanBeGiven}

@@ -7,16 +7,16 @@ use Rattle.tsa_tree.specs.declared.attr.AttrKind.{AttrKind}
 use Rattle.tsa_tree.specs.declared.attr.AttrKind.TheVariants as attr
 use Rattle.tsa_tree.specs.declared.kind.Kind.{Kind}
 use Rattle.tsa_tree.specs.declared.kind.Kind.TheVariants as type
-use Rattle.tsa_place_layout.specs.declared.evaluation.Spot.TheVariants.{Place}
-use Rattle.tsa_place_paths.specs.Ways.{Way}
-use Rattle.tsa_place_layout.specs.Calls.{Layout, place_in, pointee, take_root}
+use Rattle.tsa_place_model.specs.declared.spot.Spot.TheVariants.{Place}
+use Rattle.tsa_place_model.specs.Ways.{Way}
+use Rattle.tsa_place_model.specs.Calls.{Layout, place_in, pointee, take_root}
 use Rattle.tsa_core.specs.KindLaws.{signatures}
 use Rattle.tsa_core.specs.Kinds.{Setting, scalar_kind}
 use Rattle.tsa_core.specs.Meanings.{Call}
-use Rattle.tsa_place_layout.specs.declared.place.Placed.{Placed}
+use Rattle.tsa_place_model.specs.declared.place.Placed.{Placed}
 use Rattle.tsa_core.specs.PointKinds.{ArgsServe, CallHolds, Serves}
 use Rattle.tsa_core.specs.Programs.{Attr, Function, Program}
-use Rattle.tsa_place_layout.specs.Stores.{is_value_of, may_point}
+use Rattle.tsa_place_model.specs.Stores.{is_value_of, may_point}
 use Rattle.tsa_core.specs.Terms.{Term}
 use Rattle.tsa_path.specs.Substitution.{as_pointer, further, given, substituted}
 use Rattle.tsa_path.specs.Values.{of_truth, pointed_place}
@@ -26,7 +26,7 @@ use Rattle.tsa_rules.specs.declared.status.Status.TheVariants.{Free}
 use Rattle.tsa_rules.specs.Attributes.{all_as_called, as_called, claim, claims, claims_path, is_path, is_reentrant, kind_of}
 use Rattle.tsa_rules.specs.Effects.{exit_with}
 use Rattle.tsa_rules.specs.Points.{attrs_at, attrs_called, function_at, or_no_function, uses_at}
-use Rattle.tsa_locks.specs.Locks.{Mode}
+use Rattle.tsa_sched.specs.declared.event.Mode.{Mode}
 use Rattle.tsa_mean.specs.Acts.{Act, changes_lock, point_of}
 use Rattle.tsa_mean.specs.Frames.{frame_with_answer}
 use Rattle.tsa_mean.specs.Outs.{bind, yields}

@@ -5,7 +5,8 @@ use Rattle.tsa_path.specs.Values.{of_truth}
 use Rattle.tsa_rules.specs.declared.status.Status.{Status}
 use Rattle.tsa_rules.specs.Effects.{exit_by, exit_with, is_success, same_answer}
 use Rattle.tsa_rules.specs.Points.{function_at}
-use Rattle.tsa_locks.specs.Locks.{Lock, Mode, Taking, blocked, given, take, taken}
+use Rattle.tsa_locks.specs.Locks.{Lock, Taking, blocked, given, take, taken}
+use Rattle.tsa_sched.specs.declared.event.Mode.{Mode}
 use Rattle.tsa_sched.specs.declared.event.EventKind.TheVariants as event
 use Rattle.tsa_sched.specs.declared.pick.Pick.{Pick}
 use Rattle.tsa_mean.specs.Acts.{Act, point_of, to_give, to_take, to_try}

@@ -1,12 +1,12 @@
 -- A frame that goes to another point.
 use Rattle.std.proofs.Common.{◌≡◌, ◌∙◌, ℕ, ◌+◌, ◌≤◌, true, List, [], ◌∷◌, length, ◌⊎◌, inl, inr, ap, sym, subst}
 use Rattle.std.specs.Prelude.{All, Contains, IsSome, slice_get}
-use Rattle.tsa_place_paths.specs.Ways.{Way}
+use Rattle.tsa_place_model.specs.Ways.{Way}
 use Rattle.tsa_core.specs.Programs.{Program}
 use Rattle.tsa_rules.specs.declared.status.Status.TheVariants.{Free, Lent, Pending}
 use Rattle.tsa_rules.specs.Attributes.{local_kinds}
 use Rattle.tsa_rules.specs.Points.{try_variables}
-use Rattle.tsa_locks.specs.Locks.{Mode}
+use Rattle.tsa_sched.specs.declared.event.Mode.{Mode}
 use Rattle.tsa_mean.specs.Frames.{frame_at}
 use Rattle.tsa_mean.specs.Returns.{attrs_of, lock_of}
 use Rattle.tsa_mean.specs.States.{Frame, Holds}

@@ -4,7 +4,7 @@ use Rattle.std.specs.Prelude.{All, Contains, IsSome}
 use Rattle.tsa_base.specs.declared.value.Value.{Value}
 use Rattle.tsa_tree.specs.declared.attr.AttrKind.{AttrKind}
 use Rattle.tsa_tree.specs.declared.attr.AttrKind.TheVariants as attr
-use Rattle.tsa_place_paths.specs.Ways.{Way}
+use Rattle.tsa_place_model.specs.Ways.{Way}
 use Rattle.tsa_core.specs.Meanings.{Call}
 use Rattle.tsa_core.specs.Programs.{Attr, Function, Program}
 use Rattle.tsa_core.specs.Terms.{Term}
@@ -13,7 +13,7 @@ use Rattle.tsa_rules.specs.declared.status.Status.TheVariants.{Free, Lent}
 use Rattle.tsa_rules.specs.Attributes.{all_as_called, as_called, claim, claims, kind_of}
 use Rattle.tsa_rules.specs.Effects.{entry, entry_by}
 use Rattle.tsa_rules.specs.Points.{attrs_at, attrs_called, function_at, uses_at}
-use Rattle.tsa_locks.specs.Locks.{Mode}
+use Rattle.tsa_sched.specs.declared.event.Mode.{Mode}
 use Rattle.tsa_mean.specs.Acts.{point_of}
 use Rattle.tsa_mean.specs.Frames.{frame_of_call}
 use Rattle.tsa_mean.specs.Outs.{yields}

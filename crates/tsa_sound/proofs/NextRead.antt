@@ -3,7 +3,7 @@ use Rattle.std.proofs.Common.{◌≡◌, ◌∙◌, ℕ, Bool, List, [], ◌∷�
 use Rattle.tsa_base.specs.declared.value.Value.{Value}
 use Rattle.tsa_base.specs.declared.value.Value.TheVariants.{Pointer}
 use Rattle.tsa_tree.specs.declared.expr.BinaryOp.{BinaryOp}
-use Rattle.tsa_place_layout.specs.Calls.{global_place, index_in, member_place}
+use Rattle.tsa_place_model.specs.Calls.{global_place, index_in, member_place}
 use Rattle.tsa_core.specs.Kinds.{Setting, value_kind}
 use Rattle.tsa_core.specs.Terms.{Term, constant, variable, answer, global, member, element, target, load, address, converted, prefixed, joined}
 use Rattle.tsa_path.specs.Values.{at_index, in_kind, pointed_place}

@@ -2,20 +2,20 @@
 use Rattle.std.proofs.Common.{false, ◌≡◌, ◌∙◌, ℕ, Bool, List, [], ◌∷◌, Option, Some, None, ◌+◌, refl, ap, sym, subst, option_and_then}
 use Rattle.std.specs.Prelude.{All, Contains, IsSome}
 use Rattle.tsa_base.specs.declared.value.Value.{Value}
-use Rattle.tsa_place_layout.specs.declared.place.Guard.{Guard}
-use Rattle.tsa_place_layout.specs.declared.place.Guard.TheVariants.{Lock, Nothing}
+use Rattle.tsa_place_model.specs.declared.place.Guard.{Guard}
+use Rattle.tsa_place_model.specs.declared.place.Guard.TheVariants.{Lock, Nothing}
 use Rattle.tsa_tree.specs.declared.expr.BinaryOp.{BinaryOp}
 use Rattle.tsa_tree.specs.declared.kind.Kind.{Kind}
 use Rattle.tsa_tree.specs.declared.kind.ThingType.{ThingType}
-use Rattle.tsa_place_paths.specs.Ways.{Way}
+use Rattle.tsa_place_model.specs.Ways.{Way}
 use Rattle.tsa_core.specs.Bodies.{set_cell}
-use Rattle.tsa_place_layout.specs.Calls.{guards_of}
+use Rattle.tsa_place_model.specs.Calls.{guards_of}
 use Rattle.tsa_core.specs.Kinds.{Setting, cell_kind, place_type}
 use Rattle.tsa_core.specs.Meanings.{Call}
 use Rattle.tsa_core.specs.PointKinds.{ActionHolds, IsCellOf, answer_of}
 use Rattle.tsa_core.specs.KindLaws.{signatures}
 use Rattle.tsa_core.specs.Programs.{Program}
-use Rattle.tsa_place_layout.specs.Stores.{IsWellTyped}
+use Rattle.tsa_place_model.specs.Stores.{IsWellTyped}
 use Rattle.tsa_core.specs.Terms.{Term}
 use Rattle.tsa_path.specs.ArgumentLaws.{KeepsConst}
 use Rattle.tsa_rules.specs.declared.status.Status.{Status}

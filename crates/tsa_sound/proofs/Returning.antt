@@ -3,15 +3,15 @@ use Rattle.std.proofs.Common.{◌≡◌, ◌∙◌, ℕ, ◌+◌, Bool, true, Li
 use Rattle.std.specs.List.{list_any}
 use Rattle.std.specs.Prelude.{All, Contains, IsSome}
 use Rattle.tsa_base.specs.declared.value.Value.{Value}
-use Rattle.tsa_place_paths.specs.Ways.{Way}
+use Rattle.tsa_place_model.specs.Ways.{Way}
 use Rattle.tsa_core.specs.Kinds.{scalar_kind}
 use Rattle.tsa_core.specs.Programs.{Attr, Program}
-use Rattle.tsa_place_layout.specs.Stores.{is_value_of}
+use Rattle.tsa_place_model.specs.Stores.{is_value_of}
 use Rattle.tsa_rules.specs.declared.status.Status.TheVariants.{Free}
 use Rattle.tsa_rules.specs.Attributes.{all_as_called, as_called, is_try}
 use Rattle.tsa_rules.specs.Effects.{exit_with}
 use Rattle.tsa_rules.specs.Points.{attrs_at, attrs_called, function_at, is_a_try, uses_at}
-use Rattle.tsa_locks.specs.Locks.{Mode}
+use Rattle.tsa_sched.specs.declared.event.Mode.{Mode}
 use Rattle.tsa_mean.specs.Acts.{point_of, to_leave}
 use Rattle.tsa_mean.specs.Returns.{attrs_of, if_lock, lock_of}
 use Rattle.tsa_mean.specs.States.{Frame, Holds}

@@ -1,11 +1,11 @@
 -- From a state with the invariant no run tells of a violation, and none leads to a race.
 use Rattle.std.proofs.Common.{◌≡◌, pos, false, List, [], ◌∷◌, Some, refl, sym, subst, arith}
 use Rattle.std.specs.Prelude.{All}
-use Rattle.tsa_place_layout.specs.Calls.{guards_of}
-use Rattle.tsa_place_layout.specs.declared.place.Guard.{Guard}
-use Rattle.tsa_place_layout.specs.declared.place.Guard.TheVariants.{Lock, Nothing}
+use Rattle.tsa_place_model.specs.Calls.{guards_of}
+use Rattle.tsa_place_model.specs.declared.place.Guard.{Guard}
+use Rattle.tsa_place_model.specs.declared.place.Guard.TheVariants.{Lock, Nothing}
 use Rattle.tsa_core.specs.Programs.{Program}
-use Rattle.tsa_locks.specs.Locks.{Exclusive}
+use Rattle.tsa_sched.specs.declared.event.Mode.TheVariants.{Exclusive}
 use Rattle.tsa_locks.proofs.Takings.{locks_are_taken_where_they_can_be}
 use Rattle.tsa_sched.specs.declared.pick.Pick.{Pick}
 use Rattle.tsa_mean.specs.Acts.{Act, act_of, to_read, to_write, to_step, to_set, to_branch, to_choose, to_take, to_try, to_give, to_ask, to_enter, to_leave, to_trap, touched_cell}

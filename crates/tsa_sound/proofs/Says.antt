@@ -6,12 +6,12 @@ use Rattle.tsa_tree.specs.declared.number.Number.{Number}
 use Rattle.tsa_tree.specs.declared.number.Number.TheVariants as numeral
 use Rattle.tsa_tree.specs.declared.number.Trap.{Trap}
 use Rattle.tsa_tree.specs.types.Constants.{without_trap}
-use Rattle.tsa_place_layout.specs.declared.evaluation.Spot.{Spot}
-use Rattle.tsa_place_layout.specs.declared.evaluation.Spot.TheVariants.{Place}
-use Rattle.tsa_place_paths.specs.Ways.{Way, onward}
-use Rattle.tsa_place_paths.specs.declared.path.PathStep.{PathStep}
-use Rattle.tsa_place_paths.specs.declared.path.PathStep.TheVariants.{Field, Variable}
-use Rattle.tsa_place_layout.specs.Calls.{Layout, element_place, global_place, index_in, member_place, pointee, take_root, take_step, take_steps}
+use Rattle.tsa_place_model.specs.declared.spot.Spot.{Spot}
+use Rattle.tsa_place_model.specs.declared.spot.Spot.TheVariants.{Place}
+use Rattle.tsa_place_model.specs.Ways.{Way, onward}
+use Rattle.tsa_place_model.specs.declared.path.PathStep.{PathStep}
+use Rattle.tsa_place_model.specs.declared.path.PathStep.TheVariants.{Field, Variable}
+use Rattle.tsa_place_model.specs.Calls.{Layout, element_place, global_place, index_in, member_place, pointee, take_root, take_step, take_steps}
 use Rattle.tsa_core.specs.Kinds.{Setting}
 use Rattle.tsa_core.specs.Meanings.{of_number}
 use Rattle.tsa_core.specs.Terms.{Term, constant, variable, answer, global, member, element, target, load, address, converted, prefixed, joined}

@@ -3,14 +3,14 @@ use Rattle.std.proofs.Common.{◌≡◌, ◌∙◌, ℕ, ◌≤◌, nat_eq, Bool
 use Rattle.std.specs.Prelude.{Contains}
 use Rattle.tsa_base.specs.declared.value.Value.{Value}
 use Rattle.tsa_tree.specs.declared.kind.Kind.{Kind}
-use Rattle.tsa_place_paths.specs.Ways.{Way}
+use Rattle.tsa_place_model.specs.Ways.{Way}
 use Rattle.tsa_core.specs.Bodies.{Action, can_have, declare, set_local}
 use Rattle.tsa_core.specs.Control.{Next}
 use Rattle.tsa_core.specs.KindLaws.{signatures}
 use Rattle.tsa_core.specs.Kinds.{Setting, binary_kind, value_kind}
 use Rattle.tsa_core.specs.PointKinds.{ActionHolds, answer_of}
 use Rattle.tsa_core.specs.Programs.{Program}
-use Rattle.tsa_place_layout.specs.Stores.{is_value_of}
+use Rattle.tsa_place_model.specs.Stores.{is_value_of}
 use Rattle.tsa_core.specs.Terms.{Term}
 use Rattle.tsa_rules.specs.declared.rule.Rule.TheVariants.{TS12}
 use Rattle.tsa_rules.specs.declared.status.Status.TheVariants.{Free}

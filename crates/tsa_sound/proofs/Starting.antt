@@ -6,19 +6,21 @@ use Rattle.tsa_base.specs.declared.value.Value.{Value}
 use Rattle.tsa_tree.specs.declared.attr.AttrKind.{AttrKind}
 use Rattle.tsa_tree.specs.declared.attr.AttrKind.TheVariants as attr
 use Rattle.tsa_tree.specs.declared.kind.ThingType.{ThingType}
-use Rattle.tsa_place_paths.specs.Ways.{Way}
-use Rattle.tsa_place_layout.specs.Calls.{Layout, evaluated}
-use Rattle.tsa_place.specs.Items.{zero_of}
-use Rattle.tsa_place_layout.specs.declared.place.Placed.{Placed}
+use Rattle.tsa_place_model.specs.Ways.{Way}
+use Rattle.tsa_place_model.specs.Calls.{Layout, evaluated}
+use Rattle.tsa_place_model.specs.Items.{zero_of}
+use Rattle.tsa_place_model.specs.declared.place.Placed.{Placed}
 use Rattle.tsa_core.specs.Programs.{Attr, Function, Program}
-use Rattle.tsa_place_layout.specs.Stores.{is_value_of}
+use Rattle.tsa_place_model.specs.Stores.{is_value_of}
 use Rattle.tsa_core.proofs.MappedLists.{map_length}
 use Rattle.tsa_rules.specs.declared.status.Status.{Status}
 use Rattle.tsa_rules.specs.declared.status.Status.TheVariants.{Free, Lent, Pending}
 use Rattle.tsa_rules.specs.Attributes.{claim, declared_kinds, kind_of}
 use Rattle.tsa_rules.specs.Effects.{entry, entry_by}
 use Rattle.tsa_rules.specs.Points.{function_at}
-use Rattle.tsa_locks.specs.Locks.{Mode, Exclusive, Shared, count_of, free, holds}
+use Rattle.tsa_sched.specs.declared.event.Mode.{Mode}
+use Rattle.tsa_sched.specs.declared.event.Mode.TheVariants.{Exclusive, Shared}
+use Rattle.tsa_locks.specs.Locks.{count_of, free, holds}
 use Rattle.tsa_mean.specs.Frames.{frame_of_call}
 use Rattle.tsa_mean.specs.Returns.{if_lock, lock_of}
 use Rattle.tsa_mean.specs.Sound.{Start}

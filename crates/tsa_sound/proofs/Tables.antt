@@ -3,7 +3,7 @@ use Rattle.std.proofs.Common.{◌≡◌, ◌∙◌, ℕ, ◌+◌, ◌-◌, ◌<�
 use Rattle.std.proofs.lemmas.Bool.Decides.{nat_tests}
 use Rattle.tsa_tree.specs.declared.attr.AttrKind.{AttrKind}
 use Rattle.tsa_tree.specs.declared.attr.AttrKind.TheVariants as attr
-use Rattle.tsa_place_paths.specs.Ways.{Way}
+use Rattle.tsa_place_model.specs.Ways.{Way}
 use Rattle.tsa_core.specs.Programs.{Function, Program}
 use Rattle.tsa_rules.specs.Statuses.{IsExclusive, IsHeld, IsTakableAgain, is_possible}
 use Rattle.tsa_rules.specs.declared.status.Status.{Status}
@@ -12,7 +12,8 @@ use Rattle.tsa_rules.specs.declared.status.Status.TheVariants.{Free, Lent, Pendi
 use Rattle.tsa_rules.specs.Attributes.{claims, is_try}
 use Rattle.tsa_rules.specs.Effects.{Attempt, after_attempt, after_attribute, deeper, entry_by, exit_by, given_back, if_taken, taken_by}
 use Rattle.tsa_rules.specs.Fits.{FitsAcquire, FitsMode, FitsRelease, FitsRequires, FitsRequiresShared}
-use Rattle.tsa_locks.specs.Locks.{Mode, Exclusive, Shared}
+use Rattle.tsa_sched.specs.declared.event.Mode.{Mode}
+use Rattle.tsa_sched.specs.declared.event.Mode.TheVariants.{Exclusive, Shared}
 use Rattle.tsa_mean.specs.Working.{Locals}
 use Rattle.tsa_sound.specs.FramesFit.{kept_back}
 use Rattle.tsa_sound.specs.SettledStatuses.{settled, units}

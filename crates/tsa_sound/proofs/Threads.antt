@@ -2,9 +2,9 @@
 use Rattle.std.proofs.Common.{◌≡◌, ◌∙◌, ℕ, zero, suc, false, List, [], ◌∷◌, length, Option, Some, None, slice_get, slice_set, refl, ap, sym, subst}
 use Rattle.std.proofs.Math.Decide.{ℕ_discrete}
 use Rattle.tsa_core.specs.Programs.{Program}
-use Rattle.tsa_place_layout.specs.Stores.{IsWellTyped}
+use Rattle.tsa_place_model.specs.Stores.{IsWellTyped}
 use Rattle.tsa_path.specs.ArgumentLaws.{KeepsConst}
-use Rattle.tsa_locks.specs.Locks.{Mode}
+use Rattle.tsa_sched.specs.declared.event.Mode.{Mode}
 use Rattle.tsa_sched.specs.declared.pick.Pick.{Pick}
 use Rattle.tsa_mean.specs.Acts.{Act}
 use Rattle.tsa_mean.specs.Laws.{IsSafeIn}

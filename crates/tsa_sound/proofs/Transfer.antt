@@ -3,7 +3,7 @@ use Rattle.std.proofs.Common.{◌≡◌, ◌∙◌, ℕ, ◌+◌, ◌≤◌, len
 use Rattle.std.specs.Prelude.{All, Contains, cond}
 use Rattle.tsa_tree.specs.declared.attr.AttrKind.{AttrKind}
 use Rattle.tsa_tree.specs.declared.attr.AttrKind.TheVariants as attr
-use Rattle.tsa_place_paths.specs.Ways.{Way}
+use Rattle.tsa_place_model.specs.Ways.{Way}
 use Rattle.tsa_core.specs.Control.{Outcome}
 use Rattle.tsa_core.specs.Programs.{Attr, Function, Program}
 use Rattle.tsa_rules.specs.declared.rule.Rule.{Rule}
@@ -16,7 +16,7 @@ use Rattle.tsa_rules.specs.Effects.{after_attempt, after_claim, after_test, atte
 use Rattle.tsa_rules.specs.Fits.{Fits, FitsAcquire, FitsMode, FitsRelease, FitsRequires, FitsRequiresShared}
 use Rattle.tsa_rules.specs.Points.{attrs_at, try_variables}
 use Rattle.tsa_rules.proofs.Fitting.{what_does_not_fail_fits}
-use Rattle.tsa_locks.specs.Locks.{Mode}
+use Rattle.tsa_sched.specs.declared.event.Mode.{Mode}
 use Rattle.tsa_mean.specs.Acts.{point_of}
 use Rattle.tsa_mean.specs.Returns.{if_lock}
 use Rattle.tsa_mean.specs.States.{Frame}

@@ -14,11 +14,11 @@ use Rattle.tsa_tree.specs.declared.number.Trap.{Trap}
 use Rattle.tsa_tree.specs.declared.number.Trap.TheVariants.{Overflow, Division}
 use Rattle.tsa_tree.specs.types.Arithmetic.{operate, operate_prefix}
 use Rattle.tsa_tree.specs.types.Operands.{integer_kind}
-use Rattle.tsa_place_layout.specs.Calls.{Layout}
-use Rattle.tsa_place.specs.Items as cell
+use Rattle.tsa_place_model.specs.Calls.{Layout}
+use Rattle.tsa_place_model.specs.Items as cell
 use Rattle.tsa_core.specs.Kinds.{Setting, binary_kind, conversion_kind, if_so, of_both, place_type, pointer_kind_to, prefix_kind, struct_in, value_kind}
 use Rattle.tsa_core.specs.Meanings.{of_number}
-use Rattle.tsa_place_layout.specs.Stores.{is_value_of}
+use Rattle.tsa_place_model.specs.Stores.{is_value_of}
 use Rattle.tsa_core.specs.Terms.{Term, constant, variable, answer, global, member, element, target, load, address, converted, prefixed, joined}
 use Rattle.tsa_path.specs.Values.{in_kind, is_true, number_in, of_truth, on_pointers}
 use Rattle.tsa_sched.specs.declared.event.TrapKind.TheVariants as trap

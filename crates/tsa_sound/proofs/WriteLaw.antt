@@ -3,22 +3,22 @@ use Rattle.std.proofs.Common.{◌≡◌, ◌∙◌, ℕ, ◌<◌, nat_eq, Bool, 
 use Rattle.std.specs.Prelude.{All, Contains}
 use Rattle.tsa_base.specs.declared.value.Value.{Value}
 use Rattle.tsa_base.specs.declared.value.Value.TheVariants.{Int, Unsigned, Pointer}
-use Rattle.tsa_place_layout.specs.declared.place.Guard.{Guard}
-use Rattle.tsa_place_layout.specs.declared.place.Guard.TheVariants.{Lock, Nothing}
+use Rattle.tsa_place_model.specs.declared.place.Guard.{Guard}
+use Rattle.tsa_place_model.specs.declared.place.Guard.TheVariants.{Lock, Nothing}
 use Rattle.tsa_tree.specs.declared.expr.BinaryOp.{BinaryOp}
 use Rattle.tsa_tree.specs.declared.kind.Kind.{Kind}
 use Rattle.tsa_tree.specs.declared.kind.Kind.TheVariants as type
 use Rattle.tsa_tree.specs.types.Operands.{integer_kind}
-use Rattle.tsa_place_paths.specs.Ways.{Way}
+use Rattle.tsa_place_model.specs.Ways.{Way}
 use Rattle.tsa_core.specs.Bodies.{set_cell, can_have}
-use Rattle.tsa_place_layout.specs.Calls.{Layout, guards_of, is_addressable, is_structure}
+use Rattle.tsa_place_model.specs.Calls.{Layout, guards_of, is_addressable, is_structure}
 use Rattle.tsa_core.specs.Control.{Next}
 use Rattle.tsa_core.specs.KindLaws.{signatures}
 use Rattle.tsa_core.specs.Kinds.{Setting, binary_kind, conversion_kind, if_so, value_kind}
-use Rattle.tsa_place_layout.specs.declared.place.Placed.{Placed}
+use Rattle.tsa_place_model.specs.declared.place.Placed.{Placed}
 use Rattle.tsa_core.specs.PointKinds.{ActionHolds, IsCellOf, answer_of, is_number, serves}
 use Rattle.tsa_core.specs.Programs.{Program}
-use Rattle.tsa_place_layout.specs.Stores.{IsWellTyped, is_of, is_value_of, may_point}
+use Rattle.tsa_place_model.specs.Stores.{IsWellTyped, is_of, is_value_of, may_point}
 use Rattle.tsa_core.specs.Terms.{Term}
 use Rattle.tsa_path.specs.ArgumentLaws.{KeepsConst}
 use Rattle.tsa_rules.specs.declared.rule.Rule.TheVariants.{TS02}
@@ -26,7 +26,7 @@ use Rattle.tsa_rules.specs.Fits.{FitsWriting}
 use Rattle.tsa_rules.specs.Points.{uses_at}
 use Rattle.tsa_rules.specs.Statuses as status
 use Rattle.tsa_rules.proofs.Fitting.{what_does_not_fail_fits}
-use Rattle.tsa_locks.specs.Locks.{Exclusive}
+use Rattle.tsa_sched.specs.declared.event.Mode.TheVariants.{Exclusive}
 use Rattle.tsa_mean.specs.Acts.{point_of, to_write}
 use Rattle.tsa_mean.specs.Frames.{frame_behind, left_of, or_here, point_behind, right_of}
 use Rattle.tsa_mean.specs.Operators.{converted_to, operate_on}

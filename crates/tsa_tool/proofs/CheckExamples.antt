@@ -5,12 +5,12 @@ use Rattle.tsa_tree.proofs.types.Computed.{computed}
 use Rattle.tsa_unit.specs.Parsing.{unit_of}
 use Rattle.tsa_tool.specs.Checks.{typed_in, sized_in, fit_in, tree_in}
 use Rattle.tsa_tool.specs.CheckExamples.{ChecksAreAsWritten}
-use Rattle.tsa_place_paths.specs.LockPaths.{leads}
-use Rattle.tsa_place_layout.specs.Layouts.{structure_at, size_of}
-use Rattle.tsa_place_layout.specs.Places.{places_inside}
-use Rattle.tsa_place_layout.specs.Parts.{argument_ways, guard_ways, parts_behind, members_after}
-use Rattle.tsa_place.specs.Items.{enumerators_behind}
-use Rattle.tsa_place.specs.Units.{placed_behind}
+use Rattle.tsa_place_model.specs.LockPaths.{leads}
+use Rattle.tsa_place_model.specs.Layouts.{structure_at, size_of}
+use Rattle.tsa_place_model.specs.Places.{places_inside}
+use Rattle.tsa_place_model.specs.Parts.{argument_ways, guard_ways, parts_behind, members_after}
+use Rattle.tsa_place_model.specs.Items.{enumerators_behind}
+use Rattle.tsa_place_model.specs.Units.{placed_behind}
 use Rattle.tsa_profile.proofs.Worked.{all}
 
 pub checks_are_as_written : ChecksAreAsWritten

@@ -12,8 +12,8 @@ use Rattle.tsa_expr.specs.declared.refusal.SyntaxRefusal.TheVariants.{At, Functi
 use Rattle.tsa_unit.specs.Parsing.{within_points, within_limits, parsed_of, unit_of}
 use Rattle.tsa_tree.specs.declared.premise.Failure.{Failure}
 use Rattle.tsa_tree.specs.types.FirstFailing.{first_failing}
-use Rattle.tsa_place_layout.specs.Calls.{Layout}
-use Rattle.tsa_place.specs.Units.{placed_in}
+use Rattle.tsa_place_model.specs.Calls.{Layout}
+use Rattle.tsa_place_model.specs.Units.{placed_in}
 use Rattle.tsa_profile_accesses.specs.declared.premise.Failure.{Failure as Misfit}
 use Rattle.tsa_profile_context.specs.Units.{refusal_of_profile}
 use Rattle.tsa_tool.specs.declared.check.Refusal.{Refusal}

@@ -6,7 +6,7 @@ use Rattle.std.proofs.lemmas.List.Sorted.{Contains-permutation, IsPermutation-sy
 use Rattle.std.specs.Io.KnownBytes.{Appends}
 use Rattle.std.specs.List.{range_with_len}
 use Rattle.tsa_base.specs.Transfer.{AppendsFront}
-use Rattle.tsa_place_paths.specs.Ways.{Way}
+use Rattle.tsa_place_model.specs.Ways.{Way}
 use Rattle.tsa_warn_text.specs.Orders.{text_of, texts_of}
 use Rattle.tsa_warn_text.specs.Ranks.{numbers_of}
 use Rattle.tsa_tool_held.specs.Held.{Account, IsAccountHeld, IsOrder, IsPointText, paths_in}

@@ -6,7 +6,7 @@ ghost use Rattle.tsa_base.specs.Transfer.{AppendsFront};
 ghost use Rattle.tsa_warn_bodies.specs.Bodies.{BodyText, IsToldBody};
 ghost use Rattle.tsa_warn_bodies.specs.BodyCourses.{course_of};
 ghost use Rattle.tsa_warn_bodies.specs.Courses.{course_outset};
-ghost use Rattle.tsa_place.specs.Units.{placed_in};
+ghost use Rattle.tsa_place_model.specs.Units.{placed_in};
 ghost use Rattle.tsa_profile_context.specs.Units.{unit_of};
 ghost use Rattle.tsa_tool_held.specs.Held.{Account, IsAccountHeld, IsBodyHeld, IsHeld, IsPathLine, IsPointText, paths_in};
 ghost use Rattle.tsa_tool_held.specs.Pages.{IsPageOf};

@@ -4,7 +4,7 @@ ghost use Rattle.tsa_core.specs.Programs.{Function, Program};
 ghost use Rattle.tsa_tool_held.specs.Held.{name_if_try, try_names_from};
 ghost use Rattle.tsa_tree.specs.statements.Shapes.{point_shape};
 ghost use Rattle.tsa_rules_view.specs.Views.{IsViewOf};
-ghost use Rattle.tsa_place_paths.specs.Ways.{Way};
+ghost use Rattle.tsa_place_model.specs.Ways.{Way};
 
 use std::alloc::Global;
 use tsa_base::NoMemory;

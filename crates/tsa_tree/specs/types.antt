@@ -30,3 +30,4 @@ pub mod Texts
 pub mod PlaceExamples
 pub mod UnitExamples
 pub mod RunnableExamples
+pub mod Lookups

@@ -7,7 +7,7 @@ use Rattle.std.specs.Map.{lookup}
 use Rattle.std.specs.Option.{unwrap_or}
 use Rattle.std.specs.Str.{bytes_eq}
 use Rattle.indexmap.specs.IndexMap.{insert_entry}
-use Rattle.tsa_types_scope.specs.Lookups.{numbered}
+use Rattle.tsa_tree.specs.types.Lookups.{numbered}
 
 -- what is found among keys that are seen as others
 pub lookup-seen : {K L X : Type 0} (seen : K → L) (test : L → Bool) (es : List (K × X))

@@ -1,7 +1,7 @@
 //! Names that are known, with what they mean (C11 6.2.1).
 ghost use Rattle.std.specs.Prelude.{◌≡◌, ◌++◌, ◌∷◌, [], take, length, is_some, not, true, false, IfOk, OnErr, slice_get, option_map};
 ghost use Rattle.tsa_tree.specs.types.Scopes.{found};
-ghost use Rattle.tsa_types_scope.specs.Lookups.{numbered};
+ghost use Rattle.tsa_tree.specs.types.Lookups.{numbered};
 
 use indexmap::IndexMap;
 use std::alloc::Global;

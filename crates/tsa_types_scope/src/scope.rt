@@ -5,7 +5,7 @@ ghost use Rattle.tsa_tree.specs.types.Attributes.{is_lock};
 ghost use Rattle.tsa_tree.specs.types.DeclaredTypes.{is_whole};
 ghost use Rattle.tsa_tree.specs.types.Initialisers.{members_types};
 ghost use Rattle.tsa_tree.specs.types.Scopes.{found, tag_in, is_taken, is_named_taken, known_in};
-ghost use Rattle.tsa_types_scope.specs.Lookups.{member_in, members_at, numbered, params_in};
+ghost use Rattle.tsa_tree.specs.types.Lookups.{member_in, members_at, numbered, params_in};
 
 use crate::names::Names;
 use std::alloc::Global;

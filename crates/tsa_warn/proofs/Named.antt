@@ -2,7 +2,7 @@
 use Rattle.std.proofs.Common.{◌≡◌, ◌∙◌, ℕ, zero, suc, arith, Bool, true, false, ◌||◌, List, [], ◌∷◌, ◌++◌, length, map, Option, Some, None, option_and_then, slice_get, refl, sym, ap, ap₂}
 use Rattle.std.proofs.lemmas.List.Folds.{list_any-append}
 use Rattle.std.specs.List.{flat_map, list_any}
-use Rattle.tsa_place_paths.specs.Ways.{Way}
+use Rattle.tsa_place_model.specs.Ways.{Way}
 use Rattle.tsa_core.specs.Bodies.{Body, Point}
 use Rattle.tsa_core.specs.Meanings.{Call}
 use Rattle.tsa_core.specs.Programs.{Attr, Function, Program}

@@ -4,7 +4,7 @@ use Rattle.std.proofs.Math.Seq.{drop-cons}
 use Rattle.std.proofs.lemmas.List.{drop_all}
 use Rattle.std.specs.List.{flat_map}
 use Rattle.std.specs.Option.{option_map_or, unwrap_or}
-use Rattle.tsa_place_paths.specs.Ways.{Way}
+use Rattle.tsa_place_model.specs.Ways.{Way}
 use Rattle.tsa_core.specs.Programs.{Function, Program}
 use Rattle.tsa_warn_text.specs.Ranks.{PathText, told_by}
 use Rattle.tsa_warn_text.specs.Lines.{warning_text}

@@ -1,7 +1,7 @@
 -- There is one text of each body's warnings, and so one of a unit's.
 use Rattle.std.proofs.Common.{◌≡◌, ◌∙◌, ℕ, List, [], ◌∷◌, Some, sym, ap, ap₂, subst}
 use Rattle.tsa_tree.specs.units.Syntax.{UnitItem}
-use Rattle.tsa_place_paths.specs.Ways.{Way}
+use Rattle.tsa_place_model.specs.Ways.{Way}
 use Rattle.tsa_core.specs.Programs.{Function, Program, program_of}
 use Rattle.tsa_path.specs.PathTexts.{Names}
 use Rattle.tsa_warn_function.specs.declared.failure.RuleFailure.{RuleFailure}

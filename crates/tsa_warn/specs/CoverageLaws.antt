@@ -1,6 +1,6 @@
 -- For which paths rules can fail in a function.
 use Rattle.std.specs.Prelude.{◌≡◌, ℕ, length, Some, slice_get}
-use Rattle.tsa_place_paths.specs.Ways.{Way}
+use Rattle.tsa_place_model.specs.Ways.{Way}
 use Rattle.tsa_core.specs.Programs.{Function, Program}
 use Rattle.tsa_profile.specs.Paths.{paths_of}
 use Rattle.tsa_rules.specs.declared.rule.Rule.{Rule}

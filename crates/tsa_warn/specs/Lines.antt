@@ -3,7 +3,7 @@ use Rattle.std.specs.Prelude.{ℕ, List, [], ◌∷◌, ◌++◌, slice_get}
 use Rattle.std.specs.Option.{option_map_or}
 use Rattle.tsa_base.specs.Places.{place_at, place_text}
 use Rattle.tsa_tree.specs.points.Syntax.{PlacedDeed}
-use Rattle.tsa_place_paths.specs.Ways.{Way}
+use Rattle.tsa_place_model.specs.Ways.{Way}
 use Rattle.tsa_core.specs.Programs.{Function, Program}
 use Rattle.tsa_rules.specs.Attributes.{lock_kind_of}
 use Rattle.tsa_warn_text.specs.Ranks.{PathText, told_by}

@@ -6,7 +6,7 @@ ghost use Rattle.tsa_warn_bodies.specs.BodyCourses.{course_of};
 ghost use Rattle.tsa_warn_bodies.specs.Courses.{IsInFrontOf, course_behind, course_outset};
 ghost use Rattle.tsa_profile.specs.Paths.{paths_of};
 ghost use Rattle.tsa_core.specs.Programs.{program_of};
-ghost use Rattle.tsa_place.specs.Units.{placed_in};
+ghost use Rattle.tsa_place_model.specs.Units.{placed_in};
 ghost use Rattle.tsa_profile_context.specs.Units.{unit_of};
 ghost use Rattle.tsa_warn.specs.OneBody.{warned_of};
 ghost use Rattle.tsa_warn.specs.Lines.{warning_line};
@@ -25,8 +25,7 @@ use tsa_place::Places;
 use tsa_flow::UnitTables;
 use tsa_warn_text::{Subject, push_warning};
 use tsa_tree::item::Item;
-use tsa_warn_function::RuleFailure;
-use tsa_warn_function::warnings_of;
+use tsa_warn_function::{RuleFailure, warnings_of};
 
 /// The lines of warnings, and how many they are.
 #[derive(Drop)]

@@ -12,7 +12,7 @@ use Rattle.tsa_tree.specs.types.FirstFailing.{first_failing}
 use Rattle.tsa_tree.specs.types.Heads.{behind_head}
 use Rattle.tsa_tree.specs.types.Symbols.{number_of}
 use Rattle.tsa_tree.specs.units.Syntax.{UnitItem, body_item}
-use Rattle.tsa_place_paths.specs.Ways.{Way}
+use Rattle.tsa_place_model.specs.Ways.{Way}
 use Rattle.tsa_core.specs.Programs.{Declared, Function, declared_by, declared_functions, first_head, function_of, program_of}
 use Rattle.tsa_core.proofs.MappedLists.{map_at}
 use Rattle.tsa_profile_points.specs.Ways.{unless_many}

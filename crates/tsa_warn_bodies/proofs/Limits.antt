@@ -6,7 +6,7 @@ use Rattle.tsa_tree.specs.statements.Syntax.{Statements}
 use Rattle.tsa_tree.specs.types.Scopes.{Scope}
 use Rattle.tsa_tree.specs.types.Units.{outset, behind_item}
 use Rattle.tsa_tree.specs.units.Syntax.{UnitItem, structure_item, alias_item, enumeration_item, global_item, function_item, body_item}
-use Rattle.tsa_place_paths.specs.Ways.{Way}
+use Rattle.tsa_place_model.specs.Ways.{Way}
 use Rattle.tsa_core.specs.Programs.{Attr}
 use Rattle.tsa_profile_accesses.specs.declared.premise.ProfileCode.TheVariants.{LM4}
 use Rattle.tsa_profile_accesses.specs.Premises.{failure_of, first, or_else, premise}

@@ -4,7 +4,7 @@ use Rattle.tsa_tree.specs.declarations.Shapes.{head_shape}
 use Rattle.tsa_tree.specs.statements.Shapes.{point_shape}
 use Rattle.tsa_tree.specs.types.Units.{outset}
 use Rattle.tsa_tree.specs.units.Syntax.{UnitItem}
-use Rattle.tsa_place_paths.specs.Ways.{Way}
+use Rattle.tsa_place_model.specs.Ways.{Way}
 use Rattle.tsa_core.specs.Bodies.{known_in_body}
 use Rattle.tsa_core.specs.Programs.{Function, Program, declared_functions, program_of}
 use Rattle.tsa_core.proofs.TextPoints.{points_are_those}

@@ -16,8 +16,7 @@ use tsa_base::NoMemory;
 use tsa_flow_function::FunctionFlow;
 use tsa_rules_bodies::{Inside, enter_item, leave_body, pass};
 use tsa_flow::Pass;
-use tsa_warn_text::{FunctionNames, body_names};
-use tsa_warn_text::PathTexts;
+use tsa_warn_text::{FunctionNames, PathTexts, body_names};
 use tsa_tree::item::{FnTree, Item};
 
 /// What is told of a body: the function, what walks bring to its points, and the texts of its paths.

@@ -1,6 +1,6 @@
 -- Only a return and the end break the rule of returns.
 use Rattle.std.proofs.Common.{◌≡◌, ◌∙◌, ◌<◌, ℕ, true, not, List, length, Some, slice_get, ap, subst}
-use Rattle.tsa_place_paths.specs.Ways.{Way}
+use Rattle.tsa_place_model.specs.Ways.{Way}
 use Rattle.tsa_core.specs.Programs.{Function, Program}
 use Rattle.tsa_rules.specs.declared.case.Case.{Case}
 use Rattle.tsa_rules.specs.declared.rule.Rule.{Rule}

@@ -7,8 +7,8 @@ use Rattle.tsa_tree.specs.points.Syntax.{points_of_all}
 use Rattle.tsa_tree.specs.types.DeclaredTypes.{thing_type}
 use Rattle.tsa_tree.specs.types.Units.{outset}
 use Rattle.tsa_tree.specs.units.Syntax.{UnitItem}
-use Rattle.tsa_place_paths.specs.Ways.{Way}
-use Rattle.tsa_place.specs.Units.{placed_in}
+use Rattle.tsa_place_model.specs.Ways.{Way}
+use Rattle.tsa_place_model.specs.Units.{placed_in}
 use Rattle.tsa_core.specs.Control as control
 use Rattle.tsa_core.specs.Control.{edge}
 use Rattle.tsa_core.specs.Laws.{IsInside}

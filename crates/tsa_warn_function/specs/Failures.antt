@@ -1,6 +1,6 @@
 -- All rules that fail in a function, by its points, the rules and the numbers of its paths.
 use Rattle.std.specs.Prelude.{◌≡◌, ◌<◌, List, AllPairs, Contains, length, Some, slice_get}
-use Rattle.tsa_place_paths.specs.Ways.{Way}
+use Rattle.tsa_place_model.specs.Ways.{Way}
 use Rattle.tsa_core.specs.Programs.{Function, Program}
 use Rattle.tsa_rules.specs.Points.{points_of}
 use Rattle.tsa_rules.specs.Walks.{Fails}

@@ -1,6 +1,6 @@
 -- The order in which the rules that fail in a function are told.
 use Rattle.std.specs.Prelude.{◌≡◌, ◌≢◌, ◌<◌, ◌⊎◌, List, length, AllPairs, Contains}
-use Rattle.tsa_place_paths.specs.Ways.{Way}
+use Rattle.tsa_place_model.specs.Ways.{Way}
 use Rattle.tsa_core.specs.Programs.{Function, Program}
 use Rattle.tsa_path.specs.PathTexts.{Names}
 use Rattle.tsa_rules.specs.Fails.{rule_number}

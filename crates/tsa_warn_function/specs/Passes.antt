@@ -1,6 +1,6 @@
 -- What is found by going over marks, over returns, and over points where edges meet.
 use Rattle.std.specs.Prelude.{◌≡◌, ◌<◌, ◌⊎◌, ℕ, List, Contains, length, Some, slice_get}
-use Rattle.tsa_place_paths.specs.Ways.{Way}
+use Rattle.tsa_place_model.specs.Ways.{Way}
 use Rattle.tsa_core.specs.Programs.{Function, Program}
 use Rattle.tsa_rules.specs.declared.rule.Rule.TheVariants.{TS09, TS10}
 use Rattle.tsa_rules.specs.Points.{points_of}

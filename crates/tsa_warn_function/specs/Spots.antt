@@ -1,6 +1,6 @@
 -- What fails at a point for a path.
 use Rattle.std.specs.Prelude.{◌≡◌, ◌↔◌, ℕ, true, List, Contains}
-use Rattle.tsa_place_paths.specs.Ways.{Way}
+use Rattle.tsa_place_model.specs.Ways.{Way}
 use Rattle.tsa_core.specs.Programs.{Function, Program}
 use Rattle.tsa_rules.specs.Cases.{case_of}
 use Rattle.tsa_rules.specs.declared.rule.Rule.{Rule}

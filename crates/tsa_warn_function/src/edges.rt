@@ -5,7 +5,7 @@ ghost use Rattle.tsa_warn_function.specs.Adding.{Adds};
 ghost use Rattle.tsa_warn_function.specs.Passes.{IsOfEdges};
 ghost use Rattle.tsa_flow_function.specs.Flows.{IsFlowOf};
 ghost use Rattle.tsa_rules.specs.Points.{points_of};
-ghost use Rattle.tsa_place_paths.specs.Ways.{Way};
+ghost use Rattle.tsa_place_model.specs.Ways.{Way};
 
 use crate::failure::{RuleFailure, put};
 use tsa_base::NoMemory;

@@ -3,7 +3,7 @@ ghost use Rattle.std.specs.Prelude.{List, IfOk};
 ghost use Rattle.tsa_core.specs.Programs.{Function, Program};
 ghost use Rattle.tsa_warn_function.specs.Failures.{AreFailures};
 ghost use Rattle.tsa_flow_function.specs.Flows.{IsFlowOf};
-ghost use Rattle.tsa_place_paths.specs.Ways.{Way};
+ghost use Rattle.tsa_place_model.specs.Ways.{Way};
 
 use crate::failure::RuleFailure;
 use crate::marks::note_marks;

@@ -4,7 +4,7 @@ ghost use Rattle.tsa_core.specs.Programs.{Function, Program};
 ghost use Rattle.tsa_warn_function.specs.Adding.{Adds};
 ghost use Rattle.tsa_warn_function.specs.Passes.{IsOfMarks};
 ghost use Rattle.tsa_flow_function.specs.Flows.{IsFlowOf};
-ghost use Rattle.tsa_place_paths.specs.Ways.{Way};
+ghost use Rattle.tsa_place_model.specs.Ways.{Way};
 
 use crate::failure::RuleFailure;
 use crate::spot::spot_of;

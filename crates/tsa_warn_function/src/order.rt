@@ -7,7 +7,7 @@ ghost use Rattle.tsa_path.specs.PathTexts.{Names};
 ghost use Rattle.tsa_warn_text.specs.Orders.{texts_of};
 ghost use Rattle.tsa_warn_function.specs.Comparisons.{failure_cmp};
 ghost use Rattle.tsa_warn_function.specs.Orders.{AreToldInOrder};
-ghost use Rattle.tsa_place_paths.specs.Ways.{Way};
+ghost use Rattle.tsa_place_model.specs.Ways.{Way};
 
 use std::alloc::Global;
 use std::cmp::Ordering;

@@ -6,7 +6,7 @@ ghost use Rattle.tsa_warn_function.specs.Passes.{IsOfEdges, IsOfPoint, IsOfPoint
 ghost use Rattle.tsa_flow_function.specs.Flows.{IsFlowOf};
 ghost use Rattle.tsa_rules.specs.Cases.{is_leaving_in};
 ghost use Rattle.tsa_rules.specs.Points.{points_of};
-ghost use Rattle.tsa_place_paths.specs.Ways.{Way};
+ghost use Rattle.tsa_place_model.specs.Ways.{Way};
 
 use crate::edges::note_meeting;
 use crate::failure::RuleFailure;

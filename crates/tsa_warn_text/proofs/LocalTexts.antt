@@ -3,8 +3,8 @@ use Rattle.std.proofs.Common.{◌≡◌, ◌<◌, ◌+◌, ◌++◌, ◌∷◌, 
 use Rattle.std.specs.List.{cons_option}
 use Rattle.std.proofs.lemmas.List.{take_more}
 use Rattle.std.proofs.lemmas.List.Elements.{filter_map-append}
-use Rattle.tsa_place_paths.specs.declared.path.Root.{Root}
-use Rattle.tsa_place_paths.specs.declared.path.PathStep.{PathStep}
+use Rattle.tsa_place_model.specs.declared.path.Root.{Root}
+use Rattle.tsa_place_model.specs.declared.path.PathStep.{PathStep}
 use Rattle.tsa_rules.specs.Warnings.{root_local, index_local}
 
 one_step : (step : PathStep) (o : Option ℕ) → index_local step ≡ o → filter_map index_local (step ∷ []) ≡ option_to_list (index_local step)

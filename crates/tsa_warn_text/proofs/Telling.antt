@@ -5,7 +5,7 @@ use Rattle.std.specs.Cmp.Lexicographic.{slice_cmp}
 use Rattle.std.proofs.lemmas.Cmp.{ranked, nat_list_cmp_total, tied_itself}
 use Rattle.std.proofs.lemmas.List.{length-map}
 use Rattle.std.proofs.lemmas.Option.{none-some, slice_get-map, slice_get_within}
-use Rattle.tsa_place_paths.specs.Ways.{Way}
+use Rattle.tsa_place_model.specs.Ways.{Way}
 use Rattle.tsa_path.specs.PathTexts.{Names, path_text}
 use Rattle.tsa_rules.specs.Warnings.{StandsBefore, by_text, by_locals, locals_in}
 use Rattle.tsa_warn_text.specs.Orders.{IsToldBefore, by_path, by_number, text_of, texts_of, OneIsToldFirst, NotBothAreToldFirst, OrderIsTransitive, RanksFollowTheOrder}

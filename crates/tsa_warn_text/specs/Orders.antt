@@ -1,6 +1,6 @@
 -- The order in which the paths of a function are told, by their numbers.
 use Rattle.std.specs.Prelude.{◌≡◌, ◌≢◌, ◌<◌, ◌↔◌, ◌⊎◌, ℕ, List, length, map, Some, slice_get}
-use Rattle.tsa_place_paths.specs.Ways.{Way}
+use Rattle.tsa_place_model.specs.Ways.{Way}
 use Rattle.tsa_path.specs.PathTexts.{Names, path_text}
 use Rattle.tsa_rules.specs.Warnings.{StandsBefore, locals_in}
 use Rattle.tsa_warn_text.specs.Ranks.{PathText, rank_in}

@@ -4,7 +4,8 @@ ghost use Rattle.tsa_path.specs.Labels.{label};
 ghost use Rattle.tsa_rules.specs.Legends.{names_in};
 
 use crate::labels::label_of_part;
-use tsa_place_layout::{Holder, Layout};
+use tsa_place_layout::Layout;
+use tsa_place_model::Holder;
 use tsa_path::{Named, PathNames};
 
 /// The names of globals and members by the layout of a unit, and those of the locals of one of its functions.

@@ -7,7 +7,7 @@ use std::alloc::Global;
 use std::marker::Model;
 use tsa_base::NoMemory;
 use tsa_path::{PathNames, path_text};
-use tsa_place_paths::{Path, PathStep, Root};
+use tsa_place_model::{Path, PathStep, Root};
 
 /// What a path is told by: its text, and the locals that it mentions. Contracts see these two.
 pub struct PathText {

@@ -1,7 +1,7 @@
 //! The paths of a function with their texts, in the order in which they are told.
 ghost use Rattle.std.specs.Prelude.{◌≡◌, List, map, length, AllPairs, IfOk};
 ghost use Rattle.std.specs.List.Sorted.{IsPermutation};
-ghost use Rattle.tsa_place_paths.specs.Ways.{Way};
+ghost use Rattle.tsa_place_model.specs.Ways.{Way};
 ghost use Rattle.tsa_path.specs.PathTexts.{Names};
 ghost use Rattle.tsa_warn_text.specs.Orders.{IsToldBefore, texts_of};
 ghost use Rattle.tsa_warn_text.specs.Ranks.{told_by, numbers_of, rank_in};

@@ -8,13 +8,13 @@ use Rattle.tsa_tree.specs.expressions.Syntax.{Expression, Arguments, none, more}
 use Rattle.tsa_tree.specs.types.Expressions.{type_of, types_of, all_typed}
 use Rattle.tsa_tree.specs.types.Operands.{integer_kind, pointer_kind}
 use Rattle.tsa_tree.specs.types.Scopes.{Scope, context_of}
-use Rattle.tsa_place_paths.specs.Arguments.{argument_way}
-use Rattle.tsa_place_paths.specs.LockPaths.{Led, leads}
-use Rattle.tsa_place_paths.specs.Ways.{Way}
-use Rattle.tsa_place_paths.specs.declared.path.PathStep.{PathStep}
-use Rattle.tsa_place_paths.specs.declared.path.PathStep.TheVariants.{Field, Follow}
-use Rattle.tsa_place_paths.specs.declared.path.Root.{Root}
-use Rattle.tsa_place_paths.specs.declared.path.Root.TheVariants.{Global, Local, Owner}
+use Rattle.tsa_place_model.specs.Arguments.{argument_way}
+use Rattle.tsa_place_model.specs.LockPaths.{Led, leads}
+use Rattle.tsa_place_model.specs.Ways.{Way}
+use Rattle.tsa_place_model.specs.declared.path.PathStep.{PathStep}
+use Rattle.tsa_place_model.specs.declared.path.PathStep.TheVariants.{Field, Follow}
+use Rattle.tsa_place_model.specs.declared.path.Root.{Root}
+use Rattle.tsa_place_model.specs.declared.path.Root.TheVariants.{Global, Local, Owner}
 use Rattle.tsa_core.specs.Kinds.{Setting, Belongs}
 use Rattle.tsa_core.specs.Meanings.{as_kind, loaded, meaning, arguments, null_pointer}
 use Rattle.tsa_core.specs.Terms.{Term, constant, variable, answer, global, member, element, target, load, address, converted, prefixed, joined, Sense}

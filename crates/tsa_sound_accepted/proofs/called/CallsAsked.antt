@@ -11,7 +11,7 @@ use Rattle.tsa_tree.specs.expressions.Syntax.{Identifier, Expression, Arguments,
 use Rattle.tsa_tree.specs.types.Expressions.{type_of, types_of, all_typed, function_of, result_type}
 use Rattle.tsa_tree.specs.types.Runnable.{has_call, is_whole}
 use Rattle.tsa_tree.specs.types.Scopes.{Scope, context_of, known_in}
-use Rattle.tsa_types_scope.specs.Lookups.{params_in}
+use Rattle.tsa_tree.specs.types.Lookups.{params_in}
 use Rattle.tsa_core.specs.Meanings.{Call, arguments, call_in, call_of, meaning, of_call, of_type, or_call}
 use Rattle.tsa_core.specs.Terms.{answer, Sense}
 use Rattle.tsa_core.specs.Uses.{argument_ways, call_ways, called_ways}

@@ -15,7 +15,7 @@ use Rattle.tsa_tree.specs.types.Expressions.{type_of, both, unless}
 use Rattle.tsa_tree.specs.types.Operands.{is_scalar, breaks_prefix, breaks_comparison, comparable, prefix_type, binary_type}
 use Rattle.tsa_tree.specs.types.Runnable.{has_call, is_free, is_call, is_compared, is_comparison, is_condition}
 use Rattle.tsa_tree.specs.types.Scopes.{Scope, context_of}
-use Rattle.tsa_types_scope.specs.Lookups.{params_in}
+use Rattle.tsa_tree.specs.types.Lookups.{params_in}
 use Rattle.tsa_core.specs.Kinds.{scalar_kind}
 use Rattle.tsa_core.specs.Meanings.{Call, beside, call_in, loaded, meaning, or_call}
 use Rattle.tsa_core.specs.Terms.{Term, answer, joined, prefixed}

@@ -11,7 +11,7 @@ use Rattle.tsa_tree.specs.types.Statements.{statements_premises}
 use Rattle.tsa_tree.specs.types.Units as stated
 use Rattle.tsa_tree.specs.types.Units.{outset, around_body, body_premises, behind_item, refusal_of_types}
 use Rattle.tsa_tree.specs.units.Syntax.{UnitItem, structure_item, alias_item, enumeration_item, global_item, function_item, body_item}
-use Rattle.tsa_place.specs.Items.{behind_data}
+use Rattle.tsa_place_model.specs.Items.{behind_data}
 use Rattle.tsa_core.specs.Programs.{Attr, Bodied, Declared, bodied_function, declared_by, declared_functions, first_head, or_body, unless_known}
 use Rattle.tsa_core.proofs.NoFailure as typing
 use Rattle.tsa_core.proofs.ScopesAlike.{Alike}

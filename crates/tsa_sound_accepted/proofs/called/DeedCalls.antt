@@ -19,10 +19,10 @@ use Rattle.tsa_tree.specs.types.Premises as types
 use Rattle.tsa_tree.specs.types.Runnable.{is_small, is_whole_init}
 use Rattle.tsa_tree.specs.types.Scopes.{Scope, context_of}
 use Rattle.tsa_tree.specs.types.Simple.{assignment_breaks, is_void}
-use Rattle.tsa_types_scope.specs.Lookups.{params_in}
-use Rattle.tsa_place_paths.specs.Ways.{Way}
+use Rattle.tsa_tree.specs.types.Lookups.{params_in}
+use Rattle.tsa_place_model.specs.Ways.{Way}
 use Rattle.tsa_core.specs.Bodies.{Action, declare, declared, point_by, right_side}
-use Rattle.tsa_place_layout.specs.Calls.{Layout}
+use Rattle.tsa_place_model.specs.Calls.{Layout}
 use Rattle.tsa_core.specs.Kinds.{scalar_kind}
 use Rattle.tsa_core.specs.Meanings.{Call, as_kind, meaning}
 use Rattle.tsa_core.specs.Terms.{Term}

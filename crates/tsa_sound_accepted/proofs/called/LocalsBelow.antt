@@ -12,11 +12,11 @@ use Rattle.tsa_tree.specs.declared.number.Number.{Number}
 use Rattle.tsa_tree.specs.expressions.Syntax.{Expression, Arguments, number, null, named, call, unary, binary, field, index, none, more}
 use Rattle.tsa_tree.specs.types.DeclaredTypes.{value_in}
 use Rattle.tsa_tree.specs.types.Scopes.{Scope, context_of, found, known_in}
-use Rattle.tsa_place_paths.specs.Arguments.{argument_way, constant_argument, local_argument, or_local, way_of}
-use Rattle.tsa_place_paths.specs.LockPaths.{Led, in_range, is_pointer, leads}
-use Rattle.tsa_place_paths.specs.Ways.{Way, from, onward}
-use Rattle.tsa_place_paths.specs.declared.path.PathStep.{PathStep}
-use Rattle.tsa_place_paths.specs.declared.path.Root.TheVariants.{Local, Owner}
+use Rattle.tsa_place_model.specs.Arguments.{argument_way, constant_argument, local_argument, or_local, way_of}
+use Rattle.tsa_place_model.specs.LockPaths.{Led, in_range, is_pointer, leads}
+use Rattle.tsa_place_model.specs.Ways.{Way, from, onward}
+use Rattle.tsa_place_model.specs.declared.path.PathStep.{PathStep}
+use Rattle.tsa_place_model.specs.declared.path.Root.TheVariants.{Local, Owner}
 use Rattle.tsa_core.specs.Laws.{IsBelow}
 use Rattle.tsa_core.specs.Programs.{Attr}
 use Rattle.tsa_core.specs.Uses.{argument_ways}

@@ -19,9 +19,9 @@ use Rattle.tsa_tree.specs.types.Runnable.{bare, change_of, gives, has_body, is_l
 use Rattle.tsa_tree.specs.types.Scopes.{Scope, found, is_named_taken, known_in, with_locals, with_named}
 use Rattle.tsa_tree.specs.types.Units.{outset}
 use Rattle.tsa_tree.specs.units.Syntax.{UnitItem}
-use Rattle.tsa_place_paths.specs.LockPaths.{lock_way, stable_in}
-use Rattle.tsa_place_paths.specs.Ways.{Way}
-use Rattle.tsa_place_layout.specs.Calls.{Layout}
+use Rattle.tsa_place_model.specs.LockPaths.{lock_way, stable_in}
+use Rattle.tsa_place_model.specs.Ways.{Way}
+use Rattle.tsa_place_model.specs.Calls.{Layout}
 use Rattle.tsa_core.specs.Programs.{Attr, attr_args, attrs_of, bodied_function, function_of, stable_locals, succeeds}
 use Rattle.tsa_core.proofs.BodyScopes.{head_types, kind_kept, small_kept}
 use Rattle.tsa_core.proofs.KindTests.{both_true, no_length, not_true}

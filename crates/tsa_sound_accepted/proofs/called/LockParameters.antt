@@ -10,11 +10,11 @@ use Rattle.tsa_tree.specs.expressions.Syntax.{Expression, number, null, named, c
 use Rattle.tsa_tree.specs.types.Runnable.{bare, is_named}
 use Rattle.tsa_tree.specs.types.Scopes.{Scope, found, is_taken, known_in, with_locals, with_name}
 use Rattle.tsa_tree.specs.types.Types.{single}
-use Rattle.tsa_place_paths.specs.LockPaths as path
-use Rattle.tsa_place_paths.specs.LockPaths.{Led, as_lock, is_address, is_pointer, leads, led, lock_way, name_way, pointed}
-use Rattle.tsa_place_paths.specs.Ways.{Way, from, onward}
-use Rattle.tsa_place_paths.specs.declared.path.PathStep.TheVariants.{Follow}
-use Rattle.tsa_place_paths.specs.declared.path.Root.TheVariants.{Local}
+use Rattle.tsa_place_model.specs.LockPaths as path
+use Rattle.tsa_place_model.specs.LockPaths.{Led, as_lock, is_address, is_pointer, leads, led, lock_way, name_way, pointed}
+use Rattle.tsa_place_model.specs.Ways.{Way, from, onward}
+use Rattle.tsa_place_model.specs.declared.path.PathStep.TheVariants.{Follow}
+use Rattle.tsa_place_model.specs.declared.path.Root.TheVariants.{Local}
 use Rattle.tsa_core.proofs.ScopesAlike.{known_found}
 use Rattle.tsa_core.proofs.UnitScopes.{or_other, found_append}
 use Rattle.tsa_sound.specs.CallFacts.{first_pointed}

@@ -16,9 +16,9 @@ use Rattle.tsa_tree.specs.types.Runnable.{first_runs, has_body, is_environment, 
 use Rattle.tsa_tree.specs.types.Scopes.{Scope, found}
 use Rattle.tsa_tree.specs.types.Units.{outset}
 use Rattle.tsa_tree.specs.units.Syntax.{UnitItem}
-use Rattle.tsa_place_paths.specs.LockPaths.{stable_in}
-use Rattle.tsa_place_paths.specs.Ways.{Way}
-use Rattle.tsa_place_layout.specs.Calls.{Layout}
+use Rattle.tsa_place_model.specs.LockPaths.{stable_in}
+use Rattle.tsa_place_model.specs.Ways.{Way}
+use Rattle.tsa_place_model.specs.Calls.{Layout}
 use Rattle.tsa_core.specs.Programs.{Attr, Bodied, Declared, attr_args, attrs_of, bodied_function, function_of, stable_locals}
 use Rattle.tsa_core.proofs.KindTests.{both_true, neither, one_of}
 use Rattle.tsa_rules.specs.Attributes as rules

@@ -24,7 +24,7 @@ use Rattle.tsa_core.specs.Terms.{Term, constant, variable, answer, global, membe
 use Rattle.tsa_core.proofs.KindTests.{one_of}
 use Rattle.tsa_core.proofs.MappedLists.{map_at}
 use Rattle.tsa_core.proofs.TypedTerms.{some_same}
-use Rattle.tsa_place.proofs.Laid.{by_last}
+use Rattle.tsa_place_model.proofs.Laid.{by_last}
 use Rattle.tsa_rules.specs.Conditions as told
 use Rattle.tsa_rules.specs.Conditions.{answer_in, answer_of, constant_in, yes_or_no}
 use Rattle.tsa_profile_accesses.specs.Premises.{first}

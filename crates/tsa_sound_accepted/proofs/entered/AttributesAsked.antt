@@ -13,7 +13,7 @@ use Rattle.tsa_tree.specs.types.Attributes as types
 use Rattle.tsa_tree.specs.types.Attributes.{attributes_premises, lock_premises, stands_on}
 use Rattle.tsa_tree.specs.types.Premises as typing
 use Rattle.tsa_tree.specs.types.Runnable.{is_generic}
-use Rattle.tsa_place_paths.specs.Ways.{Way}
+use Rattle.tsa_place_model.specs.Ways.{Way}
 use Rattle.tsa_core.specs.Programs.{Attr, attr_args, attrs_of}
 use Rattle.tsa_core.proofs.KindTests.{both_true, neither, not_false, or_left}
 use Rattle.tsa_core.proofs.NoFailure as typed

@@ -7,14 +7,14 @@ use Rattle.tsa_tree.specs.types.Units.{outset, refusal_of_types}
 use Rattle.tsa_tree.specs.units.Syntax.{UnitItem}
 use Rattle.tsa_tree.proofs.types.UnitNodes.{premises_tell_it}
 use Rattle.tsa_core.specs.Bodies.{Known, known_all, known_in_body, knows}
-use Rattle.tsa_place_layout.specs.Calls.{Layout}
+use Rattle.tsa_place_model.specs.Calls.{Layout}
 use Rattle.tsa_core.specs.Programs.{Bodied, Declared, Function, Program, bodied_function, declared_functions, function_in, function_of, layout_or_none, program_of}
 use Rattle.tsa_core.proofs.BodyScopes.{BeginsIn, unit_begins}
 use Rattle.tsa_core.proofs.FactsKnown.{FactsAt, all_facts, each_both}
 use Rattle.tsa_core.proofs.MappedLists.{map_at}
 use Rattle.tsa_core.proofs.ScopesBelong.{Each}
 use Rattle.tsa_core.proofs.SignaturesFit.{SoundBody, body_sound}
-use Rattle.tsa_place.specs.Units.{placed_in}
+use Rattle.tsa_place_model.specs.Units.{placed_in}
 use Rattle.tsa_profile.proofs.UnitsRun.{profiles_are_runnable}
 use Rattle.tsa_rules.specs.Points.{function_at, or_no_function}
 use Rattle.tsa_sound_accepted.specs.terms.Units.{IsInProfile}

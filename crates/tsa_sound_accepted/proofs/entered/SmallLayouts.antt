@@ -6,14 +6,14 @@ use Rattle.tsa_tree.specs.declarations.Syntax.{Declaration}
 use Rattle.tsa_tree.specs.types.Scopes.{Scope}
 use Rattle.tsa_tree.specs.types.Units.{outset}
 use Rattle.tsa_tree.specs.units.Syntax.{UnitItem, structure_item, alias_item, enumeration_item, global_item, function_item, body_item}
-use Rattle.tsa_place_layout.specs.Calls.{Layout}
-use Rattle.tsa_place.specs.Items.{known_global, global_part, behind_data}
-use Rattle.tsa_place.specs.GlobalPlaces.{given_by, no_places, passes, values_in, with_part}
+use Rattle.tsa_place_model.specs.Calls.{Layout}
+use Rattle.tsa_place_model.specs.Items.{known_global, global_part, behind_data}
+use Rattle.tsa_place_model.specs.GlobalPlaces.{given_by, no_places, passes, values_in, with_part}
 use Rattle.tsa_place.proofs.Fitting.{as_many}
-use Rattle.tsa_place_layout.specs.Layouts.{size_of, thing_size}
+use Rattle.tsa_place_model.specs.Layouts.{size_of, thing_size}
 use Rattle.tsa_core.specs.Programs.{Program, layout_or_none, program_of}
-use Rattle.tsa_place.specs.Leading.{HasPlaces}
-use Rattle.tsa_place.specs.Units.{data_placed, or_behind, placed_behind, too_many_at}
+use Rattle.tsa_place_model.specs.Leading.{HasPlaces}
+use Rattle.tsa_place_model.specs.Units.{data_placed, or_behind, placed_behind, too_many_at}
 use Rattle.tsa_path.specs.Laws.{IsSmall}
 use Rattle.tsa_sound_accepted.specs.entered.Laws.{LayoutsAreSmall}
 

@@ -13,16 +13,16 @@ use Rattle.tsa_tree.specs.expressions.Syntax.{Expression, Arguments, number, nul
 use Rattle.tsa_tree.specs.types.DeclaredTypes.{value_in}
 use Rattle.tsa_tree.specs.types.Scopes.{Scope, context_of, known_in}
 use Rattle.tsa_tree.specs.types.Expressions.{owner}
-use Rattle.tsa_place_paths.specs.Arguments.{argument_way, constant_argument, local_argument, or_local, way_of}
-use Rattle.tsa_place_paths.specs.LockPaths.{Led, in_range, is_pointer, leads}
-use Rattle.tsa_types_scope.specs.Lookups.{members_at, numbered, params_in}
-use Rattle.tsa_place_paths.specs.Ways.{Way, from, onward}
-use Rattle.tsa_place_paths.specs.declared.path.PathStep.{PathStep}
-use Rattle.tsa_place_paths.specs.declared.path.PathStep.TheVariants.{Constant, Field, Follow, Variable}
-use Rattle.tsa_place_paths.specs.declared.path.Root.{Root}
-use Rattle.tsa_place_paths.specs.declared.path.Root.TheVariants.{Global, Local, Owner}
-use Rattle.tsa_place_layout.specs.Calls.{Layout, part_guards}
-use Rattle.tsa_place_layout.specs.Layouts.{Part, structure_at}
+use Rattle.tsa_place_model.specs.Arguments.{argument_way, constant_argument, local_argument, or_local, way_of}
+use Rattle.tsa_place_model.specs.LockPaths.{Led, in_range, is_pointer, leads}
+use Rattle.tsa_tree.specs.types.Lookups.{members_at, numbered, params_in}
+use Rattle.tsa_place_model.specs.Ways.{Way, from, onward}
+use Rattle.tsa_place_model.specs.declared.path.PathStep.{PathStep}
+use Rattle.tsa_place_model.specs.declared.path.PathStep.TheVariants.{Constant, Field, Follow, Variable}
+use Rattle.tsa_place_model.specs.declared.path.Root.{Root}
+use Rattle.tsa_place_model.specs.declared.path.Root.TheVariants.{Global, Local, Owner}
+use Rattle.tsa_place_model.specs.Calls.{Layout, part_guards}
+use Rattle.tsa_place_model.specs.Layouts.{Part, structure_at}
 use Rattle.tsa_core.specs.Meanings.{meaning, or_call}
 use Rattle.tsa_core.specs.Uses.{access_guards, argument_ways, call_ways, called_ways, field_guards, guards_owned, member_guards, name_guards, owned_by}
 use Rattle.tsa_path.specs.Substitution.{as_index, as_pointer, before, further, given, in_caller, index_step, pointed_way, step_in, steps_in, substituted}

@@ -8,7 +8,7 @@ use Rattle.tsa_tree.specs.expressions.Syntax.{Expression}
 use Rattle.tsa_tree.specs.points.Syntax.{Deed, declares, evaluates, assigns, tests, switches, jumps, idles, returns, ends}
 use Rattle.tsa_tree.specs.types.DeclaredTypes.{thing_type}
 use Rattle.tsa_tree.specs.types.Scopes.{Scope}
-use Rattle.tsa_place_paths.specs.LockPaths.{stable_in}
+use Rattle.tsa_place_model.specs.LockPaths.{stable_in}
 use Rattle.tsa_core.specs.Bodies.{Known, changed, declared, known_in_body, kinds_by, point_by, point_of, set_local, set_to, stable_behind, stable_by}
 use Rattle.tsa_core.specs.Laws.{ActsBelow, KnowsBelow}
 use Rattle.tsa_core.specs.Meanings.{meaning}

@@ -12,11 +12,11 @@ use Rattle.tsa_tree.specs.types.Scopes.{Scope, further, is_taken}
 use Rattle.tsa_tree.specs.types.Units.{outset}
 use Rattle.tsa_tree.specs.units.Syntax.{UnitItem}
 use Rattle.tsa_tree.proofs.types.UnitNodes.{premises_tell_it}
-use Rattle.tsa_place_paths.specs.LockPaths.{stable_in}
-use Rattle.tsa_place_paths.specs.Ways.{Way}
+use Rattle.tsa_place_model.specs.LockPaths.{stable_in}
+use Rattle.tsa_place_model.specs.Ways.{Way}
 use Rattle.tsa_core.specs.Bodies.{Action, Known, Point, branch, declare, declared, evaluate, give, go_on, known_in_body, point_by, point_of, set_cell, set_local, set_to, test}
-use Rattle.tsa_place_layout.specs.Calls.{Layout}
-use Rattle.tsa_place.specs.Leading.{HasPlaces}
+use Rattle.tsa_place_model.specs.Calls.{Layout}
+use Rattle.tsa_place_model.specs.Leading.{HasPlaces}
 use Rattle.tsa_core.specs.Meanings.{Call, meaning}
 use Rattle.tsa_core.specs.Programs.{Bodied, Declared, Function, Program, bodied_function, body_in, declared_functions, function_of, program_of}
 use Rattle.tsa_core.specs.Terms.{Term, constant, variable, answer, global, member, element, target, load, address, converted, prefixed, joined}

@@ -11,14 +11,14 @@ use Rattle.tsa_tree.specs.expressions.Syntax.{Arguments, Expression, none, more}
 use Rattle.tsa_tree.specs.points.Syntax.{Deed, declares, evaluates, assigns, tests, switches, jumps, idles, returns, ends}
 use Rattle.tsa_tree.specs.types.Heads.{inside}
 use Rattle.tsa_tree.specs.types.Scopes.{Scope, known_in}
-use Rattle.tsa_place_paths.specs.LockPaths.{stable_in}
-use Rattle.tsa_place_paths.specs.Ways.{Way}
-use Rattle.tsa_place_paths.specs.declared.path.PathStep.{PathStep}
-use Rattle.tsa_place_paths.specs.declared.path.PathStep.TheVariants.{Constant, Field, Follow, Variable}
-use Rattle.tsa_place_paths.specs.declared.path.Root.{Root}
-use Rattle.tsa_place_paths.specs.declared.path.Root.TheVariants.{Global, Local, Owner}
+use Rattle.tsa_place_model.specs.LockPaths.{stable_in}
+use Rattle.tsa_place_model.specs.Ways.{Way}
+use Rattle.tsa_place_model.specs.declared.path.PathStep.{PathStep}
+use Rattle.tsa_place_model.specs.declared.path.PathStep.TheVariants.{Constant, Field, Follow, Variable}
+use Rattle.tsa_place_model.specs.declared.path.Root.{Root}
+use Rattle.tsa_place_model.specs.declared.path.Root.TheVariants.{Global, Local, Owner}
 use Rattle.tsa_core.specs.Bodies.{Known, Point, known_in_body}
-use Rattle.tsa_place_layout.specs.Calls.{Layout}
+use Rattle.tsa_place_model.specs.Calls.{Layout}
 use Rattle.tsa_core.specs.Cells.{cells_read, inner_cells, own_cell, read_before}
 use Rattle.tsa_core.specs.Meanings.{Call}
 use Rattle.tsa_core.specs.Programs.{Attr, Bodied, Declared, Function, Program, attr_args, attrs_of, body_in, function_of}

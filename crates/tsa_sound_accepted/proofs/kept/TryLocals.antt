@@ -26,11 +26,11 @@ use Rattle.tsa_tree.specs.types.Units as stated
 use Rattle.tsa_tree.specs.types.Units.{outset, behind_item}
 use Rattle.tsa_tree.specs.units.Syntax.{UnitItem, structure_item, alias_item, enumeration_item, global_item, function_item, body_item}
 use Rattle.tsa_tree.proofs.types.UnitNodes.{premises_tell_it}
-use Rattle.tsa_place_paths.specs.LockPaths.{stable_in}
+use Rattle.tsa_place_model.specs.LockPaths.{stable_in}
 use Rattle.tsa_core.specs.Bodies.{Known, declared, known_in_body, point_by, point_of}
 use Rattle.tsa_core.specs.Meanings.{call_in, call_of}
 use Rattle.tsa_core.specs.Programs.{Attr, Bodied, Declared, Function, Program, bodied_by, bodied_function, body_in, declared_by, declared_functions, first_head, function_in, or_body, program_of, stable_locals}
-use Rattle.tsa_place.proofs.Laid.{by_last}
+use Rattle.tsa_place_model.proofs.Laid.{by_last}
 use Rattle.tsa_core.proofs.MappedLists.{map_at}
 use Rattle.tsa_core.proofs.NoFailure as typing
 use Rattle.tsa_core.proofs.TypedTerms.{some_same}

@@ -1,7 +1,7 @@
 -- Where no rule fails, the rows that are read off walks are kept.
 use Rattle.std.proofs.Common.{◌≡◌, ◌∙◌, ℕ, zero, suc, ◌+◌, ◌<◌, ◌≤◌, arith, nat_eq, eqb-true, eq-eqb, Bool, true, false, List, [], ◌∷◌, length, Contains, Option, Some, None, is_some, slice_get, slice_index_or, if◌then◌else◌, refl, sym, ap, subst}
-use Rattle.tsa_place_paths.specs.Ways.{Way}
-use Rattle.tsa_place_paths.specs.declared.path.Root.TheVariants.{Owner}
+use Rattle.tsa_place_model.specs.Ways.{Way}
+use Rattle.tsa_place_model.specs.declared.path.Root.TheVariants.{Owner}
 use Rattle.tsa_core.specs.Control as control
 use Rattle.tsa_core.specs.Control.{Outcome, edge}
 use Rattle.tsa_core.specs.Programs.{Function, Program}

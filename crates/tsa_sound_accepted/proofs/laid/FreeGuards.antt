@@ -7,18 +7,18 @@ use Rattle.tsa_tree.specs.declarations.Syntax.{Declaration, Initialiser}
 use Rattle.tsa_tree.specs.expressions.Syntax.{Arguments, none, more}
 use Rattle.tsa_tree.specs.types.Scopes.{Members, Scope, with_owned}
 use Rattle.tsa_tree.specs.units.Syntax.{UnitItem, structure_item, alias_item, enumeration_item, global_item, function_item, body_item}
-use Rattle.tsa_place_paths.specs.Ways.{Way}
-use Rattle.tsa_place_paths.specs.declared.path.PathStep.{PathStep}
-use Rattle.tsa_place_paths.specs.declared.path.PathStep.TheVariants.{Constant, Field, Follow, Variable}
-use Rattle.tsa_place_paths.specs.declared.path.Root.{Root}
-use Rattle.tsa_place_paths.specs.declared.path.Root.TheVariants.{Global, Local, Owner}
-use Rattle.tsa_place_layout.specs.Calls.{Layout}
-use Rattle.tsa_place.specs.GlobalPlaces.{no_places, with_part}
-use Rattle.tsa_place.specs.Items.{behind_data, global_part, known_global}
-use Rattle.tsa_place_layout.specs.Layouts.{Part, structure_at}
-use Rattle.tsa_place_layout.specs.Parts.{argument_ways, guard_ways, is_guard, member_behind, no_stable, part_in, parts_behind, structure_in}
-use Rattle.tsa_place.specs.Units.{data_placed, or_behind, placed_behind, too_many_at}
-use Rattle.tsa_place.proofs.Laid.{by_last}
+use Rattle.tsa_place_model.specs.Ways.{Way}
+use Rattle.tsa_place_model.specs.declared.path.PathStep.{PathStep}
+use Rattle.tsa_place_model.specs.declared.path.PathStep.TheVariants.{Constant, Field, Follow, Variable}
+use Rattle.tsa_place_model.specs.declared.path.Root.{Root}
+use Rattle.tsa_place_model.specs.declared.path.Root.TheVariants.{Global, Local, Owner}
+use Rattle.tsa_place_model.specs.Calls.{Layout}
+use Rattle.tsa_place_model.specs.GlobalPlaces.{no_places, with_part}
+use Rattle.tsa_place_model.specs.Items.{behind_data, global_part, known_global}
+use Rattle.tsa_place_model.specs.Layouts.{Part, structure_at}
+use Rattle.tsa_place_model.specs.Parts.{argument_ways, guard_ways, is_guard, member_behind, no_stable, part_in, parts_behind, structure_in}
+use Rattle.tsa_place_model.specs.Units.{data_placed, or_behind, placed_behind, too_many_at}
+use Rattle.tsa_place_model.proofs.Laid.{by_last}
 use Rattle.tsa_sound.specs.LaidOut.{AreLocalFree, IsLocalFree, IsLocalFreeRoot}
 use Rattle.tsa_sound_accepted.proofs.laid.Mentions.{AreFine, IsFineIfAny, IsFineRoot, way_fine}
 

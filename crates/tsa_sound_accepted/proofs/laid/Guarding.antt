@@ -1,20 +1,20 @@
 -- The guards of a place: those of what it lies in and its own, and none where it isn't guarded.
 use Rattle.std.proofs.Common.{◌≡◌, ◌∙◌, ℕ, zero, suc, ◌+◌, ◌*◌, ◌<◌, arith, List, [], ◌∷◌, ◌++◌, Option, Some, None, option_and_then, slice_get, refl, sym, ap, subst}
 use Rattle.tsa_tree.specs.declared.kind.Kind.{Kind}
-use Rattle.tsa_place_layout.specs.declared.place.Guard.{Guard}
-use Rattle.tsa_place_layout.specs.Calls.{Layout, around, element_place, guards_along, guards_by, guards_of, own_guards, owner_at, owner_of, part_guards, part_of}
-use Rattle.tsa_place_layout.specs.declared.place.Holder.{Holder}
-use Rattle.tsa_place_layout.specs.declared.place.Holder.TheVariants.{Global, Member}
-use Rattle.tsa_place_layout.specs.Layouts.{kind_size, size_of}
-use Rattle.tsa_place.specs.Leading.{first_place, leads_to, piece}
-use Rattle.tsa_place_layout.specs.declared.place.Placed.{Placed}
-use Rattle.tsa_place_layout.specs.Places.{a_place}
-use Rattle.tsa_place_layout.specs.Standing.{HasSome}
-use Rattle.tsa_place.proofs.Asking.{element_alone, none_is_none}
-use Rattle.tsa_place.proofs.Laid.{IsLaid}
-use Rattle.tsa_place.proofs.Pieces.{at_row, row_at, thing_at}
-use Rattle.tsa_place.proofs.Rows.{Object, PieceAt, Row, Thing, object_alone, object_element, object_place}
-use Rattle.tsa_place.proofs.TextsAlong.{none_around}
+use Rattle.tsa_place_model.specs.declared.place.Guard.{Guard}
+use Rattle.tsa_place_model.specs.Calls.{Layout, around, element_place, guards_along, guards_by, guards_of, own_guards, owner_at, owner_of, part_guards, part_of}
+use Rattle.tsa_place_model.specs.declared.place.Holder.{Holder}
+use Rattle.tsa_place_model.specs.declared.place.Holder.TheVariants.{Global, Member}
+use Rattle.tsa_place_model.specs.Layouts.{kind_size, size_of}
+use Rattle.tsa_place_model.specs.Leading.{first_place, leads_to, piece}
+use Rattle.tsa_place_model.specs.declared.place.Placed.{Placed}
+use Rattle.tsa_place_model.specs.Places.{a_place}
+use Rattle.tsa_place_model.specs.Standing.{HasSome}
+use Rattle.tsa_place_model.proofs.Asking.{element_alone, none_is_none}
+use Rattle.tsa_place_model.proofs.Laid.{IsLaid}
+use Rattle.tsa_place_model.proofs.Pieces.{at_row, row_at, thing_at}
+use Rattle.tsa_place_model.proofs.Rows.{Object, PieceAt, Row, Thing, object_alone, object_element, object_place}
+use Rattle.tsa_place_model.proofs.TextsAlong.{none_around}
 
 -- With enough steps all is listed that a place lies in.
 nothing_around : (l : Layout) (n m : ℕ) → around l n None ≡ around l m None

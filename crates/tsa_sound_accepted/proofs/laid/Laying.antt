@@ -4,20 +4,20 @@ use Rattle.tsa_tree.specs.declared.kind.Kind.{Kind}
 use Rattle.tsa_tree.specs.declared.kind.Kind.TheVariants as type
 use Rattle.tsa_tree.specs.types.Units.{outset}
 use Rattle.tsa_tree.specs.units.Syntax.{UnitItem}
-use Rattle.tsa_place_paths.specs.Ways.{Way}
-use Rattle.tsa_place_layout.specs.Calls.{Layout, element_place, guards_by, guards_of, members_of, part_guards, part_of}
-use Rattle.tsa_place.specs.GlobalPlaces.{no_places}
-use Rattle.tsa_place_layout.specs.declared.place.Holder.{Holder}
-use Rattle.tsa_place_layout.specs.declared.place.Holder.TheVariants.{Global, Member}
-use Rattle.tsa_place_layout.specs.Layouts.{Part, kind_size, size_of, structure_at}
-use Rattle.tsa_place.specs.Leading.{HasPlaces, leads_to}
-use Rattle.tsa_place_layout.specs.declared.place.Placed.{Placed}
-use Rattle.tsa_place_layout.specs.Places.{has_some}
-use Rattle.tsa_place.proofs.Asking.{none_is_none, same_some}
-use Rattle.tsa_place.proofs.Laid.{IsLaid, unit_laid}
-use Rattle.tsa_place.proofs.Pieces.{at_row, element_is, row_at}
-use Rattle.tsa_place.proofs.Rows.{PieceAt, Row, Thing}
-use Rattle.tsa_place.proofs.Leading.{what_is_led_to_bears}
+use Rattle.tsa_place_model.specs.Ways.{Way}
+use Rattle.tsa_place_model.specs.Calls.{Layout, element_place, guards_by, guards_of, members_of, part_guards, part_of}
+use Rattle.tsa_place_model.specs.GlobalPlaces.{no_places}
+use Rattle.tsa_place_model.specs.declared.place.Holder.{Holder}
+use Rattle.tsa_place_model.specs.declared.place.Holder.TheVariants.{Global, Member}
+use Rattle.tsa_place_model.specs.Layouts.{Part, kind_size, size_of, structure_at}
+use Rattle.tsa_place_model.specs.Leading.{HasPlaces, leads_to}
+use Rattle.tsa_place_model.specs.declared.place.Placed.{Placed}
+use Rattle.tsa_place_model.specs.Places.{has_some}
+use Rattle.tsa_place_model.proofs.Asking.{none_is_none, same_some}
+use Rattle.tsa_place_model.proofs.Laid.{IsLaid, unit_laid}
+use Rattle.tsa_place_model.proofs.Pieces.{at_row, element_is, row_at}
+use Rattle.tsa_place_model.proofs.Rows.{PieceAt, Row, Thing}
+use Rattle.tsa_place_model.proofs.Leading.{what_is_led_to_bears}
 use Rattle.tsa_path.proofs.StandDeclared.{Heads, Marks, StandsAs, element_marked, global_marked, inner_marks, marks, member_marked, no_heads, part_marks, items_heads}
 use Rattle.tsa_sound.specs.LaidOut as laid
 use Rattle.tsa_sound.specs.LaidOut.{LaidOut}

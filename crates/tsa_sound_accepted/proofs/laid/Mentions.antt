@@ -9,14 +9,14 @@ use Rattle.tsa_tree.specs.expressions.Syntax.{Expression, number, null, named, c
 use Rattle.tsa_tree.specs.types.DeclaredTypes.{value_in}
 use Rattle.tsa_tree.specs.types.Operands.{integer_kind}
 use Rattle.tsa_tree.specs.types.Scopes.{Scope, context_of, known_in}
-use Rattle.tsa_place_paths.specs.LockPaths as path
-use Rattle.tsa_place_paths.specs.LockPaths.{Led, as_lock, element_step, in_range, index_step, is_address, is_pointer, leads, lock_way, meant, member_step, name_way, or_variable, to_member}
-use Rattle.tsa_types_scope.specs.Lookups.{numbered}
-use Rattle.tsa_place_paths.specs.Ways.{Way, from, onward}
-use Rattle.tsa_place_paths.specs.declared.path.PathStep.{PathStep}
-use Rattle.tsa_place_paths.specs.declared.path.PathStep.TheVariants.{Constant, Field, Follow, Variable}
-use Rattle.tsa_place_paths.specs.declared.path.Root.{Root}
-use Rattle.tsa_place_paths.specs.declared.path.Root.TheVariants.{Global, Local, Owner}
+use Rattle.tsa_place_model.specs.LockPaths as path
+use Rattle.tsa_place_model.specs.LockPaths.{Led, as_lock, element_step, in_range, index_step, is_address, is_pointer, leads, lock_way, meant, member_step, name_way, or_variable, to_member}
+use Rattle.tsa_tree.specs.types.Lookups.{numbered}
+use Rattle.tsa_place_model.specs.Ways.{Way, from, onward}
+use Rattle.tsa_place_model.specs.declared.path.PathStep.{PathStep}
+use Rattle.tsa_place_model.specs.declared.path.PathStep.TheVariants.{Constant, Field, Follow, Variable}
+use Rattle.tsa_place_model.specs.declared.path.Root.{Root}
+use Rattle.tsa_place_model.specs.declared.path.Root.TheVariants.{Global, Local, Owner}
 use Rattle.tsa_core.proofs.TypedTerms.{some_same}
 use Rattle.tsa_path.proofs.ArgumentPaths.{bound, chosen, either}
 use Rattle.tsa_path.proofs.StepsBehind.{element_by, member_by, pointed_by}

@@ -17,14 +17,14 @@ use Rattle.tsa_tree.specs.types.DeclaredTypes.{value_in}
 use Rattle.tsa_tree.specs.types.Expressions.{type_of, types_of, all_typed, arguments_break}
 use Rattle.tsa_tree.specs.types.Operands.{integer_kind, unsigned_kind, goes_to, is_integer, is_single, keeps_const, lacks, same_target, target_of}
 use Rattle.tsa_tree.specs.types.Scopes.{Scope, context_of, known_in}
-use Rattle.tsa_place_paths.specs.Arguments.{argument_way, index_argument, local_argument, or_local, way_of}
-use Rattle.tsa_place_paths.specs.LockPaths.{Led, in_range, leads}
-use Rattle.tsa_place_paths.specs.Ways.{Way, from, onward}
-use Rattle.tsa_place_paths.specs.declared.path.PathStep.{PathStep}
-use Rattle.tsa_place_paths.specs.declared.path.PathStep.TheVariants.{Constant, Field, Follow}
-use Rattle.tsa_place_paths.specs.declared.path.Root.{Root}
-use Rattle.tsa_place_paths.specs.declared.path.Root.TheVariants as root
-use Rattle.tsa_place_layout.specs.Calls.{index_in}
+use Rattle.tsa_place_model.specs.Arguments.{argument_way, index_argument, local_argument, or_local, way_of}
+use Rattle.tsa_place_model.specs.LockPaths.{Led, in_range, leads}
+use Rattle.tsa_place_model.specs.Ways.{Way, from, onward}
+use Rattle.tsa_place_model.specs.declared.path.PathStep.{PathStep}
+use Rattle.tsa_place_model.specs.declared.path.PathStep.TheVariants.{Constant, Field, Follow}
+use Rattle.tsa_place_model.specs.declared.path.Root.{Root}
+use Rattle.tsa_place_model.specs.declared.path.Root.TheVariants as root
+use Rattle.tsa_place_model.specs.Calls.{index_in}
 use Rattle.tsa_core.specs.Kinds.{Setting, Belongs}
 use Rattle.tsa_core.specs.Meanings.{loaded, null_pointer, of_name, of_number, as_kind, meaning, arguments}
 use Rattle.tsa_core.specs.Meanings as meant

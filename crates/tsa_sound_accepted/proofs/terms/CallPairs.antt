@@ -10,8 +10,8 @@ use Rattle.tsa_tree.specs.types.Expressions.{type_of}
 use Rattle.tsa_tree.specs.types.Operands.{binary_type, breaks_binary, breaks_prefix, prefix_type}
 use Rattle.tsa_tree.specs.types.Runnable.{has_call, is_whole, is_comparison, is_condition}
 use Rattle.tsa_tree.specs.types.Scopes.{Scope, context_of, known_in}
-use Rattle.tsa_types_scope.specs.Lookups.{params_in}
-use Rattle.tsa_place_paths.specs.Ways.{Way}
+use Rattle.tsa_tree.specs.types.Lookups.{params_in}
+use Rattle.tsa_place_model.specs.Ways.{Way}
 use Rattle.tsa_core.specs.Kinds.{Setting, Belongs}
 use Rattle.tsa_core.specs.Meanings.{Call, call_of, call_in, or_call}
 use Rattle.tsa_core.specs.Uses.{call_ways, called_ways}

@@ -7,7 +7,7 @@ use Rattle.tsa_tree.specs.declared.expr.BinaryOp.TheVariants as op
 use Rattle.tsa_tree.specs.declared.expr.UnaryOp.TheVariants as prefix
 use Rattle.tsa_tree.specs.expressions.Syntax.{Expression, Arguments, number, null, named, call, unary, binary, field, index, none, more}
 use Rattle.tsa_tree.specs.types.Scopes.{Scope}
-use Rattle.tsa_place_layout.specs.Calls.{Layout}
+use Rattle.tsa_place_model.specs.Calls.{Layout}
 use Rattle.tsa_core.specs.Cells.{own_cell, inner_cells, argument_cells, cells_read}
 use Rattle.tsa_core.specs.Meanings.{is_loaded, meaning}
 use Rattle.tsa_core.specs.Uses.{access_guards}

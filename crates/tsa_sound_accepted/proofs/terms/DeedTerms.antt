@@ -21,9 +21,9 @@ use Rattle.tsa_tree.specs.types.Premises.{first}
 use Rattle.tsa_tree.specs.types.Runnable.{has_call, is_whole, is_whole_init, is_small}
 use Rattle.tsa_tree.specs.types.Scopes.{Scope, context_of, known_in}
 use Rattle.tsa_core.specs.Bodies.{Action, evaluate, set_local, set_cell, right_side, set_to, declared, point_by}
-use Rattle.tsa_place_layout.specs.Calls.{Layout}
+use Rattle.tsa_place_model.specs.Calls.{Layout}
 use Rattle.tsa_core.specs.Cells.{own_cell, inner_cells, cells_read, read_before}
-use Rattle.tsa_place.specs.Items.{zero_of}
+use Rattle.tsa_place_model.specs.Items.{zero_of}
 use Rattle.tsa_core.specs.Kinds.{Setting, Belongs}
 use Rattle.tsa_core.specs.Meanings.{Call, is_place, loaded, as_kind, call_in, meaning}
 use Rattle.tsa_core.specs.PointKinds.{at_point}

@@ -18,16 +18,16 @@ use Rattle.tsa_tree.specs.tokens.Signs.{Aliases}
 use Rattle.tsa_tree.specs.types.Expressions.{type_of, types_of, member_of, member_type, owner}
 use Rattle.tsa_tree.specs.types.Operands.{lacks, breaks_index, element_type}
 use Rattle.tsa_tree.specs.types.Scopes.{Scope, context_of, known_in}
-use Rattle.tsa_place_paths.specs.Arguments.{way_of}
-use Rattle.tsa_place_paths.specs.LockPaths.{Led, leads}
-use Rattle.tsa_types_scope.specs.Lookups.{members_at, numbered}
-use Rattle.tsa_place_paths.specs.Ways.{Way}
-use Rattle.tsa_place_paths.specs.declared.path.PathStep.{PathStep}
-use Rattle.tsa_place_paths.specs.declared.path.Root.{Root}
-use Rattle.tsa_place_paths.specs.declared.path.Root.TheVariants as root
-use Rattle.tsa_place_layout.specs.Calls.{Layout, part_guards}
+use Rattle.tsa_place_model.specs.Arguments.{way_of}
+use Rattle.tsa_place_model.specs.LockPaths.{Led, leads}
+use Rattle.tsa_tree.specs.types.Lookups.{members_at, numbered}
+use Rattle.tsa_place_model.specs.Ways.{Way}
+use Rattle.tsa_place_model.specs.declared.path.PathStep.{PathStep}
+use Rattle.tsa_place_model.specs.declared.path.Root.{Root}
+use Rattle.tsa_place_model.specs.declared.path.Root.TheVariants as root
+use Rattle.tsa_place_model.specs.Calls.{Layout, part_guards}
 use Rattle.tsa_core.specs.Kinds.{Setting, Belongs, GiveAnswer, place_type, struct_in}
-use Rattle.tsa_place_layout.specs.Layouts.{structure_at}
+use Rattle.tsa_place_model.specs.Layouts.{structure_at}
 use Rattle.tsa_core.specs.Meanings.{loaded, name_term, of_name, of_call, prefix_term, operands, base_of, to_member, of_field, meaning}
 use Rattle.tsa_core.specs.Terms.{member, target, Sense}
 use Rattle.tsa_core.specs.Uses.{access_guards, field_guards, guards_owned, member_guards, name_guards, owned_by}

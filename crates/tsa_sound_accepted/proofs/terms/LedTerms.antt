@@ -16,13 +16,13 @@ use Rattle.tsa_tree.specs.types.Operands.{integer_kind, pointer_kind, is_single,
 use Rattle.tsa_tree.specs.types.Runnable.{is_small}
 use Rattle.tsa_tree.specs.types.Scopes.{Scope, context_of, known_in}
 use Rattle.tsa_tree.specs.types.Types.{single}
-use Rattle.tsa_types_scope.specs.Lookups.{members_at, numbered}
-use Rattle.tsa_place_paths.specs.LockPaths as path
-use Rattle.tsa_place_paths.specs.LockPaths.{Led, led, meant, pointed, member_step, element_step, in_range, or_variable, index_step, name_way, leads}
-use Rattle.tsa_place_paths.specs.Ways.{Way, from, onward}
-use Rattle.tsa_place_paths.specs.declared.path.Root.TheVariants.{Local}
-use Rattle.tsa_place_paths.specs.declared.path.PathStep.{PathStep}
-use Rattle.tsa_place_paths.specs.declared.path.PathStep.TheVariants.{Constant, Variable, Field, Follow}
+use Rattle.tsa_tree.specs.types.Lookups.{members_at, numbered}
+use Rattle.tsa_place_model.specs.LockPaths as path
+use Rattle.tsa_place_model.specs.LockPaths.{Led, led, meant, pointed, member_step, element_step, in_range, or_variable, index_step, name_way, leads}
+use Rattle.tsa_place_model.specs.Ways.{Way, from, onward}
+use Rattle.tsa_place_model.specs.declared.path.Root.TheVariants.{Local}
+use Rattle.tsa_place_model.specs.declared.path.PathStep.{PathStep}
+use Rattle.tsa_place_model.specs.declared.path.PathStep.TheVariants.{Constant, Variable, Field, Follow}
 use Rattle.tsa_core.specs.Kinds.{Setting, Belongs}
 use Rattle.tsa_core.specs.Meanings.{is_place, is_cell, loaded, never_changes, of_name, of_prefix, base_of, to_member, of_field, of_index, meaning}
 use Rattle.tsa_core.specs.Terms.{variable, load, Sense}

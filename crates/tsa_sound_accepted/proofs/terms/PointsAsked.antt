@@ -15,7 +15,7 @@ use Rattle.tsa_tree.specs.types.Targets.{declared_in}
 use Rattle.tsa_tree.specs.types.Units.{behind_item}
 use Rattle.tsa_tree.specs.units.Syntax.{UnitItem, structure_item, alias_item, enumeration_item, global_item, function_item, body_item}
 use Rattle.tsa_core.specs.Bodies.{Known, knows, known, known_all, known_init, known_step, known_in_body}
-use Rattle.tsa_place_layout.specs.Calls.{Layout}
+use Rattle.tsa_place_model.specs.Calls.{Layout}
 use Rattle.tsa_core.specs.Programs.{Attr, Bodied, bodied_by, bodied_function, or_body}
 use Rattle.tsa_core.proofs.FactsKnown.{each_both}
 use Rattle.tsa_core.proofs.ScopesBelong.{Each}

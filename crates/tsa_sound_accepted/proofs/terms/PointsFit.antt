@@ -11,11 +11,11 @@ use Rattle.tsa_tree.specs.types.Runnable.{Runnable}
 use Rattle.tsa_tree.specs.types.Units.{outset, refusal_of_types}
 use Rattle.tsa_tree.specs.units.Syntax.{UnitItem}
 use Rattle.tsa_tree.proofs.types.UnitNodes.{premises_tell_it}
-use Rattle.tsa_place_paths.specs.LockPaths.{stable_in}
-use Rattle.tsa_place_paths.specs.Ways.{Way}
-use Rattle.tsa_place.specs.Units.{placed_in}
+use Rattle.tsa_place_model.specs.LockPaths.{stable_in}
+use Rattle.tsa_place_model.specs.Ways.{Way}
+use Rattle.tsa_place_model.specs.Units.{placed_in}
 use Rattle.tsa_core.specs.Bodies.{can_have, Known, knows, known_all, known_in_body, Point, point_of}
-use Rattle.tsa_place_layout.specs.Calls.{Layout}
+use Rattle.tsa_place_model.specs.Calls.{Layout}
 use Rattle.tsa_core.specs.Control.{Outcome, body_edges, next_point}
 use Rattle.tsa_core.specs.KindLaws.{function_locals, kinds_of, setting, signatures}
 use Rattle.tsa_core.specs.Kinds.{Belongs}

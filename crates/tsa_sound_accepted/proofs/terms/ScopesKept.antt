@@ -4,9 +4,9 @@ use Rattle.tsa_tree.specs.declared.expr.UnaryOp.TheVariants as prefix
 use Rattle.tsa_tree.specs.expressions.Syntax.{Expression, number, null, named, call, unary, binary, field, index}
 use Rattle.tsa_tree.specs.types.Expressions.{owner}
 use Rattle.tsa_tree.specs.types.Scopes.{Scope, with_locals}
-use Rattle.tsa_place_paths.specs.Arguments.{way_of}
-use Rattle.tsa_place_paths.specs.LockPaths.{meant, member_step, element_step, leads}
-use Rattle.tsa_place_layout.specs.Calls.{Layout}
+use Rattle.tsa_place_model.specs.Arguments.{way_of}
+use Rattle.tsa_place_model.specs.LockPaths.{meant, member_step, element_step, leads}
+use Rattle.tsa_place_model.specs.Calls.{Layout}
 use Rattle.tsa_core.specs.Uses.{field_guards, access_guards}
 use Rattle.tsa_core_points.proofs.Meanings.{meaning_kept}
 

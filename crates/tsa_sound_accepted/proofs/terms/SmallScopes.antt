@@ -14,7 +14,7 @@ use Rattle.tsa_tree.specs.types.Premises.{first}
 use Rattle.tsa_tree.specs.types.Scopes.{Scope, found, further, is_taken, known_in, with_name, with_named}
 use Rattle.tsa_tree.specs.types.Units.{outset, behind_item, item_premises, items_premises, refusal_of_types}
 use Rattle.tsa_tree.specs.units.Syntax.{UnitItem, structure_item, alias_item, enumeration_item, global_item, function_item, body_item}
-use Rattle.tsa_place.specs.Items.{behind_data}
+use Rattle.tsa_place_model.specs.Items.{behind_data}
 use Rattle.tsa_core.specs.Bodies.{known_in_body}
 use Rattle.tsa_core.specs.Programs.{Bodied, bodied_by, bodied_function, or_body}
 use Rattle.tsa_core.proofs.EachScope.{each_point}

@@ -9,9 +9,9 @@ use Rattle.tsa_tree.specs.points.Syntax.{Deed}
 use Rattle.tsa_tree.specs.tokens.Signs.{Aliases}
 use Rattle.tsa_tree.specs.types.Constants.{enumerator}
 use Rattle.tsa_tree.specs.types.Scopes.{Scope, known_in}
-use Rattle.tsa_place_paths.specs.Ways.{Way}
+use Rattle.tsa_place_model.specs.Ways.{Way}
 use Rattle.tsa_core.specs.Bodies.{Action, evaluate, set_local, set_cell, declare, test, branch, go_on, give, Point, knows, point, point_by}
-use Rattle.tsa_place_layout.specs.Calls.{Layout}
+use Rattle.tsa_place_model.specs.Calls.{Layout}
 use Rattle.tsa_core.specs.Kinds.{Setting, Belongs}
 use Rattle.tsa_core.specs.Loads.{loads, places}
 use Rattle.tsa_core.specs.Meanings.{Call, is_place}

@@ -22,9 +22,9 @@ use Rattle.tsa_tree.specs.types.Expressions.{type_of, types_of, all_typed, membe
 use Rattle.tsa_tree.specs.types.Operands.{integer_kind, pointer_kind, unsigned_kind, is_array, is_integer, lacks, breaks_prefix, breaks_binary, breaks_index, prefix_type, binary_type, element_type}
 use Rattle.tsa_tree.specs.types.Runnable.{has_call, have_call}
 use Rattle.tsa_tree.specs.types.Scopes.{Scope, context_of, known_in}
-use Rattle.tsa_types_scope.specs.Lookups.{members_at, numbered}
+use Rattle.tsa_tree.specs.types.Lookups.{members_at, numbered}
 use Rattle.tsa_core.specs.Kinds.{Setting, Belongs, place_type, struct_in}
-use Rattle.tsa_place_layout.specs.Layouts.{Part, structure_at}
+use Rattle.tsa_place_model.specs.Layouts.{Part, structure_at}
 use Rattle.tsa_core.specs.Meanings.{is_place, is_cell, is_loaded, loaded, never_changes, of_number, name_term, of_name, of_call, beside, operands, base_of, to_member, of_field, as_kind, null_pointer, meaning, arguments}
 use Rattle.tsa_core.specs.Meanings as meant
 use Rattle.tsa_core.specs.Terms.{Term, constant, variable, answer, global, member, element, target, load, address, converted, prefixed, joined, Sense}

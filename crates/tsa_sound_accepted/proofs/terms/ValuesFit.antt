@@ -18,8 +18,8 @@ use Rattle.tsa_tree.specs.types.Expressions.{type_of}
 use Rattle.tsa_tree.specs.types.Operands.{integer_kind, pointer_kind, unsigned_kind, breaks_prefix, breaks_binary, prefix_type, binary_type}
 use Rattle.tsa_tree.specs.types.Runnable.{has_call, have_call, is_free, is_whole, is_call, is_compared, is_comparison, is_condition}
 use Rattle.tsa_tree.specs.types.Scopes.{Scope, context_of, known_in}
-use Rattle.tsa_types_scope.specs.Lookups.{params_in}
-use Rattle.tsa_place_layout.specs.Calls.{Layout}
+use Rattle.tsa_tree.specs.types.Lookups.{params_in}
+use Rattle.tsa_place_model.specs.Calls.{Layout}
 use Rattle.tsa_core.specs.Kinds.{Belongs}
 use Rattle.tsa_core.specs.Meanings.{Call, loaded, of_name, of_call, beside, operands, as_kind, null_pointer, call_of, call_in, or_call, meaning}
 use Rattle.tsa_core.specs.Meanings as meant

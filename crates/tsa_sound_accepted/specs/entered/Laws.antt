@@ -1,10 +1,10 @@
 -- What functions with bodies, calls and places of accepted units have.
 use Rattle.std.specs.Prelude.{◌≡◌, ℕ, List, Some, IsSome}
 use Rattle.tsa_tree.specs.units.Syntax.{UnitItem}
-use Rattle.tsa_place_layout.specs.Calls.{Layout}
+use Rattle.tsa_place_model.specs.Calls.{Layout}
 use Rattle.tsa_core.specs.Meanings.{Call}
 use Rattle.tsa_core.specs.Programs.{Program, program_of}
-use Rattle.tsa_place.specs.Leading.{HasPlaces}
+use Rattle.tsa_place_model.specs.Leading.{HasPlaces}
 use Rattle.tsa_path.specs.Laws.{IsSmall}
 use Rattle.tsa_rules.specs.Points.{function_at, point_at, uses_at}
 use Rattle.tsa_sound.specs.BodyFacts.{AllLead, BodyFacts}

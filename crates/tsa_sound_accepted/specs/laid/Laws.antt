@@ -1,8 +1,8 @@
 -- The places of a unit are laid out as it declares them.
 use Rattle.std.specs.Prelude.{List}
 use Rattle.tsa_tree.specs.units.Syntax.{UnitItem}
-use Rattle.tsa_place_layout.specs.Calls.{Layout}
-use Rattle.tsa_place.specs.Leading.{HasPlaces}
+use Rattle.tsa_place_model.specs.Calls.{Layout}
+use Rattle.tsa_place_model.specs.Leading.{HasPlaces}
 use Rattle.tsa_sound.specs.LaidOut.{LaidOut}
 
 abbrev pub PlacesAreLaidOut : Type 0

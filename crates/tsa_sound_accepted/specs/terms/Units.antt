@@ -3,10 +3,10 @@ use Rattle.std.specs.Prelude.{◌≡◌, ℕ, List, [], Some, None, IsSome}
 use Rattle.tsa_tree.specs.types.FirstFailing.{first_failing}
 use Rattle.tsa_tree.specs.units.Sound.{SoundItems}
 use Rattle.tsa_tree.specs.units.Syntax.{UnitItem}
-use Rattle.tsa_place_layout.specs.Calls.{Layout}
+use Rattle.tsa_place_model.specs.Calls.{Layout}
 use Rattle.tsa_core.specs.Meanings.{Call}
 use Rattle.tsa_core.specs.Programs.{Program, program_of}
-use Rattle.tsa_place.specs.Leading.{HasPlaces}
+use Rattle.tsa_place_model.specs.Leading.{HasPlaces}
 use Rattle.tsa_profile_context.specs.Units.{refusal_of_profile}
 use Rattle.tsa_profile.specs.Paths.{paths_of}
 use Rattle.tsa_rules.specs.Points.{function_at, point_at, uses_at}

@@ -3,7 +3,7 @@ use Rattle.std.proofs.lemmas.Result.{on_ok_weaker}
 use Rattle.tsa_tree.specs.attributes.Syntax.{attr_shapes}
 use Rattle.tsa_tree.specs.declarations.Shapes.{decl_shapes}
 use Rattle.tsa_tree.specs.expressions.Shapes.{name_shape}
-use Rattle.tsa_place_layout.specs.Parts.{members_after}
+use Rattle.tsa_place_model.specs.Parts.{members_after}
 use Rattle.tsa_core_environment.specs.Members.{with_members}
 use Rattle.tsa_core_environment.proofs.KnownItems.{struct_same}
 use Rattle.tsa_core_environment.proofs.members.know_struct.Goals as goal

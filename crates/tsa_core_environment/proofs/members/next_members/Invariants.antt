@@ -1,6 +1,6 @@
 use Rattle.std.proofs.Common.{◌≡◌, drop}
 use Rattle.tsa_tree.specs.declarations.Shapes.{decl_shapes}
-use Rattle.tsa_place_layout.specs.Parts.{members_after}
+use Rattle.tsa_place_model.specs.Parts.{members_after}
 use Rattle.tsa_core_environment.proofs.members.next_members.Given as goal
 
 abbrev pub invariant-each : goal.invariant-each

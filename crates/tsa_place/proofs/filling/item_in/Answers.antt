@@ -1,6 +1,6 @@
 use Rattle.std.proofs.Common.{◌∙◌, Some, sym, ap}
 use Rattle.tsa_tree.proofs.declarations.Trees.{list_at}
-use Rattle.tsa_place_layout.specs.Places.{item_of}
+use Rattle.tsa_place_model.specs.Places.{item_of}
 use Rattle.tsa_place.proofs.ItemLists.{item_is}
 use Rattle.tsa_place.proofs.filling.item_in.Goals as goal
 

@@ -1,7 +1,7 @@
 use Rattle.std.proofs.Common.{◌≡◌, pos, drop}
 use Rattle.tsa_tree.specs.declarations.Shapes.{enumerator_shapes}
 use Rattle.tsa_tree.specs.types.Enums.{next_after}
-use Rattle.tsa_place.specs.Items.{enumerators_behind}
+use Rattle.tsa_place_model.specs.Items.{enumerators_behind}
 use Rattle.tsa_place.proofs.items.know_enumerators.Given as goal
 
 abbrev pub invariant-each : goal.invariant-each

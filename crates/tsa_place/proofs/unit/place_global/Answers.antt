@@ -1,7 +1,7 @@
 use Rattle.std.proofs.Common.{length}
 use Rattle.tsa_tree.specs.declarations.Shapes.{decl_shape}
-use Rattle.tsa_place_layout.proofs.Below.{part_within}
-use Rattle.tsa_place.specs.Items.{known_global}
+use Rattle.tsa_place_model.proofs.Below.{part_within}
+use Rattle.tsa_place_model.specs.Items.{known_global}
 use Rattle.tsa_place.proofs.unit.place_global.Goals as goal
 
 pub add-requires : goal.add-requires

@@ -1,6 +1,6 @@
 use Rattle.std.proofs.Common.{◌≡◌, drop, length}
 use Rattle.tsa_tree.specs.units.Shapes.{item_shapes}
-use Rattle.tsa_place.specs.Units.{placed_behind}
+use Rattle.tsa_place_model.specs.Units.{placed_behind}
 use Rattle.tsa_place.proofs.unit.place_items.Given as goal
 
 abbrev pub invariant-each : goal.invariant-each

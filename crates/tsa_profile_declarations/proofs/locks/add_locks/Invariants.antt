@@ -2,7 +2,7 @@ use Rattle.std.proofs.Common.{◌≡◌, ◌++◌, drop}
 use Rattle.tsa_core.specs.Programs.{attr_args}
 use Rattle.tsa_tree.specs.attributes.Syntax.{attr_shape}
 use Rattle.tsa_tree.specs.expressions.Shapes.{shapes}
-use Rattle.tsa_place_paths.specs.LockPaths.{stable_in}
+use Rattle.tsa_place_model.specs.LockPaths.{stable_in}
 use Rattle.tsa_profile_declarations.proofs.locks.add_locks.Given as goal
 
 abbrev pub invariant-each : goal.invariant-each

@@ -1,7 +1,7 @@
 use Rattle.std.proofs.Common.{◌≡◌, ◌++◌, drop}
 use Rattle.tsa_core.specs.Programs.{attrs_of}
 use Rattle.tsa_tree.specs.attributes.Syntax.{attr_shapes}
-use Rattle.tsa_place_paths.specs.LockPaths.{stable_in}
+use Rattle.tsa_place_model.specs.LockPaths.{stable_in}
 use Rattle.tsa_profile_declarations.proofs.locks.named_locks.Given as goal
 
 abbrev pub invariant-each : goal.invariant-each

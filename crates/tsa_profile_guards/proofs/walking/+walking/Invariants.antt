@@ -1,6 +1,6 @@
 use Rattle.std.proofs.Common.{◌≡◌, ◌≤◌, drop, length}
 use Rattle.tsa_tree.specs.expressions.Shapes.{shapes}
-use Rattle.tsa_place_paths.specs.LockPaths.{stable_in}
+use Rattle.tsa_place_model.specs.LockPaths.{stable_in}
 use Rattle.tsa_core.specs.Cells.{argument_cells}
 use Rattle.tsa_profile_guards.specs.Accesses.{before}
 use Rattle.tsa_profile_guards.specs.Failures.{failing_arguments}

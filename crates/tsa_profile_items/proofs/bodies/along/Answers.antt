@@ -1,5 +1,5 @@
 use Rattle.std.proofs.Common.{◌∙◌, ℕ, Bool, List, [], filter, length, map, ap}
-use Rattle.tsa_place_paths.specs.LockPaths.{stable_in}
+use Rattle.tsa_place_model.specs.LockPaths.{stable_in}
 use Rattle.tsa_core.specs.Programs.{Attr}
 use Rattle.tsa_core_points.specs.Steps.{step_shape}
 use Rattle.tsa_core_points.specs.Walks.{points_along, walk}

@@ -4,7 +4,7 @@ use Rattle.tsa_tree.specs.declarations.Shapes.{head_shape}
 use Rattle.tsa_tree.specs.statements.Shapes.{stmt_shapes}
 use Rattle.tsa_tree.specs.types.Scopes.{with_locals}
 use Rattle.tsa_tree.specs.types.Symbols.{number_of}
-use Rattle.tsa_place_paths.specs.LockPaths.{stable_in}
+use Rattle.tsa_place_model.specs.LockPaths.{stable_in}
 use Rattle.tsa_core_environment.specs.Functions.{outside_of}
 use Rattle.tsa_profile_accesses.specs.Premises.{first}
 use Rattle.tsa_profile_points.specs.Bodies.{points_premises}

@@ -2,7 +2,7 @@ use Rattle.std.proofs.Common.{◌∙◌, false, ap}
 use Rattle.tsa_tree.specs.declarations.Shapes.{head_shape}
 use Rattle.tsa_tree.specs.types.Scopes.{with_locals}
 use Rattle.tsa_tree.specs.types.Symbols.{number_of}
-use Rattle.tsa_place_paths.specs.LockPaths.{stable_in}
+use Rattle.tsa_place_model.specs.LockPaths.{stable_in}
 use Rattle.tsa_core_environment.specs.Functions.{outside_of}
 use Rattle.tsa_profile_context.specs.Judging.{around_at, entered, unit_at, with_scope, without_body}
 use Rattle.tsa_profile_context.specs.Units.{is_alone}

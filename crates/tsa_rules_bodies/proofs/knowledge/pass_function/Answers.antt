@@ -1,7 +1,7 @@
 use Rattle.std.proofs.Common.{◌∙◌, is_some, ap}
 use Rattle.tsa_tree.specs.declarations.Shapes.{head_shape}
 use Rattle.tsa_tree.specs.types.Scopes.{with_locals}
-use Rattle.tsa_place_paths.specs.LockPaths.{stable_in}
+use Rattle.tsa_place_model.specs.LockPaths.{stable_in}
 use Rattle.tsa_core_environment.proofs.BodyLists.{head_told}
 use Rattle.tsa_profile_context.specs.Judging.{unit_at}
 use Rattle.tsa_rules_bodies.specs.Knowing.{entered, with_scope}

@@ -1,7 +1,7 @@
 use Rattle.std.proofs.Common.{◌<◌, List, length}
 use Rattle.tsa_core.specs.Programs.{Function, Program}
 use Rattle.tsa_rules.specs.Points.{points_of}
-use Rattle.tsa_place_paths.specs.Ways.{Way}
+use Rattle.tsa_place_model.specs.Ways.{Way}
 use Rattle.tsa_flow_function.specs.Flows.{IsFlowOf}
 use Rattle.tsa_warn_function.specs.Adding.{Adds}
 use Rattle.tsa_warn_function.specs.Passes.{IsOfReturns}

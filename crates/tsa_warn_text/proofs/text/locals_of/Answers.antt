@@ -1,5 +1,5 @@
 use Rattle.std.proofs.Common.{◌<◌, ap, length, arith}
-use Rattle.tsa_place_paths.specs.declared.path.PathStep.TheVariants.{Field}
+use Rattle.tsa_place_model.specs.declared.path.PathStep.TheVariants.{Field}
 use Rattle.tsa_warn_text.proofs.LocalTexts.{locals_more}
 use Rattle.tsa_warn_text.proofs.text.locals_of.Goals as goal
 

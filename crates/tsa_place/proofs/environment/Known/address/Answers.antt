@@ -1,5 +1,5 @@
 use Rattle.std.proofs.Common.{◌∙◌, None, slice_get, [], sym, ap}
-use Rattle.tsa_place_layout.specs.Calls.{evaluated}
+use Rattle.tsa_place_model.specs.Calls.{evaluated}
 use Rattle.tsa_place.proofs.ItemLists.{by_way}
 use Rattle.tsa_place.proofs.environment.Known.address.Goals as goal
 

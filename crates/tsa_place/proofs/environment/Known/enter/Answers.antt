@@ -1,5 +1,5 @@
 use Rattle.std.proofs.Common.{◌∙◌, length, ap, subst}
-use Rattle.tsa_place_layout.specs.Standing.{IsBelow}
+use Rattle.tsa_place_model.specs.Standing.{IsBelow}
 use Rattle.tsa_place.proofs.Putting.{on_both, enters_object}
 use Rattle.tsa_place.proofs.environment.Known.enter.Goals as goal
 

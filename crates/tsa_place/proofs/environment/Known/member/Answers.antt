@@ -1,5 +1,5 @@
 use Rattle.std.proofs.Common.{length, sym, ap, refl, subst}
-use Rattle.tsa_place_layout.specs.Standing.{IsWithin}
+use Rattle.tsa_place_model.specs.Standing.{IsWithin}
 use Rattle.tsa_place.proofs.Putting.{on_one, member_put, member_within}
 use Rattle.tsa_place.proofs.environment.Known.member.Goals as goal
 

@@ -1,6 +1,6 @@
 use Rattle.std.proofs.Common.{◌≡◌, ◌≤◌, ◌-◌, ◌++◌, take, length}
 use Rattle.tsa_place.specs.Filling.{given, all_left, AreLeft, values_by}
-use Rattle.tsa_place_layout.specs.Places.{places_of}
+use Rattle.tsa_place_model.specs.Places.{places_of}
 use Rattle.tsa_place.proofs.environment.Known.place.Given as goal
 
 abbrev pub invariant-left : goal.invariant-left

@@ -1,7 +1,7 @@
 use Rattle.std.proofs.Common.{◌≤◌, ◌+◌, length, sym, ap, subst}
-use Rattle.tsa_place_layout.specs.Layouts.{size_of, thing_size}
-use Rattle.tsa_place_layout.specs.Standing.{IsOrdered}
-use Rattle.tsa_place_layout.specs.Parts.{place_limit}
+use Rattle.tsa_place_model.specs.Layouts.{size_of, thing_size}
+use Rattle.tsa_place_model.specs.Standing.{IsOrdered}
+use Rattle.tsa_place_model.specs.Parts.{place_limit}
 use Rattle.tsa_place.proofs.Fitting.{still_fits}
 use Rattle.tsa_place.proofs.globals.Globals.fill.Goals as goal
 

@@ -1,5 +1,5 @@
 use Rattle.std.proofs.Common.{◌≡◌, ◌++◌, drop}
-use Rattle.tsa_place_layout.specs.Calls.{guards_by}
+use Rattle.tsa_place_model.specs.Calls.{guards_by}
 use Rattle.tsa_place_layout.proofs.layout.Layout.add_each.Given as goal
 
 abbrev pub invariant-each : goal.invariant-each

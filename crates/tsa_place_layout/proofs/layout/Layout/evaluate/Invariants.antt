@@ -1,5 +1,5 @@
 use Rattle.std.proofs.Common.{◌≡◌, drop, slice_get}
-use Rattle.tsa_place_layout.specs.Calls.{take_root, take_steps}
+use Rattle.tsa_place_model.specs.Calls.{take_root, take_steps}
 use Rattle.tsa_place_layout.proofs.layout.Layout.evaluate.Given as goal
 
 abbrev pub invariant-each : goal.invariant-each

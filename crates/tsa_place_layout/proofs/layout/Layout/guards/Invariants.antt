@@ -1,5 +1,5 @@
 use Rattle.std.proofs.Common.{◌≡◌, ◌≤◌, drop, length}
-use Rattle.tsa_place_layout.specs.Calls.{guards_along}
+use Rattle.tsa_place_model.specs.Calls.{guards_along}
 use Rattle.tsa_place_layout.proofs.layout.Layout.guards.Given as goal
 
 abbrev pub invariant-inward : goal.invariant-inward

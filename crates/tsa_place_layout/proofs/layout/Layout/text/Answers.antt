@@ -1,5 +1,5 @@
 use Rattle.std.proofs.Common.{arith, refl, ◌≡◌, ◌∙◌, ◌++◌, length, ap}
-use Rattle.tsa_place_layout.specs.Calls.{own_text}
+use Rattle.tsa_place_model.specs.Calls.{own_text}
 use Rattle.tsa_place_layout.proofs.WayLists.{texts_first, texts_next}
 use Rattle.tsa_place_layout.proofs.layout.Layout.text.Goals as goal
 

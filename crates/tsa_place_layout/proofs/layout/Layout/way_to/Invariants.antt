@@ -1,5 +1,5 @@
 use Rattle.std.proofs.Common.{◌≡◌, ◌++◌}
-use Rattle.tsa_place_layout.specs.Calls.{around, way_to}
+use Rattle.tsa_place_model.specs.Calls.{around, way_to}
 use Rattle.tsa_place_layout.proofs.layout.Layout.way_to.Given as goal
 
 abbrev pub invariant-outward : goal.invariant-outward

@@ -1,6 +1,6 @@
 use Rattle.std.proofs.Common.{◌∙◌, ◌+◌, ◌∷◌, [], length, sym, ap, subst}
-use Rattle.tsa_place_layout.specs.Layouts.{capped, members_size, size_of}
-use Rattle.tsa_place_layout.specs.Standing.{AllBelow}
+use Rattle.tsa_place_model.specs.Layouts.{capped, members_size, size_of}
+use Rattle.tsa_place_model.specs.Standing.{AllBelow}
 use Rattle.tsa_place_layout.specs.Tables.{latest, begins_from}
 use Rattle.tsa_place_layout.proofs.Tables.{latest_behind, sized_after, size_by}
 use Rattle.tsa_place_layout.proofs.structures.Structures.add.Goals as goal

@@ -1,7 +1,7 @@
 use Rattle.std.proofs.Common.{◌∙◌, ◌+◌, suc, ◌∷◌, drop, sym, ap}
 use Rattle.std.proofs.Math.Seq.{drop-cons}
 use Rattle.std.proofs.lemmas.List.{drop_all}
-use Rattle.tsa_place_layout.specs.Layouts.{capped, thing_size, size_of}
+use Rattle.tsa_place_model.specs.Layouts.{capped, thing_size, size_of}
 use Rattle.tsa_place_layout.proofs.Begins.{end_is, end_next, places_first, places_next, places_end}
 use Rattle.tsa_place_layout.proofs.structures.Structures.begins.Goals as goal
 

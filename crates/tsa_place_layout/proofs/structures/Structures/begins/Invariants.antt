@@ -1,5 +1,5 @@
 use Rattle.std.proofs.Common.{◌≡◌, ◌++◌, drop}
-use Rattle.tsa_place_layout.specs.Layouts.{capped, offset, size_of}
+use Rattle.tsa_place_model.specs.Layouts.{capped, offset, size_of}
 use Rattle.tsa_place_layout.specs.Tables.{begins_from}
 use Rattle.tsa_place_layout.proofs.structures.Structures.begins.Given as goal
 

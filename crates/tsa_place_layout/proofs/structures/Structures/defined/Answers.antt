@@ -1,5 +1,5 @@
 use Rattle.std.proofs.Common.{subst}
-use Rattle.tsa_place_layout.specs.Standing.{IsOrdered}
+use Rattle.tsa_place_model.specs.Standing.{IsOrdered}
 use Rattle.tsa_place_layout.proofs.Tables.{found_at, missing_at}
 use Rattle.tsa_place_layout.proofs.structures.Structures.defined.Goals as goal
 

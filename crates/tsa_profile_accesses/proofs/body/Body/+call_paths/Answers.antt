@@ -1,4 +1,4 @@
-use Rattle.tsa_place_paths.specs.LockPaths.{stable_in}
+use Rattle.tsa_place_model.specs.LockPaths.{stable_in}
 use Rattle.tsa_profile_accesses.proofs.Paths.{call_inside}
 use Rattle.tsa_profile_accesses.proofs.body.Body.+call_paths.Goals as goal
 

@@ -1,6 +1,6 @@
 use Rattle.std.proofs.Common.{◌≡◌, ◌++◌, ◌-◌, drop, length}
 use Rattle.tsa_tree.specs.expressions.Shapes.{shapes}
-use Rattle.tsa_place_paths.specs.LockPaths.{stable_in}
+use Rattle.tsa_place_model.specs.LockPaths.{stable_in}
 use Rattle.tsa_core.specs.Uses.{argument_ways}
 use Rattle.tsa_profile_accesses.proofs.body.Body.paths_for.Given as goal
 

@@ -1,5 +1,5 @@
 use Rattle.std.proofs.Common.{◌≡◌, [], drop}
-use Rattle.tsa_place_layout.specs.Parts.{members_after}
+use Rattle.tsa_place_model.specs.Parts.{members_after}
 use Rattle.tsa_profile_accesses.specs.Premises.{first}
 use Rattle.tsa_tree.specs.declarations.Shapes.{decl_shapes}
 use Rattle.tsa_tree.specs.types.Scopes.{with_owned}

@@ -1,7 +1,7 @@
 use Rattle.std.proofs.Common.{◌∙◌, ◌++◌, option_map, sym, ap, ap₂}
 use Rattle.std.proofs.lemmas.Result.{on_ok_weaker}
 use Rattle.tsa_tree.specs.expressions.Shapes.{shape}
-use Rattle.tsa_place_paths.specs.LockPaths.{stable_in}
+use Rattle.tsa_place_model.specs.LockPaths.{stable_in}
 use Rattle.tsa_rules_points.specs.Visits.{around_at, known_at}
 use Rattle.tsa_profile_guards.specs.Accesses.{reads}
 use Rattle.tsa_rules_points.proofs.Uses.{all_reads}

@@ -3,7 +3,7 @@ use Rattle.std.proofs.lemmas.Result.{on_ok_weaker, IfOk-weaker}
 use Rattle.tsa_tree.specs.declarations.Shapes.{head_shape}
 use Rattle.tsa_tree.specs.statements.Shapes.{stmt_shapes}
 use Rattle.tsa_tree.specs.types.DeclaredTypes.{thing_type}
-use Rattle.tsa_place_paths.specs.LockPaths.{stable_in}
+use Rattle.tsa_place_model.specs.LockPaths.{stable_in}
 use Rattle.tsa_core.specs.Programs.{Attr}
 use Rattle.tsa_core_points.specs.Walks.{points_along, walk}
 use Rattle.tsa_core_points.specs.Steps.{step_shape}

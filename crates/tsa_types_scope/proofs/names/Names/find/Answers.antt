@@ -1,6 +1,6 @@
 use Rattle.std.proofs.Common.{◌∙◌, Some, map, rules, sym, ap}
 use Rattle.std.specs.Str.{bytes_eq}
-use Rattle.tsa_types_scope.specs.Lookups.{numbered}
+use Rattle.tsa_tree.specs.types.Lookups.{numbered}
 use Rattle.tsa_types_scope.proofs.NameLists.{unnumbered, numbered_at, position_is, from_nothing}
 use Rattle.tsa_types_scope.proofs.names.Names.find.Goals as goal
 

@@ -1,6 +1,6 @@
 use Rattle.std.proofs.Common.{take}
 use Rattle.tsa_core.specs.Programs.{Function, Program}
-use Rattle.tsa_place_paths.specs.Ways.{Way}
+use Rattle.tsa_place_model.specs.Ways.{Way}
 use Rattle.tsa_warn_function.specs.declared.spot.TheConstants.{MARK_RULES}
 use Rattle.tsa_warn_function.specs.Adding.{Adds}
 use Rattle.tsa_warn_function.specs.Spots.{IsNotedBy, IsSpotOf}

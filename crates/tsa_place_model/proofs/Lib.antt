@@ -1,0 +1,16 @@
+pub mod Standing
+pub mod Sizes
+pub mod Below
+pub mod Asking
+pub mod Later
+pub mod Rows
+pub mod Laid
+pub mod Pieces
+pub mod Leading
+pub mod TextsApart
+pub mod TextsAlong
+pub mod TextsTold
+pub mod TextsNamed
+pub mod TextsTyped
+pub mod TextsTell
+pub mod StructCounts

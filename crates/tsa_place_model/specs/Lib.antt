@@ -1,0 +1,13 @@
+pub mod Ways
+pub mod LockPaths
+pub mod Arguments
+pub mod Layouts
+pub mod Calls
+pub mod Parts
+pub mod Places
+pub mod Standing
+pub mod Stores
+pub mod Items
+pub mod GlobalPlaces
+pub mod Units
+pub mod Leading
