@@ -17,7 +17,7 @@ use Rattle.tsa_expr.specs.Gives.{Fails}
 use Rattle.tsa_expr.proofs.Answering.{fails_then, fails_same, gives_same, in_limit, over_limit}
 use Rattle.tsa_attr.specs.declared.balance.Closer.{Closer}
 use Rattle.tsa_attr.specs.declared.balance.Closer.TheVariants.{Parenthesis, Bracket, Brace}
-use Rattle.tsa_attr.specs.Seen.{row_closer, opened_by}
+use Rattle.tsa_attr.specs.Readings.{row_closer, opened_by}
 use Rattle.tsa_attr.proofs.Joining.{then-same, then-unit}
 use Rattle.tsa_attr.proofs.Openings.{going}
 

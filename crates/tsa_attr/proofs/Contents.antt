@@ -22,7 +22,7 @@ use Rattle.tsa_expr.specs.Gives.{Fails, Gives}
 use Rattle.tsa_expr.proofs.Answering.{fails_then, fails_same, gives_same, not_comma}
 use Rattle.tsa_attr.specs.Outcomes.{after, one_token, opening, arguments_at, attribute_at}
 use Rattle.tsa_attr.specs.declared.reading.Reading.{Reading}
-use Rattle.tsa_attr.specs.Seen.{made, seen}
+use Rattle.tsa_attr.specs.Readings.{made, seen}
 use Rattle.tsa_attr.proofs.Joining.{then-then, then-same, then-choose, token-law, shapes-push}
 use Rattle.tsa_attr.proofs.Openings.{going, open_wrong, open_deep, open_goes}
 

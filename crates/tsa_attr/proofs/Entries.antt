@@ -24,7 +24,7 @@ use Rattle.tsa_expr.specs.declared.refusal.SyntaxRefusal.{SyntaxRefusal}
 use Rattle.tsa_expr.specs.Gives.{Fails, Gives}
 use Rattle.tsa_expr.proofs.Answering.{fails_then, fails_same, gives_same, not_open, not_close, not_comma}
 use Rattle.tsa_attr.specs.Outcomes.{after, opening, attribute_at, ignored_at, entry_by, entry_at, entries_on}
-use Rattle.tsa_attr.specs.Seen.{passed}
+use Rattle.tsa_attr.specs.Readings.{passed}
 use Rattle.tsa_attr.proofs.Joining.{then-then, then-same, then-ok, passed_at, append-nil, after-then, after-after}
 use Rattle.tsa_attr.proofs.Openings.{going, open_deep, open_goes, opens_at}
 use Rattle.tsa_attr.proofs.Contents.{follows}

@@ -20,7 +20,7 @@ use Rattle.tsa_expr.proofs.Answering.{fails_then, fails_same, gives_same}
 use Rattle.tsa_expr.proofs.Places.{sign_within}
 use Rattle.tsa_attr.specs.Outcomes.{after, one_token, opening, arguments_at, attribute_at}
 use Rattle.tsa_tree.specs.attributes.Answers.{read_any}
-use Rattle.tsa_attr.specs.Seen.{passed}
+use Rattle.tsa_attr.specs.Readings.{passed}
 use Rattle.tsa_attr.proofs.Joining.{then-same, then-ok, append-nil, passed_at, after-then, after-then-as, after-after, after-nothing}
 use Rattle.tsa_attr.proofs.Openings.{going, opens_at}
 

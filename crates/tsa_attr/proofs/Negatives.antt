@@ -5,7 +5,7 @@ use Rattle.tsa_tree.specs.declared.expr.Expr.{Expr}
 use Rattle.tsa_tree.specs.attributes.Syntax.{without_not, without_nots, one_more}
 use Rattle.tsa_tree.specs.expressions.Syntax.{Expression, Arguments, none, more}
 use Rattle.tsa_tree.specs.expressions.Shapes.{shape, shapes}
-use Rattle.tsa_expr.specs.Seen.{joined}
+use Rattle.tsa_expr.specs.Readings.{joined}
 use Rattle.tsa_expr.proofs.Listing.{shapes-push, joined-one}
 
 pub joined-none : (front : Arguments) → joined front none ≡ front

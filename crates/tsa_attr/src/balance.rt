@@ -5,7 +5,7 @@ ghost use Rattle.tsa_tree.specs.Reads.{read};
 ghost use Rattle.tsa_tree.specs.Rows.{mark, a_skip, balanced, closer_kind};
 ghost use Rattle.tsa_expr.specs.Gives.{Gives};
 ghost use Rattle.tsa_expr.specs.Source.{input, named};
-ghost use Rattle.tsa_attr.specs.Seen.{IsBehind, passed, row_closer, opened_by};
+ghost use Rattle.tsa_attr.specs.Readings.{IsBehind, passed, row_closer, opened_by};
 
 use crate::view::is_plain;
 use tsa_base::NESTING_LIMIT;

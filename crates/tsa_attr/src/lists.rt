@@ -7,7 +7,7 @@ ghost use Rattle.tsa_tree.specs.Rows.{some_attributes, entries as entries_call};
 ghost use Rattle.tsa_expr.specs.Gives.{Gives};
 ghost use Rattle.tsa_expr.specs.Source.{input, named};
 ghost use Rattle.tsa_attr.specs.Outcomes.{after, ignored_at, entry_at};
-ghost use Rattle.tsa_attr.specs.Seen.{IsBehind, passed};
+ghost use Rattle.tsa_attr.specs.Readings.{IsBehind, passed};
 
 use crate::balance::{Closer, skip_balanced};
 use crate::reading::AttributeName;

@@ -7,7 +7,7 @@ ghost use Rattle.tsa_tree.specs.expressions.Syntax.{none, more};
 ghost use Rattle.tsa_tree.specs.expressions.Shapes.{shape, shapes};
 ghost use Rattle.tsa_tree.specs.tokens.Signs.{identifier_at};
 ghost use Rattle.tsa_expr.specs.Source.{input};
-ghost use Rattle.tsa_attr.specs.Seen.{made};
+ghost use Rattle.tsa_attr.specs.Readings.{made};
 
 use crate::reading::{AttributeName, Reading};
 use bumpalo::Bump;

@@ -7,7 +7,7 @@ ghost use Rattle.tsa_tree.specs.Rows.{some_attributes, group as group_call};
 ghost use Rattle.tsa_tree.specs.tokens.Signs.{sign_at as spec_sign};
 ghost use Rattle.tsa_expr.specs.Gives.{Gives};
 ghost use Rattle.tsa_expr.specs.Source.{input, named};
-ghost use Rattle.tsa_attr.specs.Seen.{IsBehind};
+ghost use Rattle.tsa_attr.specs.Readings.{IsBehind};
 ghost use Rattle.tsa_attr.specs.Outcomes.{after};
 
 use crate::lists::entries;

@@ -5,7 +5,7 @@ ghost use Rattle.tsa_tree.specs.attributes.Syntax.{attr_shapes};
 ghost use Rattle.tsa_expr.specs.Gives.{Gives};
 ghost use Rattle.tsa_expr.specs.Source.{input, named};
 ghost use Rattle.tsa_attr.specs.Outcomes.{after, arguments_at, attribute_at};
-ghost use Rattle.tsa_attr.specs.Seen.{IsBehind, seen};
+ghost use Rattle.tsa_attr.specs.Readings.{IsBehind, seen};
 
 use crate::nodes::{append, list_of_one, of_args, of_expressions, of_list, of_text, text_at};
 use crate::reading::{AttributeName, Reading};

@@ -8,7 +8,7 @@ ghost use Rattle.tsa_tree.specs.tokens.Signs.{identifier_at, is_plain_sign as sp
 ghost use Rattle.tsa_expr.specs.Gives.{Gives};
 ghost use Rattle.tsa_expr.specs.Source.{input, named};
 ghost use Rattle.tsa_attr.specs.Outcomes.{opening, one_token};
-ghost use Rattle.tsa_attr.specs.Seen.{passed, taking_of};
+ghost use Rattle.tsa_attr.specs.Readings.{passed, taking_of};
 
 use crate::reading::AttributeName;
 use tsa_base::NESTING_LIMIT;

@@ -34,7 +34,7 @@ use Rattle.tsa_tree.specs.types.Structs.{members_behind}
 use Rattle.tsa_tree.specs.types.Types.{single}
 use Rattle.tsa_tree.specs.types.Units.{outset, around_body, body_premises, item_premises, behind_item, items_premises}
 use Rattle.tsa_tree.specs.units.Syntax.{UnitItem, structure_item, alias_item, enumeration_item, global_item, function_item, body_item}
-use Rattle.tsa_place_model.proofs.Laid.{front_at, last_at, by_last}
+use Rattle.tsa_place_model.proofs.GlobalsInRow.{front_at, last_at, by_last}
 use Rattle.tsa_core.proofs.MappedLists.{map_at, map_length}
 use Rattle.tsa_core.specs.KindLaws.{BodiesAgree, param_kinds}
 use Rattle.tsa_core.specs.Programs.{Declared, unless_known, first_head, declared_by, declared_functions, Bodied, bodied_by, bodied_function}

@@ -21,7 +21,7 @@ use Rattle.tsa_tree.specs.types.Statements.{Around, in_a_loop, in_a_switch, for_
 use Rattle.tsa_tree.specs.types.Targets.{declared_in}
 use Rattle.tsa_core.proofs.CaseLists.{Every}
 use Rattle.tsa_core.proofs.Counts.{count_if, count_do, count_for, count_more}
-use Rattle.tsa_core.proofs.Followed.{Between, between_both, differ, test_follows, for_follows, step_follows, switch_follows}
+use Rattle.tsa_core.proofs.EdgeTargets.{Between, between_both, differ, test_follows, for_follows, step_follows, switch_follows}
 use Rattle.tsa_core.proofs.NoFailure.{none_of_both, none_of_first}
 use Rattle.tsa_core.proofs.SwitchCases.{choices, AllApart, switch_apart}
 use Rattle.tsa_core.specs.CaseLaws.{is_same_choice, ChoicesDiffer, CasesStandApart, AllStandApart}

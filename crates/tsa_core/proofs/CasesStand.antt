@@ -19,7 +19,7 @@ use Rattle.tsa_tree.specs.units.Shapes.{item_shapes}
 use Rattle.tsa_tree.specs.units.Spelling.{IsItems, no_items, of_items}
 use Rattle.tsa_tree.specs.units.Syntax.{UnitItem, structure_item, alias_item, enumeration_item, global_item, function_item, body_item}
 use Rattle.tsa_tree.proofs.declarations.NodesClimb.{climbs-local, climbs-locals}
-use Rattle.tsa_tree.proofs.expressions.Ahead.{ahead-expression, ahead-unary}
+use Rattle.tsa_tree.proofs.expressions.TokenCounts.{ahead-expression, ahead-unary}
 use Rattle.tsa_tree.proofs.tokens.Climbing.{climbs-ends}
 use Rattle.tsa_tree.proofs.tokens.Places.{AreInOrder, in_order}
 use Rattle.tsa_tree.proofs.units.Read.{well_read_sound}

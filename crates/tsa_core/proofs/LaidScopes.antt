@@ -37,7 +37,7 @@ use Rattle.tsa_place_model.proofs.Standing.{earlier_structure}
 use Rattle.tsa_place_model.specs.Items.{known_global, global_part}
 use Rattle.tsa_place_model.specs.GlobalPlaces.{with_structure, with_part}
 use Rattle.tsa_place_model.specs.Units.{data_placed}
-use Rattle.tsa_place_model.proofs.Laid.{front_at, last_at, by_last}
+use Rattle.tsa_place_model.proofs.GlobalsInRow.{front_at, last_at, by_last}
 use Rattle.tsa_core.proofs.ScopesAlike.{Alike}
 use Rattle.tsa_core.proofs.UnitScopes.{part_same, parts_same, struct_told, global_told}
 

@@ -3,14 +3,12 @@ pub mod TypedTerms
 pub mod Counts
 pub mod EdgesInside
 pub mod EdgeOutcomes
-pub mod Worked
 pub mod GoingOn
 pub mod EachScope
 pub mod KnownLocals
 pub mod LocalLists
 pub mod Beginnings
 pub mod FunctionNumbers
-pub mod Followed
 pub mod KindTests
 pub mod MappedLists
 pub mod KindsOfOperators
@@ -46,3 +44,5 @@ pub mod PointLoads
 pub mod JustLoads
 pub mod UsesOfCells
 pub mod IntRange
+pub mod BodyExamples
+pub mod EdgeTargets

@@ -24,7 +24,7 @@ use Rattle.tsa_tree.specs.types.Units.{outset, behind_item}
 use Rattle.tsa_tree.specs.units.Sound.{SoundItem, SoundItems}
 use Rattle.tsa_tree.specs.units.Syntax.{UnitItem, structure_item, alias_item, enumeration_item, global_item, function_item, body_item, names_of_item}
 use Rattle.tsa_tree.specs.types.Lookups.{params_in}
-use Rattle.tsa_place_model.proofs.Laid.{front_at, last_at}
+use Rattle.tsa_place_model.proofs.GlobalsInRow.{front_at, last_at}
 use Rattle.tsa_core.proofs.MappedLists.{map_append, map_length, map_set, map_at}
 use Rattle.tsa_core.specs.PointKinds.{Signatures}
 use Rattle.tsa_core.specs.Programs.{Declared, unless_known, first_head, declared_by, declared_functions, Bodied, bodied_by, bodied_function}

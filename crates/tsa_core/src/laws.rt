@@ -29,25 +29,25 @@ pub fn outcomes_are_of_the_actions()
 {}
 
 /// Statements lead from point to point as they are written.
-#[tactic(auto, using(crate::proofs::Worked::control_is_as_written))]
+#[tactic(auto, using(crate::proofs::BodyExamples::control_is_as_written))]
 pub fn control_is_as_written()
     ensures { ControlIsAsWritten }
 {}
 
 /// Points do what is written there.
-#[tactic(auto, using(crate::proofs::Worked::points_are_as_written))]
+#[tactic(auto, using(crate::proofs::BodyExamples::points_are_as_written))]
 pub fn points_are_as_written()
     ensures { PointsAreAsWritten }
 {}
 
 /// Points read and write what is written there, each with its guards, and hand on the paths of arguments.
-#[tactic(auto, using(crate::proofs::Worked::uses_are_as_written))]
+#[tactic(auto, using(crate::proofs::BodyExamples::uses_are_as_written))]
 pub fn uses_are_as_written()
     ensures { UsesAreAsWritten }
 {}
 
 /// Units have the locks, the functions and the attributes that are written.
-#[tactic(auto, using(crate::proofs::Worked::programs_are_as_written))]
+#[tactic(auto, using(crate::proofs::BodyExamples::programs_are_as_written))]
 pub fn programs_are_as_written()
     ensures { ProgramsAreAsWritten }
 {}

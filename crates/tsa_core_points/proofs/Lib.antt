@@ -1,9 +1,9 @@
 pub mod Closing
 pub mod Passing
-pub mod Written
 pub mod Blocks
 pub mod Meanings
 pub mod UsesKept
-pub mod Known
 pub mod LocalNames
 pub mod StepLists
+pub mod PointsOfTexts
+pub mod PointsOfCore

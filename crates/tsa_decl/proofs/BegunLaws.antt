@@ -19,7 +19,7 @@ use Rattle.tsa_attr.proofs.Joining.{token-law}
 use Rattle.tsa_decl_declarators.specs.Outcomes.{after, one_token}
 use Rattle.tsa_decl.specs.declared.items.Begun.{Begun}
 use Rattle.tsa_decl.specs.Outcomes.{finished}
-use Rattle.tsa_decl.specs.Seen.{seen_begun}
+use Rattle.tsa_decl.specs.Readings.{seen_begun}
 use Rattle.tsa_decl_declarators.proofs.ListLaws.{map-push, after-over}
 
 -- what a `?` passes on

@@ -8,8 +8,8 @@ ghost use Rattle.tsa_expr.specs.Source.{input, named};
 ghost use Rattle.tsa_expr.specs.Gives.{Gives};
 ghost use Rattle.tsa_decl_declarators.specs.Outcomes.{after};
 ghost use Rattle.tsa_decl.specs.Outcomes.{going_items, body_at, alias_name_at, structure_at, enumeration_at, opening_at as spec_opening};
-ghost use Rattle.tsa_decl_declarators.specs.Seen.{row_type};
-ghost use Rattle.tsa_decl.specs.Seen.{seen_body, seen_named, seen_opening};
+ghost use Rattle.tsa_decl_declarators.specs.Readings.{row_type};
+ghost use Rattle.tsa_decl.specs.Readings.{seen_body, seen_named, seen_opening};
 
 use crate::constants::enum_body;
 use crate::lists::members;

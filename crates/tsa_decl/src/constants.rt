@@ -7,7 +7,7 @@ ghost use Rattle.tsa_expr.specs.Source.{input, named};
 ghost use Rattle.tsa_expr.specs.Gives.{Gives};
 ghost use Rattle.tsa_decl_declarators.specs.Outcomes.{after};
 ghost use Rattle.tsa_decl.specs.Outcomes.{constant_at as spec_constant};
-ghost use Rattle.tsa_decl.specs.Seen.{seen_constant};
+ghost use Rattle.tsa_decl.specs.Readings.{seen_constant};
 
 use bumpalo::Bump;
 use tsa_expr::{Reader, SyntaxCode, SyntaxRefusal, refuse};

@@ -10,8 +10,8 @@ ghost use Rattle.tsa_expr.specs.Source.{input, named};
 ghost use Rattle.tsa_expr.specs.Gives.{Gives};
 ghost use Rattle.tsa_decl_declarators.specs.Outcomes.{after};
 ghost use Rattle.tsa_decl.specs.Outcomes.{parameter_with, storage_at, parameter_at as spec_parameter, head_end_at};
-ghost use Rattle.tsa_decl_declarators.specs.Seen.{row_type, row_declarator};
-ghost use Rattle.tsa_decl.specs.Seen.{seen_parameter, seen_signature, row_signature};
+ghost use Rattle.tsa_decl_declarators.specs.Readings.{row_type, row_declarator};
+ghost use Rattle.tsa_decl.specs.Readings.{seen_parameter, seen_signature, row_signature};
 
 use bumpalo::Bump;
 use tsa_attr::read_groups;

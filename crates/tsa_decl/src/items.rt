@@ -10,8 +10,8 @@ ghost use Rattle.tsa_expr.specs.Source.{input, named};
 ghost use Rattle.tsa_expr.specs.Gives.{Gives, Leads};
 ghost use Rattle.tsa_decl_declarators.specs.Outcomes.{after};
 ghost use Rattle.tsa_decl.specs.Outcomes.{finished, going_items, other_item_at};
-ghost use Rattle.tsa_decl_declarators.specs.Seen.{row_type};
-ghost use Rattle.tsa_decl.specs.Seen.{seen_begun};
+ghost use Rattle.tsa_decl_declarators.specs.Readings.{row_type};
+ghost use Rattle.tsa_decl.specs.Readings.{seen_begun};
 
 use crate::bodies::{Opening, enumeration, opening_at, plain_alias, structure};
 use crate::heads::{behind_storage, head_behind};

@@ -9,7 +9,7 @@ ghost use Rattle.tsa_expr.specs.Source.{input, named};
 ghost use Rattle.tsa_expr.specs.Gives.{Gives};
 ghost use Rattle.tsa_decl_declarators.specs.Outcomes.{after};
 ghost use Rattle.tsa_decl.specs.Outcomes.{globals_at};
-ghost use Rattle.tsa_decl_declarators.specs.Seen.{row_type, row_declarator};
+ghost use Rattle.tsa_decl_declarators.specs.Readings.{row_type, row_declarator};
 
 use crate::nodes::{cut_if_refused, keep_global, length_of};
 use bumpalo::Bump;

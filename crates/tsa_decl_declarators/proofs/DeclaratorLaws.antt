@@ -21,7 +21,7 @@ use Rattle.tsa_expr.specs.Gives.{Fails}
 use Rattle.tsa_expr.proofs.Answering.{fails_then, fails_same, in_limit, over_limit, not_close_bracket}
 use Rattle.tsa_decl_declarators.specs.declared.declarators.Star.{Star}
 use Rattle.tsa_decl_declarators.specs.Outcomes.{name_at, star_at, length_at}
-use Rattle.tsa_decl_declarators.specs.Seen.{seen_star}
+use Rattle.tsa_decl_declarators.specs.Readings.{seen_star}
 use Rattle.tsa_decl_declarators.proofs.Pieces.{star_then}
 use Rattle.tsa_decl_declarators.proofs.TokenLaws.{name_wrong, name_goes}
 

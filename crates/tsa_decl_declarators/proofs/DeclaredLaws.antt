@@ -21,7 +21,7 @@ use Rattle.tsa_attr.proofs.Joining.{then-then, then-same, then-ok}
 use Rattle.tsa_decl_declarators.specs.declared.declarations.Role as read_role
 use Rattle.tsa_decl_declarators.specs.declared.declarations.Role.TheVariants.{Member, Global}
 use Rattle.tsa_decl_declarators.specs.Outcomes.{going, length_at, init_at, suffix_at, delimiter_at}
-use Rattle.tsa_decl_declarators.specs.Seen.{row_role}
+use Rattle.tsa_decl_declarators.specs.Readings.{row_role}
 use Rattle.tsa_decl_declarators.proofs.TokenLaws.{not_equals}
 use Rattle.tsa_decl_declarators.proofs.Pieces.{length_then, attributes_then}
 

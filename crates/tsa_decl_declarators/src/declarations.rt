@@ -10,7 +10,7 @@ ghost use Rattle.tsa_tree.specs.expressions.Shapes.{shape};
 ghost use Rattle.tsa_expr.specs.Source.{input, named};
 ghost use Rattle.tsa_expr.specs.Gives.{Gives};
 ghost use Rattle.tsa_decl_declarators.specs.Outcomes.{init_at, suffix_at as spec_suffix, delimiter_at};
-ghost use Rattle.tsa_decl_declarators.specs.Seen.{seen_init, seen_suffix, seen_declared, row_role, role_depth, row_type, row_declarator};
+ghost use Rattle.tsa_decl_declarators.specs.Readings.{seen_init, seen_suffix, seen_declared, row_role, role_depth, row_type, row_declarator};
 
 use crate::declarator::Declarator;
 use crate::declarators::length_at;

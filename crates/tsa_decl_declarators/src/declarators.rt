@@ -7,7 +7,7 @@ ghost use Rattle.tsa_tree.specs.tokens.Signs.{sign_at as spec_sign};
 ghost use Rattle.tsa_expr.specs.Source.{input, named};
 ghost use Rattle.tsa_expr.specs.Gives.{Gives};
 ghost use Rattle.tsa_decl_declarators.specs.Outcomes.{star_at as spec_star, length_at as spec_length};
-ghost use Rattle.tsa_decl_declarators.specs.Seen.{seen_star, seen_declarator, seen_length};
+ghost use Rattle.tsa_decl_declarators.specs.Readings.{seen_star, seen_declarator, seen_length};
 
 use crate::declarator::Declarator;
 use crate::nodes::kept_in;

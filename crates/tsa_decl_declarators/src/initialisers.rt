@@ -7,7 +7,7 @@ ghost use Rattle.tsa_tree.specs.Rows.{an_initialiser, initialiser as initialiser
 ghost use Rattle.tsa_expr.specs.Source.{input, named};
 ghost use Rattle.tsa_expr.specs.Gives.{Gives};
 ghost use Rattle.tsa_decl_declarators.specs.Outcomes.{values_after, braced_at, expression_at};
-ghost use Rattle.tsa_decl_declarators.specs.Seen.{seen_value};
+ghost use Rattle.tsa_decl_declarators.specs.Readings.{seen_value};
 
 use crate::nodes::{keep, listed};
 use crate::view::is_close_brace_at;

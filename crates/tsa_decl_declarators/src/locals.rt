@@ -6,7 +6,7 @@ ghost use Rattle.tsa_tree.specs.Rows.{a_variable, some_declarations, variable as
 ghost use Rattle.tsa_expr.specs.Source.{input, named};
 ghost use Rattle.tsa_expr.specs.Gives.{Gives};
 ghost use Rattle.tsa_decl_declarators.specs.Outcomes.{after, value_at, variables_at};
-ghost use Rattle.tsa_decl_declarators.specs.Seen.{seen_init, seen_local, row_type};
+ghost use Rattle.tsa_decl_declarators.specs.Readings.{seen_init, seen_local, row_type};
 
 use crate::declarators::{declarator_at, length_at};
 use crate::declarations::{Initialisation, Suffix, declaration, no_initialiser, some_initialiser};

@@ -8,7 +8,7 @@ ghost use Rattle.tsa_tree.specs.declared.sign.Keyword.TheVariants as key;
 ghost use Rattle.tsa_expr.specs.Source.{input, named};
 ghost use Rattle.tsa_expr.specs.Gives.{Gives};
 ghost use Rattle.tsa_decl_declarators.specs.Outcomes.{consts_at, behind_int as spec_behind_int, base_by, specified_at as spec_specified};
-ghost use Rattle.tsa_decl_declarators.specs.Seen.{seen_base, seen_specified};
+ghost use Rattle.tsa_decl_declarators.specs.Readings.{seen_base, seen_specified};
 
 use crate::view::{is_const, is_int_at, tag};
 use tsa_expr::{Reader, SyntaxCode, SyntaxRefusal, refuse};

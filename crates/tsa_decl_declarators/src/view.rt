@@ -7,8 +7,8 @@ ghost use Rattle.tsa_tree.specs.declared.sign.Keyword.TheVariants as key;
 ghost use Rattle.tsa_expr.specs.Source.{input, named};
 ghost use Rattle.tsa_expr.specs.Gives.{Gives};
 ghost use Rattle.tsa_decl_declarators.specs.Outcomes.{name_at as spec_name, tag_at as spec_tag, one_token, opening, opening_brace};
-ghost use Rattle.tsa_attr.specs.Seen.{passed};
-ghost use Rattle.tsa_decl_declarators.specs.Seen.{seen_name};
+ghost use Rattle.tsa_attr.specs.Readings.{passed};
+ghost use Rattle.tsa_decl_declarators.specs.Readings.{seen_name};
 
 use tsa_base::NESTING_LIMIT;
 use tsa_expr::{Reader, SyntaxCode, SyntaxRefusal, refuse};

@@ -14,7 +14,7 @@ use Rattle.tsa_tree.specs.expressions.Shapes.{shape, shapes}
 use Rattle.tsa_tree.specs.tokens.Signs.{Aliases, sign_at}
 use Rattle.tsa_expr.specs.declared.refusal.SyntaxRefusal.{SyntaxRefusal}
 use Rattle.tsa_expr.specs.Gives.{Fails}
-use Rattle.tsa_expr.specs.Seen.{joined, after}
+use Rattle.tsa_expr.specs.Readings.{joined, after}
 use Rattle.tsa_expr.proofs.Answering.{fails_then, fails_same, gives_same, not_close, not_comma}
 use Rattle.tsa_expr.proofs.Places.{read_ends}
 

@@ -4,7 +4,7 @@ use Rattle.std.proofs.lemmas.List.{map-append}
 use Rattle.std.specs.List.{list_any}
 use Rattle.std.specs.Str.{bytes_eq}
 use Rattle.indexmap.specs.IndexSet.{insert_key}
-use Rattle.tsa_expr.specs.Known.{with_name}
+use Rattle.tsa_expr.specs.TypeNames.{with_name}
 
 module _ {A : Type 0} (name : A → List ℕ) where
   -- a text is one of the names where a key has it as its name

@@ -2,7 +2,7 @@
 use Rattle.std.specs.Prelude.{List}
 use Rattle.tsa_base.specs.Tokens.{Lexeme}
 use Rattle.tsa_tree.specs.tokens.Signs.{Aliases, lexemes}
-use Rattle.tsa_expr.specs.Known.{known}
+use Rattle.tsa_expr.specs.TypeNames.{known}
 use Rattle.tsa_expr.specs.declared.source.Reader.{Reader}
 
 -- the tokens

@@ -2,7 +2,7 @@
 ghost use Rattle.std.specs.Prelude.{◌≡◌, [], OnOk, OnErr};
 ghost use Rattle.std.specs.List.{list_any};
 ghost use Rattle.std.specs.Str.{bytes_eq};
-ghost use Rattle.tsa_expr.specs.Known.{with_name};
+ghost use Rattle.tsa_expr.specs.TypeNames.{with_name};
 
 use indexmap::IndexSet;
 use std::alloc::Global;

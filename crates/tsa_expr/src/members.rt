@@ -4,7 +4,7 @@ ghost use Rattle.tsa_tree.specs.Reads.{read_behind};
 ghost use Rattle.tsa_tree.specs.expressions.Shapes.{shape};
 ghost use Rattle.tsa_tree.specs.tokens.Signs.{sign_at, access};
 ghost use Rattle.tsa_expr.specs.Gives.{Leads};
-ghost use Rattle.tsa_expr.specs.Seen.{seen};
+ghost use Rattle.tsa_expr.specs.Readings.{seen};
 
 use crate::reading::Reading;
 use crate::refusal::{SyntaxCode, SyntaxRefusal, refuse};

@@ -8,7 +8,7 @@ ghost use Rattle.tsa_tree.specs.Rows.{an_expression, some_arguments, expression 
 ghost use Rattle.tsa_tree.specs.expressions.Shapes.{shape, shapes};
 ghost use Rattle.tsa_tree.specs.tokens.Signs.{sign_at, prefix as spec_prefix};
 ghost use Rattle.tsa_expr.specs.Gives.{Gives, Leads};
-ghost use Rattle.tsa_expr.specs.Seen.{seen, seen_list, after};
+ghost use Rattle.tsa_expr.specs.Readings.{seen, seen_list, after};
 
 use crate::nodes::{append, into_arena};
 use crate::reading::{ArgumentList, Extent, Reading};

@@ -3,7 +3,7 @@ ghost use Rattle.std.specs.Prelude.{◌≡◌, [], ◌∷◌};
 ghost use Rattle.std.specs.List.{list_any};
 ghost use Rattle.std.specs.Str.{bytes_eq};
 ghost use Rattle.tsa_tree.specs.tokens.Signs.{sign_of as spec_sign, word_sign as spec_word, punctuator_sign, prefix as spec_prefix};
-ghost use Rattle.tsa_expr.specs.Known.{known};
+ghost use Rattle.tsa_expr.specs.TypeNames.{known};
 
 use crate::aliases::Aliases;
 use crate::words::reserved_sign;

@@ -31,7 +31,7 @@ use Rattle.tsa_flow_function.specs.declared.RuleView.{RuleView}
 use Rattle.tsa_flow_function.specs.declared.function.FunctionFlow.{FunctionFlow}
 use Rattle.tsa_flow_function.specs.Numbers.{IsFlowBy, IsFlowIn}
 use Rattle.tsa_flow.specs.Units.{told_at, here, IsAhead, IsBodyOf, IsNext, IsTold, left, told}
-use Rattle.tsa_flow_function.proofs.Numbered.{Found}
+use Rattle.tsa_flow_function.proofs.FunctionNumbers.{Found}
 
 module _ (items : List UnitItem) (flows : List (Option FunctionFlow)) where
   -- in front of the first item nothing is told

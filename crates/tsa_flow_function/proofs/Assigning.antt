@@ -6,7 +6,7 @@ use Rattle.std.proofs.lemmas.List.{length-append}
 use Rattle.std.proofs.lemmas.List.Elements.{All-contains, All-get_or, All-nil, All-push, All-weaker}
 use Rattle.tsa_rules.specs.Cases.{entry_in}
 use Rattle.tsa_rules.specs.declared.status.Status.{Status}
-use Rattle.tsa_flow_function.proofs.Claimed.{all_claims, never_claimed, never_tried}
+use Rattle.tsa_flow_function.proofs.ClaimLists.{all_claims, never_claimed, never_tried}
 use Rattle.tsa_flow_function.specs.Claims.{noted}
 use Rattle.tsa_flow_function.specs.ClaimLanes.{AreLanesAt}
 use Rattle.tsa_rules_roles.specs.Roles.{begin_in}
@@ -15,7 +15,7 @@ use Rattle.tsa_rules_view.specs.declared.content.RuleView.{RuleView}
 use Rattle.tsa_rules_view.specs.Views.{case_in, kept_from, lock_in}
 use Rattle.tsa_flow_function.specs.declared.table.Idle.{Idle}
 use Rattle.tsa_flow_function.specs.declared.table.LaneTable.{LaneTable}
-use Rattle.tsa_flow_function.specs.Idle.{IsIdle, shared_with}
+use Rattle.tsa_flow_function.specs.IdlePaths.{IsIdle, shared_with}
 use Rattle.tsa_flow_function.specs.Lanes.{alike, AreAssigned, AreClaimed, AreIdle, cap_of, fresh, GoesWith, IsAdded, IsAssigned, IsFound, known, same}
 
 at_end : {A : Type 0} (xs : List A) (x : A) → slice_get (xs ++ x ∷ []) (length xs) ≡ Some x

@@ -7,7 +7,7 @@ use Rattle.tsa_rules.specs.declared.case.Role.{Role}
 use Rattle.tsa_rules.specs.declared.mark.Claim.{Claim}
 use Rattle.tsa_rules.specs.declared.status.Status.{Status}
 use Rattle.tsa_rules_view.specs.declared.content.RuleView.{RuleView}
-use Rattle.tsa_flow_function.specs.Idle.{IsIdle}
+use Rattle.tsa_flow_function.specs.IdlePaths.{IsIdle}
 
 -- a point that doesn't claim the path changes its status by its role alone
 by_role : (x : Case) (r : Role) (k : Option Claim) (a : Option Claim) → x.role ≡ r → x.kept ≡ k → x.mark.claim ≡ a → (o : Outcome) (s : Status)

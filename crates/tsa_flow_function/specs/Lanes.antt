@@ -8,7 +8,7 @@ use Rattle.tsa_rules_table.specs.Rows.{rows_in}
 use Rattle.tsa_rules_view.specs.Views.{case_in, lock_in}
 use Rattle.tsa_rules_view.specs.declared.content.RuleView.{RuleView}
 use Rattle.tsa_flow_function.specs.declared.table.LaneTable.{LaneTable}
-use Rattle.tsa_flow_function.specs.Idle.{IsIdle, shared_with}
+use Rattle.tsa_flow_function.specs.IdlePaths.{IsIdle, shared_with}
 
 -- the path of a lane
 abbrev pub cap_of : List ℕ → (lane : ℕ) → ℕ

@@ -1,6 +1,6 @@
 //! Which paths of a function go in which lane.
 ghost use Rattle.std.specs.Prelude.{◌≡◌, ◌+◌, ◌++◌, ◌∷◌, ℕ, [], Contains, length, slice_get, slice_index_or, IfOk, IfSome, OnOk};
-ghost use Rattle.tsa_flow_function.specs.Idle.{IsIdle, shared_with};
+ghost use Rattle.tsa_flow_function.specs.IdlePaths.{IsIdle, shared_with};
 ghost use Rattle.tsa_flow_function.specs.Lanes.{AreAssigned, AreIdle, IsAdded, IsFound};
 ghost use Rattle.tsa_rules.specs.Cases.{entry_in};
 ghost use Rattle.tsa_rules_view.specs.Views.{case_in, lock_in};

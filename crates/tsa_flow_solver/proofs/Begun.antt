@@ -10,7 +10,7 @@ use Rattle.tsa_rules.proofs.SetBits.{empty_has_none, has_or}
 use Rattle.tsa_flow_solver.specs.Rows.{IsTakenIn, lane_of, no_statuses, row_at, set_at, union}
 use Rattle.tsa_flow_solver.specs.Turns.{HaveBegun}
 use Rattle.tsa_flow_solver.proofs.Grids.{lane_at, lane_same, lane_taken}
-use Rattle.tsa_flow_solver.proofs.Joined.{only_with_more, takes_with_more}
+use Rattle.tsa_flow_solver.proofs.JoinsOfSets.{only_with_more, takes_with_more}
 use Rattle.tsa_flow_solver.proofs.Slots.{one_there}
 
 module _ (entry : Status) (blocks : Blocks) (grid : List (List Statuses)) (l : ℕ) (empty : (c m : ℕ) → set_at (row_at grid c) m ≡ no_statuses) where

@@ -19,7 +19,7 @@ use Rattle.tsa_flow_solver.specs.Courses.{Leaves, leaving}
 use Rattle.tsa_flow_solver.specs.Passing.{IsCarried}
 use Rattle.tsa_flow_solver.specs.Rows.{set_at}
 use Rattle.tsa_flow_solver.specs.Joining.{IsInPlace}
-use Rattle.tsa_flow_solver.proofs.Compared.{and_then, as_others, none_compared, Same}
+use Rattle.tsa_flow_solver.proofs.EdgeComparisons.{and_then, as_others, none_compared, Same}
 use Rattle.tsa_flow_solver.proofs.Slots.{one_there}
 
 same_itself : (A : Status → Type 0) → Same A A

@@ -20,7 +20,7 @@ use Rattle.tsa_flow_solver.specs.Joining.{IsInPlace}
 use Rattle.tsa_flow_solver.specs.Turns.{AreClosed, AreOpen, AreSound, HaveBegun, IsClosedBy}
 use Rattle.tsa_flow_solver.proofs.Slots.{one_there}
 use Rattle.tsa_flow_solver.proofs.Standing.{at_place, is_passed}
-use Rattle.tsa_flow_solver.proofs.Stepped.{at_start, walks, walks_carried}
+use Rattle.tsa_flow_solver.proofs.LongerWalks.{at_start, walks, walks_carried}
 
 -- nothing comes of nothing
 none_carried : (cases : ℕ → Case) (b : Block) (set : Statuses) → ((s : Status) → Has set s → ⊥) → (i : ℕ) (s : Status) → Carried cases b set i s → ⊥

@@ -1,4 +1,3 @@
-mod Alike
 pub mod Slots
 pub mod Lacking
 pub mod Taking
@@ -7,14 +6,15 @@ pub mod Paid
 pub mod Still
 pub mod Pending
 pub mod Carrying
-pub mod Joined
 pub mod Spreading
-pub mod Stepped
 pub mod Turning
 pub mod Standing
 pub mod Complete
 pub mod Settling
 pub mod Begun
-pub mod Compared
 pub mod Comparing
 pub mod Meeting
+pub mod EdgeComparisons
+pub mod JoinsOfSets
+mod RowEquality
+pub mod LongerWalks

@@ -22,7 +22,7 @@ use Rattle.tsa_flow_solver.specs.Joining.{AreJoined, IsInPlace}
 use Rattle.tsa_flow_solver.specs.Rows.{flag_at, set_at}
 use Rattle.tsa_flow_solver.proofs.Slots.{all_there, one_there}
 use Rattle.tsa_flow_solver.proofs.Standing.{at_place, exact_along, first_stands, not_entered, only_from, is_passed, same_block, same_index}
-use Rattle.tsa_flow_solver.proofs.Stepped.{at_start, walks}
+use Rattle.tsa_flow_solver.proofs.LongerWalks.{at_start, walks}
 
 module _ (n : ℕ) (es : List control.Edge) (entry : Status) (cases : ℕ → Case) (r : Blocks) (are : AreBlocksOf n es r) where
   -- the last edge of a walk

@@ -11,7 +11,7 @@ use Rattle.tsa_flow_solver.specs.Fronts.{HasMore}
 use Rattle.tsa_flow_solver.specs.Passing.{ArePoints}
 use Rattle.tsa_flow_solver.specs.Turns.{AreOpen, AreSound, HaveBegun, IsTurn}
 use Rattle.tsa_flow_solver.proofs.Complete.{open_first, sound_first}
-use Rattle.tsa_flow_solver.proofs.Stepped.{walks}
+use Rattle.tsa_flow_solver.proofs.LongerWalks.{walks}
 use Rattle.tsa_flow_solver.proofs.Turning.{open_on, sound_on}
 
 -- in one lane

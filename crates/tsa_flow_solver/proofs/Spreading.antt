@@ -9,7 +9,7 @@ use Rattle.tsa_flow_solver.specs.Fronts.{AreSpread, HasTakenIn}
 use Rattle.tsa_flow_solver.specs.Passing.{ArePoints, IsLeft}
 use Rattle.tsa_flow_solver.specs.Rows.{AreWide, IsTakenIn, lane_of, row_at, set_at, union}
 use Rattle.tsa_flow_solver.proofs.Grids.{lane_long, lane_same, lane_taken, row_long}
-use Rattle.tsa_flow_solver.proofs.Joined.{as_before, exit_out, has_grown, none_out, Waits}
+use Rattle.tsa_flow_solver.proofs.JoinsOfSets.{as_before, exit_out, has_grown, none_out, Waits}
 use Rattle.tsa_flow_solver.proofs.Paid.{none_paid, one_paid}
 
 pub none_spread : (n points : ℕ) (cases : ℕ → ℕ → Case) (b : Block) (last : List Statuses) (rows : List (List Statuses)) (work : List ℕ) → AreWide n rows

@@ -16,7 +16,7 @@ use Rattle.tsa_flow_solver.specs.Courses.{Carried}
 use Rattle.tsa_flow_solver.specs.Rows.{set_at}
 use Rattle.tsa_flow_solver.specs.Joining.{IsInPlace}
 use Rattle.tsa_flow_solver.proofs.Slots.{all_there, one_there}
-use Rattle.tsa_flow_solver.proofs.Stepped.{at_entry, by_edge, LastEdge, last_edge, carried_sound, walks}
+use Rattle.tsa_flow_solver.proofs.LongerWalks.{at_entry, by_edge, LastEdge, last_edge, carried_sound, walks}
 
 pub same_index : {c d i j : ℕ} → place c i ≡ place d j → i ≡ j
 same_index e = ap (λ (x : Place). x.index) e

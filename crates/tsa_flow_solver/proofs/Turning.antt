@@ -17,7 +17,7 @@ use Rattle.tsa_flow_solver.specs.Fronts.{IsBrought}
 use Rattle.tsa_flow_solver.specs.Rows.{set_at}
 use Rattle.tsa_flow_solver.specs.Turns.{AreOpen, AreSound, IsClosedBy, IsTurn}
 use Rattle.tsa_flow_solver.proofs.Slots.{all_there, one_there}
-use Rattle.tsa_flow_solver.proofs.Stepped.{carried_sound, one_edge_more, walks}
+use Rattle.tsa_flow_solver.proofs.LongerWalks.{carried_sound, one_edge_more, walks}
 
 module _ (cases : ℕ → Case) (blocks : List Block) (number : ℕ) (old new : List Statuses) (work work' : List ℕ) (turn : IsTurn cases blocks number old new work work') (keeps : (c : ℕ) → Contains work c → Contains work' c) where
   abbrev b : Block

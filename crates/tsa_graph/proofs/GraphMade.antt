@@ -14,8 +14,8 @@ use Rattle.tsa_graph.specs.declared.entries.Edge as code
 use Rattle.tsa_graph.specs.Arcs.{exit_of, entry_of, AreArcs, to_one, next_by, next_in}
 use Rattle.tsa_graph.specs.Edges.{edges_from, edges_into, IsStep}
 use Rattle.tsa_graph.specs.Graphs.{IsRun, IsBlock, AreBlocks, points_in, IsGraph}
-use Rattle.tsa_graph.specs.Inner.{outcome_of_one, inner_of}
-use Rattle.tsa_graph.specs.Made.{IsMade, AreMade}
+use Rattle.tsa_graph.specs.InnerOutcomes.{outcome_of_one, inner_of}
+use Rattle.tsa_graph.specs.BlocksOfRuns.{IsMade, AreMade}
 
 pub made_push : (ins : List (List code.Edge)) (bs : List GraphBlock) (runs : List (List ℕ)) (b : GraphBlock) (run : List ℕ) → AreMade ins bs runs → IsMade ins b run → AreMade ins (bs ++ b ∷ []) (runs ++ run ∷ [])
 made_push ins [] [] b run h g = (g, tt)

@@ -18,8 +18,8 @@ use Rattle.tsa_graph.specs.declared.sequence.Block.{Block}
 use Rattle.tsa_graph.specs.declared.sequence.Blocks.{Blocks}
 use Rattle.tsa_graph.specs.declared.sequence.Exit.{Exit}
 use Rattle.tsa_graph.specs.declared.sequence.Place.{Place}
-use Rattle.tsa_graph.specs.Between.{AreBetween}
-use Rattle.tsa_graph.specs.Formed.{IsFormed, AreFormed}
+use Rattle.tsa_graph.specs.InnerEdges.{AreBetween}
+use Rattle.tsa_graph.specs.BlockForms.{IsFormed, AreFormed}
 use Rattle.tsa_graph.specs.Joining.{AreJoined}
 use Rattle.tsa_graph.specs.Noting.{block_at, exit_by, IsExit, AreExits}
 use Rattle.tsa_graph.specs.Placing.{AreSmall, IsPlaced}

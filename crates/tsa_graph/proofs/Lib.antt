@@ -1,11 +1,9 @@
 pub mod EntryLists
-pub mod Noted
 pub mod WaysMade
 pub mod GraphMade
 pub mod Lists
 pub mod Paths
 pub mod Rounds
-pub mod Whole
 mod Members
 mod Counts
 mod Sizes
@@ -14,3 +12,5 @@ mod Leaving
 mod Joins
 mod InARow
 mod RunLists
+pub mod FurtherRuns
+pub mod FurtherEdges

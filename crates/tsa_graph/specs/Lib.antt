@@ -1,13 +1,13 @@
 pub mod Edges
 pub mod Arcs
-pub mod Inner
-pub mod Made
 pub mod Graphs
 pub mod Runs
 pub mod Tracing
-pub mod Between
-pub mod Formed
 pub mod Rows
 pub mod Placing
 pub mod Noting
 pub mod Joining
+pub mod InnerOutcomes
+pub mod InnerEdges
+pub mod BlocksOfRuns
+pub mod BlockForms

@@ -1,6 +1,6 @@
 //! The control of a body as a graph with longest blocks.
 ghost use Rattle.std.specs.Prelude.{◌≡◌, [], length, map, slice_index_or, IfOk, OnOk};
-ghost use Rattle.tsa_graph.specs.Inner.{outcome_of_one, inner_of};
+ghost use Rattle.tsa_graph.specs.InnerOutcomes.{outcome_of_one, inner_of};
 ghost use Rattle.tsa_graph.specs.Runs.{first_of as spec_first_of};
 
 use crate::entries::{Edge, Entries};

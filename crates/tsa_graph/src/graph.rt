@@ -2,7 +2,7 @@
 ghost use Rattle.std.specs.Prelude.{◌≡◌, ◌+◌, map, IfOk};
 ghost use Rattle.tsa_core.specs.Control.{body_edges, count_all};
 ghost use Rattle.tsa_graph.specs.Graphs.{IsGraph};
-ghost use Rattle.tsa_graph.specs.Made.{AreMade};
+ghost use Rattle.tsa_graph.specs.BlocksOfRuns.{AreMade};
 ghost use Rattle.tsa_graph_edges.specs.Links.{edge_of};
 ghost use Rattle.tsa_tree.specs.statements.Shapes.{stmt_shapes};
 

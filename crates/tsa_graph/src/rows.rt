@@ -1,6 +1,6 @@
 //! The blocks of a graph in a row.
 ghost use Rattle.std.specs.Prelude.{◌≡◌, List, length, IfOk};
-ghost use Rattle.tsa_graph.specs.Between.{AreBetween};
+ghost use Rattle.tsa_graph.specs.InnerEdges.{AreBetween};
 ghost use Rattle.tsa_graph.specs.Joining.{IsJoined, AreJoined};
 ghost use Rattle.tsa_graph.specs.Rows.{AreBlocksOf};
 ghost use Rattle.tsa_core.specs.Control.{Edge};

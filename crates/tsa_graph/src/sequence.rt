@@ -1,5 +1,5 @@
 //! Blocks with their exits, and the places of points.
-ghost use Rattle.tsa_graph.specs.Formed.{AreFormed};
+ghost use Rattle.tsa_graph.specs.BlockForms.{AreFormed};
 
 use tsa_graph_edges::Outcome;
 

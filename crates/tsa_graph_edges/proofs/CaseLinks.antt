@@ -4,7 +4,7 @@ use Rattle.std.proofs.lemmas.List.{reverse-append}
 use Rattle.std.proofs.Math.Seq.{take-suc}
 use Rattle.std.specs.List.{list_any}
 use Rattle.tsa_core.specs.Control.{Edge, Cases, case_edge, case_edges, has_default}
-use Rattle.tsa_graph_edges.proofs.Turned.{cases}
+use Rattle.tsa_graph_edges.proofs.LastFirst.{cases}
 use Rattle.tsa_graph_edges.specs.declared.successors.Case.{Case}
 use Rattle.tsa_graph_edges.specs.Marks.{case_of}
 

@@ -1,5 +1,5 @@
-pub mod Turned
 pub mod CaseLinks
 pub mod LabelLists
-pub mod Alike
 pub mod Putting
+pub mod SameControl
+pub mod LastFirst

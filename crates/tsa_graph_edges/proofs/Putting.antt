@@ -21,8 +21,8 @@ use Rattle.tsa_tree.specs.types.Statements.{behind, behind_init}
 use Rattle.tsa_tree.specs.types.Targets.{declared_in, Labels}
 use Rattle.tsa_core.proofs.Counts.{count_if, count_do, count_for, count_more}
 use Rattle.tsa_core.specs.Control.{Edge, edge, Next, or_follow, count, count_all, first, first_all, test_at, step_at, inner_at, again_at, labels, labels_all, Cases, a_case, cases, cases_all, Targets, label_at, tested_edges, for_edges, step_edges, switch_edges, edges, edges_all, body_edges}
-use Rattle.tsa_graph_edges.proofs.Alike.{Kept, kept_same, kept_further, kept_behind, kept_init, edges_alike, all_edges_alike, for_alike, jumps}
-use Rattle.tsa_graph_edges.specs.Ahead.{Ahead, ahead, with_edges, with_cases, with_labels, set_edges, set_cases, with_statement, with_statements}
+use Rattle.tsa_graph_edges.proofs.SameControl.{Kept, kept_same, kept_further, kept_behind, kept_init, edges_alike, all_edges_alike, for_alike, jumps}
+use Rattle.tsa_graph_edges.specs.Successors.{Ahead, ahead, with_edges, with_cases, with_labels, set_edges, set_cases, with_statement, with_statements}
 use Rattle.tsa_graph_edges.specs.declared.walk.Spot.{Spot}
 use Rattle.tsa_graph_edges.specs.declared.walk.Start.{Start}
 use Rattle.tsa_graph_edges.specs.Spots.{targets_at, IsPut, ArePut}

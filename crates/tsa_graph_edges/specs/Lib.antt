@@ -1,4 +1,4 @@
 pub mod Links
 pub mod Marks
-pub mod Ahead
 pub mod Spots
+pub mod Successors

@@ -2,7 +2,7 @@
 use Rattle.std.specs.Prelude.{◌≡◌, ◌+◌}
 use Rattle.tsa_tree.specs.statements.Syntax.{Statement, Statements}
 use Rattle.tsa_core.specs.Control.{count, count_all, first, first_all, Targets}
-use Rattle.tsa_graph_edges.specs.Ahead.{Ahead, with_statement, with_statements}
+use Rattle.tsa_graph_edges.specs.Successors.{Ahead, with_statement, with_statements}
 use Rattle.tsa_graph_edges.specs.declared.walk.Spot.{Spot}
 use Rattle.tsa_graph_edges.specs.declared.walk.Start.{Start}
 

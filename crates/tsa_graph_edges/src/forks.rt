@@ -1,7 +1,7 @@
 //! What a statement puts in front besides the statements in it: the edges of points and tests, and cases (C11 6.8).
 ghost use Rattle.std.specs.Prelude.{◌≡◌, ◌+◌, ◌∷◌, [], length, option_map, IfOk, OnOk};
 ghost use Rattle.tsa_core.specs.Control.{edge, label_at, a_case, test_edges, tested_edges, for_edges, step_edges, Next};
-ghost use Rattle.tsa_graph_edges.specs.Ahead.{with_edges, with_cases};
+ghost use Rattle.tsa_graph_edges.specs.Successors.{with_edges, with_cases};
 ghost use Rattle.tsa_graph_edges.specs.Spots.{targets_at};
 ghost use Rattle.tsa_tree.specs.expressions.Shapes.{shape};
 ghost use Rattle.tsa_tree.specs.points.Syntax.{points_of_init, points_of_step};

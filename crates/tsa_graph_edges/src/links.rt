@@ -1,7 +1,7 @@
 //! The edges of a body.
 ghost use Rattle.std.specs.Prelude.{◌≡◌, ℕ, List, [], map, reverse, IfOk};
 ghost use Rattle.tsa_core.specs.Control.{Targets, body_edges, count_all};
-ghost use Rattle.tsa_graph_edges.specs.Ahead.{ahead, with_statements};
+ghost use Rattle.tsa_graph_edges.specs.Successors.{ahead, with_statements};
 ghost use Rattle.tsa_graph_edges.specs.Links.{edge_of};
 ghost use Rattle.tsa_graph_edges.specs.Marks.{label_of};
 ghost use Rattle.tsa_tree.specs.statements.Shapes.{stmt_shapes};

@@ -1,7 +1,7 @@
 //! What a walk through a body from its end on has come by: edges, the cases of the switch that it is in, and labels.
 ghost use Rattle.std.specs.Prelude.{◌≡◌, ◌∷◌, ◌++◌, [], map, reverse, OnOk, IfOk};
 ghost use Rattle.tsa_core.specs.Control.{case_edge, case_edges, rest_edges, has_default as spec_has_default, switch_edges};
-ghost use Rattle.tsa_graph_edges.specs.Ahead.{ahead, with_edges, with_cases, with_labels, set_edges, set_cases};
+ghost use Rattle.tsa_graph_edges.specs.Successors.{ahead, with_edges, with_cases, with_labels, set_edges, set_cases};
 ghost use Rattle.tsa_graph_edges.specs.Links.{edge_of};
 ghost use Rattle.tsa_graph_edges.specs.Marks.{case_of, label_of};
 
@@ -35,7 +35,7 @@ pub struct Ahead<'a> {
 
 impl<'a> Model for Ahead<'a> {
     ghost use Rattle.std.specs.Prelude.{map, reverse};
-    ghost use Rattle.tsa_graph_edges.specs.Ahead.{Ahead};
+    ghost use Rattle.tsa_graph_edges.specs.Successors.{Ahead};
     ghost use Rattle.tsa_graph_edges.specs.Links.{edge_of};
     ghost use Rattle.tsa_graph_edges.specs.Marks.{case_of, label_of};
 
@@ -45,7 +45,7 @@ impl<'a> Model for Ahead<'a> {
 }
 
 /// Puts an edge in front of others, which stand from the last one on.
-#[tactic(auto, using(crate::proofs::Turned::links))]
+#[tactic(auto, using(crate::proofs::LastFirst::links))]
 fn put_link(links: &mut Vec<Link>, link: Link) -> Result<(), NoMemory>
     ensures { OnOk result (reverse (map edge_of links.new.items) ≡ edge_of link ∷ reverse (map edge_of links.old.items)) }
 {
@@ -117,7 +117,7 @@ impl<'a> Ahead<'a> {
     }
 
     /// Puts a case in front.
-    #[tactic(auto, using(crate::proofs::Turned::cases))]
+    #[tactic(auto, using(crate::proofs::LastFirst::cases))]
     pub fn put_case(&mut self, value: Option<i32>, first: u32) -> Result<(), NoMemory>
         ensures { OnOk result (self.new ≡ with_cases ((value, first) ∷ []) self.old) }
     {
@@ -126,7 +126,7 @@ impl<'a> Ahead<'a> {
     }
 
     /// Puts a label in front.
-    #[tactic(auto, using(crate::proofs::Turned::labels))]
+    #[tactic(auto, using(crate::proofs::LastFirst::labels))]
     pub fn put_label(&mut self, name: &'a [u8], first: u32) -> Result<(), NoMemory>
         ensures { OnOk result (self.new ≡ with_labels ((name.now, first) ∷ []) self.old) }
     {

@@ -5,7 +5,7 @@ use Rattle.std.specs.Option.{option_map_or}
 use Rattle.tsa_base.specs.declared.token.TokenKind.{TokenKind}
 use Rattle.tsa_base.specs.declared.token.LexCode.{LexCode}
 use Rattle.tsa_base.specs.Tokens.{PieceKind, blank, comment, skipped_line, token, Piece, BadByte, Lexeme, lexeme_of, after, begun, front_of, opens_line, pieces_at, tokens_among, tokens_of}
-use Rattle.tsa_lex.specs.Seen.{seen}
+use Rattle.tsa_lex.specs.Fronts.{seen}
 
 abbrev pub joined : List Lexeme → Result (List Lexeme) BadByte → Result (List Lexeme) BadByte
 joined front (Ok tokens) = Ok (front ++ tokens)

@@ -8,7 +8,7 @@ use Rattle.tsa_base.specs.declared.token.LexCode.TheVariants.{LX1, LX3, LX4, LX5
 use Rattle.tsa_base.specs.Bytes.{is_letter, is_digit, is_blank, is_word_byte, is_run_byte, is_text_byte}
 use Rattle.tsa_base.specs.Numbers.{number_of}
 use Rattle.tsa_base.specs.Tokens.{front_of, of_kind, token_front, slash_front, kind_of, line_len, line_word, is_skipped, longest}
-use Rattle.tsa_lex.specs.Seen.{seen}
+use Rattle.tsa_lex.specs.Fronts.{seen}
 use Rattle.tsa_lex.proofs.Fronts.{word_longest, run_longest, text_longest, text_none, text_cut_none, sign_none}
 
 pub blank_seen : (opens : Bool) (c : ℕ) (cs : List ℕ) → is_blank c ≡ true → seen (front_of opens (c ∷ cs)) ≡ Ok (None, 1)

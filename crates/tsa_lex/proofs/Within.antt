@@ -8,7 +8,7 @@ use Rattle.tsa_base.specs.declared.token.LexCode.{LexCode}
 use Rattle.tsa_base.specs.declared.token.LexCode.TheVariants.{LX4}
 use Rattle.tsa_base.specs.Bytes.{is_blank, is_line_byte}
 use Rattle.tsa_base.specs.Tokens.{PieceKind, skipped_line, front_of, of_kind, token_front, slash_front, block_front, block_end, map_length, kind_of, line_len, line_word, is_skipped, longest}
-use Rattle.tsa_lex.specs.Seen.{seen}
+use Rattle.tsa_lex.specs.Fronts.{seen}
 use Rattle.tsa_lex.proofs.Longest.{longest-within}
 
 abbrev Fit : Result (PieceKind × ℕ) LexCode → ℕ → Type 0

@@ -1,3 +1,3 @@
-pub mod Seen
 pub mod Puncts
 pub mod Quick
+pub mod Fronts

@@ -3,7 +3,7 @@ ghost use Rattle.std.specs.Prelude.{◌≡◌, ◌∷◌, ◌<◌, ◌==◌, tru
 ghost use Rattle.tsa_base.specs.declared.limits.TheConstants.{INPUT_LIMIT};
 ghost use Rattle.tsa_base.specs.Bytes.{is_letter, is_digit};
 ghost use Rattle.tsa_base.specs.Tokens.{opens_line, front_of, token_front, slash_front, block_front, block_end, longest};
-ghost use Rattle.tsa_lex.specs.Seen.{seen};
+ghost use Rattle.tsa_lex.specs.Fronts.{seen};
 
 use crate::numbers::number;
 use crate::puncts::punct_len;

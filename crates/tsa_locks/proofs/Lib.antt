@@ -1,3 +1,3 @@
 pub mod Holding
 pub mod Takings
-pub mod Written
+pub mod LockExamples

@@ -15,7 +15,7 @@ pub fn locks_are_taken_where_they_can_be()
 {}
 
 /// Takings and givings of single locks are as they are written out.
-#[tactic(auto, using(crate::proofs::Written::as_written))]
+#[tactic(auto, using(crate::proofs::LockExamples::as_written))]
 pub fn takings_are_as_written()
     ensures { TakingsAreAsWritten }
 {}

@@ -9,9 +9,9 @@ pub mod Holds
 pub mod Worths
 pub mod Filling
 pub mod Starting
-pub mod Worked
-pub mod WorkedFurther
-pub mod WorkedOrder
-pub mod WorkedPlaces
 pub mod Unsound
 pub mod Schedules
+pub mod RunExamples
+pub mod FurtherRunExamples
+pub mod OrderRunExamples
+pub mod PlaceRunExamples

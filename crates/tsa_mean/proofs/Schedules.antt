@@ -13,7 +13,7 @@ use Rattle.tsa_mean.specs.Texts.{begin, events, events_in}
 use Rattle.tsa_mean.specs.Traces.{bank}
 use Rattle.tsa_mean.proofs.Lists.{all_more, all_none}
 use Rattle.tsa_mean.proofs.Starting.{first_states_are_starts, well_typed}
-use Rattle.tsa_mean.proofs.Worked.{turned}
+use Rattle.tsa_mean.proofs.RunExamples.{turned}
 use Rattle.tsa_mean.specs.Schedules.{AcceptedUnitsRunSafely, TransfersCanStart, are_safe, both_ways}
 
 -- tokens worked out quickly are those of the text

@@ -21,7 +21,7 @@ use Rattle.tsa_mean.specs.Texts.{turns, without}
 use Rattle.tsa_mean.specs.Traces.{locked_write, twice, unlocked_write}
 use Rattle.tsa_mean.proofs.Lists.{all_more, all_none}
 use Rattle.tsa_mean.proofs.Starting.{first_states_are_starts, well_typed}
-use Rattle.tsa_mean.proofs.Worked.{turned}
+use Rattle.tsa_mean.proofs.RunExamples.{turned}
 
 impossible : {A : Type 0} → true ≡ false → A
 impossible e = absurd cc

@@ -68,37 +68,37 @@ pub fn first_states_are_starts()
 {}
 
 /// A thread waits while another one holds the lock that it takes.
-#[tactic(auto, using(crate::proofs::Worked::threads_wait))]
+#[tactic(auto, using(crate::proofs::RunExamples::threads_wait))]
 pub fn threads_wait()
     ensures { ThreadsWait }
 {}
 
 /// Writes without the lock that guards a cell are violations of each thread that makes them.
-#[tactic(auto, using(crate::proofs::Worked::unlocked_writes_are_violations))]
+#[tactic(auto, using(crate::proofs::RunExamples::unlocked_writes_are_violations))]
 pub fn unlocked_writes_are_violations()
     ensures { UnlockedWritesAreViolations }
 {}
 
 /// A transfer locks both accounts, and from an account to itself waits for itself.
-#[tactic(auto, using(crate::proofs::Worked::transfers_lock_their_accounts))]
+#[tactic(auto, using(crate::proofs::RunExamples::transfers_lock_their_accounts))]
 pub fn transfers_lock_their_accounts()
     ensures { TransfersLockTheirAccounts }
 {}
 
 /// Overflow, division by zero, null, an index out of range and a call too deep stop a thread for good.
-#[tactic(auto, using(crate::proofs::Worked::threads_trap))]
+#[tactic(auto, using(crate::proofs::RunExamples::threads_trap))]
 pub fn threads_trap()
     ensures { ThreadsTrap }
 {}
 
 /// The environment answers what the pick says, and a try whether it took the lock.
-#[tactic(auto, using(crate::proofs::Worked::answers_come))]
+#[tactic(auto, using(crate::proofs::RunExamples::answers_come))]
 pub fn answers_come()
     ensures { AnswersCome }
 {}
 
 /// The holder of a reentrant lock takes it again, and it is free once it is given back as often.
-#[tactic(auto, using(crate::proofs::Worked::holders_take_their_lock_again))]
+#[tactic(auto, using(crate::proofs::RunExamples::holders_take_their_lock_again))]
 pub fn holders_take_their_lock_again()
     ensures { HoldersTakeTheirLockAgain }
 {}
@@ -116,34 +116,34 @@ pub fn locked_writes_can_start()
 {}
 
 /// Loops and switches go where their values lead.
-#[tactic(auto, using(crate::proofs::WorkedFurther::loops_go_round, crate::proofs::WorkedFurther::switches_go_on))]
+#[tactic(auto, using(crate::proofs::FurtherRunExamples::loops_go_round, crate::proofs::FurtherRunExamples::switches_go_on))]
 pub fn loops_go_round()
     ensures loops { LoopsGoRound }
     ensures switches { SwitchesGoOn }
 {}
 
 /// Readers hold a lock together, and a writer waits for them.
-#[tactic(auto, using(crate::proofs::WorkedFurther::readers_share_a_lock))]
+#[tactic(auto, using(crate::proofs::FurtherRunExamples::readers_share_a_lock))]
 pub fn readers_share_a_lock()
     ensures { ReadersShareALock }
 {}
 
 /// What a call gives back goes where the call stands: into an assignment, a declaration, a test or a return.
-#[tactic(auto, using(crate::proofs::WorkedFurther::calls_are_answered, crate::proofs::WorkedFurther::answers_go_where_calls_stand))]
+#[tactic(auto, using(crate::proofs::FurtherRunExamples::calls_are_answered, crate::proofs::FurtherRunExamples::answers_go_where_calls_stand))]
 pub fn calls_are_answered()
     ensures long { CallsAreAnswered }
     ensures short { AnswersGoWhereCallsStand }
 {}
 
 /// A return is judged by what its function's attributes say of its answer, and of what is held then and was held at the call.
-#[tactic(auto, using(crate::proofs::WorkedFurther::returns_are_judged, crate::proofs::WorkedFurther::returns_leave_what_is_declared))]
+#[tactic(auto, using(crate::proofs::FurtherRunExamples::returns_are_judged, crate::proofs::FurtherRunExamples::returns_leave_what_is_declared))]
 pub fn returns_are_judged()
     ensures answers { ReturnsAreJudged }
     ensures attributes { ReturnsLeaveWhatIsDeclared }
 {}
 
 /// Operands are worked out from left to right, the right side of an assignment before the left one, and numbers trap or wrap at their edges.
-#[tactic(auto, using(crate::proofs::WorkedOrder::terms_are_worked_out_in_order, crate::proofs::WorkedOrder::numbers_turn_at_their_edges))]
+#[tactic(auto, using(crate::proofs::OrderRunExamples::terms_are_worked_out_in_order, crate::proofs::OrderRunExamples::numbers_turn_at_their_edges))]
 pub fn terms_are_worked_out_in_order()
     ensures order { TermsAreWorkedOutInOrder }
     ensures edges { NumbersTurnAtTheirEdges }
@@ -156,7 +156,7 @@ pub fn threads_begin_where_nothing_is_asked()
 {}
 
 /// The points of worked runs stand in their texts at the lines and columns that stand beside them.
-#[tactic(auto, using(crate::proofs::WorkedPlaces::points_stand_at_their_places))]
+#[tactic(auto, using(crate::proofs::PlaceRunExamples::points_stand_at_their_places))]
 pub fn points_stand_at_their_places()
     ensures { PointsStandAtTheirPlaces }
 {}

@@ -9,7 +9,7 @@ use Rattle.tsa_path.specs.Sameness.{same_way}
 use Rattle.tsa_path.specs.PathTables.{path_limit, is_known, number_of, with_path, is_full}
 use Rattle.tsa_path.specs.declared.key.Key.{Key}
 use Rattle.tsa_path.specs.contracts.key.KeyPartialEq.TheImpl as test
-use Rattle.tsa_path.proofs.Same.{root_test_is, steps_test_are}
+use Rattle.tsa_path.proofs.PathsApart.{root_test_is, steps_test_are}
 
 abbrev pub paths : List Key → List Way
 paths keys = map (λ key. key.path) keys

@@ -1,11 +1,9 @@
 pub mod StepLists
-pub mod Same
 pub mod Keys
 pub mod Elements
 pub mod Keeping
 pub mod Numbers
 pub mod Examples
-pub mod Written
 pub mod Bearing
 pub mod StandDeclared
 pub mod Folding
@@ -17,3 +15,5 @@ pub mod ArgumentPaths
 pub mod ArgumentsPassed
 pub mod CallsSuit
 pub mod ValueExamples
+pub mod LockExamples
+pub mod PathsApart

@@ -5,7 +5,7 @@ use Rattle.std.proofs.lemmas.List.{length-append}
 use Rattle.tsa_place_model.specs.Ways.{Way}
 use Rattle.tsa_path.specs.Sameness.{same_way}
 use Rattle.tsa_path.specs.PathTables.{path_limit, is_known, number_of, AreDifferent, TableHoldsDifferentPaths, TableStaysWithinItsLimit, NumbersStay}
-use Rattle.tsa_path.proofs.Same.{way_equal, way_itself}
+use Rattle.tsa_path.proofs.PathsApart.{way_equal, way_itself}
 
 never : {A : Type 0} → true ≡ false → A
 never e = cc

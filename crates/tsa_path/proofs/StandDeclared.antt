@@ -25,7 +25,7 @@ use Rattle.tsa_place_model.specs.Items.{known_global, global_part, behind_data}
 use Rattle.tsa_place_model.specs.GlobalPlaces.{values_in, given_by, with_part, no_places}
 use Rattle.tsa_place_model.specs.Units.{data_placed, too_many_at, or_behind, placed_behind}
 use Rattle.tsa_place_model.proofs.Asking.{same_some, none_is_none, kind_head, element_alone, element_past}
-use Rattle.tsa_place_model.proofs.Laid.{IsLaid, unit_laid, front_at, by_last}
+use Rattle.tsa_place_model.proofs.GlobalsInRow.{IsLaid, unit_laid, front_at, by_last}
 use Rattle.tsa_place_model.proofs.Pieces.{row_at, at_row, thing_at, element_is}
 use Rattle.tsa_place_model.proofs.Rows.{Thing, Object, PieceAt, Row, member_within, member_begins}
 use Rattle.tsa_path.proofs.Bearing.{Bears, StandsDeclared}

@@ -1,6 +1,6 @@
 -- What expressions are worth, worked out.
 use Rattle.std.proofs.Common.{refl}
-use Rattle.tsa_core.proofs.Worked.{worked}
+use Rattle.tsa_core.proofs.BodyExamples.{worked}
 use Rattle.tsa_path.specs.ValueExamples.{ValuesAreAsWritten}
 
 pub values_are_as_written : ValuesAreAsWritten

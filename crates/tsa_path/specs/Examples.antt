@@ -7,7 +7,7 @@ use Rattle.tsa_place_model.specs.declared.path.PathStep.{PathStep}
 use Rattle.tsa_place_model.specs.declared.path.PathStep.TheVariants.{Field, Constant, Variable, Follow}
 use Rattle.tsa_path.specs.Substitution.{constant, substituted}
 use Rattle.tsa_path.specs.PathTexts.{Label, Names, path_text}
-use Rattle.tsa_path.specs.Written.{label}
+use Rattle.tsa_path.specs.WrittenLocks.{label}
 
 abbrev global : ℕ → List PathStep → Way
 global n steps = record { root = Global n; steps = steps }

@@ -5,7 +5,7 @@ pub mod Laws
 pub mod PathTexts
 pub mod Labels
 pub mod Examples
-pub mod Written
 pub mod Values
 pub mod ValueExamples
 pub mod ArgumentLaws
+pub mod WrittenLocks

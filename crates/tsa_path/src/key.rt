@@ -6,7 +6,7 @@ use std::hash::{Hash, Hasher};
 use tsa_place_model::{Path, PathStep, Root};
 
 /// Whether two roots are the same.
-#[tactic(auto, using(crate::proofs::Same::root_test_is))]
+#[tactic(auto, using(crate::proofs::PathsApart::root_test_is))]
 fn same_root(left: Root, right: Root) -> bool
     ensures { result ≡ spec_same_root left right }
 {
@@ -14,7 +14,7 @@ fn same_root(left: Root, right: Root) -> bool
 }
 
 /// Whether some steps are the same, in order.
-#[tactic(auto, using(crate::proofs::Same::steps_test_are))]
+#[tactic(auto, using(crate::proofs::PathsApart::steps_test_are))]
 fn same_steps(left: &[PathStep], right: &[PathStep]) -> bool
     ensures { result ≡ spec_same_steps left.now right.now }
 {

@@ -4,7 +4,7 @@ ghost use Rattle.tsa_path.specs.Examples.{SubstitutionsAreAsWritten, TextsAreAsW
 ghost use Rattle.tsa_path.specs.Laws.{SameBitsSameElements, SubstitutionKeepsTheMeaning};
 ghost use Rattle.tsa_path.specs.PathTables.{NumbersStay, TableHoldsDifferentPaths, TableStaysWithinItsLimit};
 ghost use Rattle.tsa_path.specs.ValueExamples.{ValuesAreAsWritten};
-ghost use Rattle.tsa_path.specs.Written.{LocksAreAsWritten};
+ghost use Rattle.tsa_path.specs.WrittenLocks.{LocksAreAsWritten};
 ghost use Rattle.tsa_path.specs.Sameness.{SameWaysAreEqual};
 
 /// Where a callee's locals are the values of a call's arguments, a path of the callee there and its substituted path in the caller lead to the same
@@ -16,7 +16,7 @@ pub fn substitution_keeps_the_meaning()
 {}
 
 /// Paths are equal where their roots and their steps are, and nowhere else.
-#[tactic(auto, using(crate::proofs::Same::same_ways_are_equal))]
+#[tactic(auto, using(crate::proofs::PathsApart::same_ways_are_equal))]
 pub fn paths_are_told_apart()
     ensures { SameWaysAreEqual }
 {}

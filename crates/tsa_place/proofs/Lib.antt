@@ -1,4 +1,3 @@
-pub mod Listed
 pub mod UnitLists
 pub mod EnumeratorLists
 pub mod ItemLists
@@ -6,3 +5,4 @@ pub mod Leaving
 pub mod Putting
 pub mod Rounds
 pub mod Fitting
+pub mod Examples

@@ -12,7 +12,7 @@ use Rattle.tsa_place_model.specs.Leading.{first_place, piece, leads_to, Route, f
 use Rattle.tsa_place_model.specs.Places.{a_place}
 use Rattle.tsa_place_model.specs.Standing.{HasSome}
 use Rattle.tsa_place_model.proofs.Asking.{same_some, none_is_none, element_alone, element_past, alone_some, alone_other}
-use Rattle.tsa_place_model.proofs.Laid.{IsLaid, unit_laid}
+use Rattle.tsa_place_model.proofs.GlobalsInRow.{IsLaid, unit_laid}
 use Rattle.tsa_place_model.proofs.Pieces.{some_at, element_is, row_at, at_row, stands_at, member_at, thing_at}
 use Rattle.tsa_place_model.proofs.Rows.{Thing, PieceAt, Row, object_place, object_alone, object_element}
 

@@ -2,9 +2,7 @@ pub mod Standing
 pub mod Sizes
 pub mod Below
 pub mod Asking
-pub mod Later
 pub mod Rows
-pub mod Laid
 pub mod Pieces
 pub mod Leading
 pub mod TextsApart
@@ -14,3 +12,5 @@ pub mod TextsNamed
 pub mod TextsTyped
 pub mod TextsTell
 pub mod StructCounts
+pub mod GlobalsInRow
+pub mod LaterStructs

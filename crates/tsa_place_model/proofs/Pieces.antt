@@ -13,7 +13,7 @@ use Rattle.tsa_place_model.specs.Leading.{first_place, piece, leads_to, Fits, Is
 use Rattle.tsa_place_model.specs.Places.{a_place}
 use Rattle.tsa_place_model.specs.Standing.{IsBelow}
 use Rattle.tsa_place_model.proofs.Asking.{same_some, none_is_none, is_there, member_none, member_other, element_some, alone_some}
-use Rattle.tsa_place_model.proofs.Laid.{Block, Belongs, IsLaid}
+use Rattle.tsa_place_model.proofs.GlobalsInRow.{Block, Belongs, IsLaid}
 use Rattle.tsa_place_model.proofs.Rows.{Thing, Object, PieceAt, Row, object_place, object_alone, object_element, thing_rows, member_begins, member_thing}
 
 pub some_at : {A : Type 0} (xs : List A) (n : ℕ) → n < length xs → (x : A) × (slice_get xs n ≡ Some x)

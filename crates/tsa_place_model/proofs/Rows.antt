@@ -12,7 +12,7 @@ use Rattle.tsa_place_model.specs.Leading.{first_place, IsInside}
 use Rattle.tsa_place_model.specs.Places.{Given, Values, a_place, element_of, member_of, kind_places, pieces, thing_places, places_inside}
 use Rattle.tsa_place_model.specs.Standing.{StandsAt, IsBelow, HasSome, IsWithin, IsOrdered}
 use Rattle.tsa_place_model.proofs.Asking.{kind_head, is_there, member_some}
-use Rattle.tsa_place_model.proofs.Later.{own_members_below, size_is, all_at}
+use Rattle.tsa_place_model.proofs.LaterStructs.{own_members_below, size_is, all_at}
 use Rattle.tsa_place_model.proofs.Standing.{below_more, member_stands, members_below, element_stands}
 
 -- which element of some of a size lies round a place

@@ -4,11 +4,9 @@ mod Follows
 mod Numerals
 mod PieceTokens
 mod PunctPieces
-mod Lexed
 mod PieceSigns
 mod WordSigns
 mod Runs
-mod Spelled
 mod SpelledOperands
 mod Negatives
 mod SpelledAttributes
@@ -38,3 +36,5 @@ pub mod UnitReadAgain
 mod Pages
 mod InlinePieces
 mod Steps
+mod CanonicalTrees
+mod CanonicalTokens

@@ -9,8 +9,8 @@ use Rattle.tsa_print.specs.Canonical.{pieces, canonical}
 use Rattle.tsa_print.specs.Writable.{has_plain_bases}
 use Rattle.tsa_print.specs.PrintLaws.{WritableIsReadAgain, ReadIsWritable}
 use Rattle.tsa_print.proofs.CanonicalApart.{canonical_apart}
-use Rattle.tsa_print.proofs.Lexed.{written_tokens}
-use Rattle.tsa_print.proofs.Spelled.{pieces_spell}
+use Rattle.tsa_print.proofs.CanonicalTokens.{written_tokens}
+use Rattle.tsa_print.proofs.CanonicalTrees.{pieces_spell}
 
 pub writable_is_read_again : WritableIsReadAgain
 unfolding canonical

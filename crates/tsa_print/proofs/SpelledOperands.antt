@@ -10,7 +10,7 @@ use Rattle.tsa_grammar.specs.Reading.{all}
 use Rattle.tsa_print.specs.Canonical.{operator, pieces, further}
 use Rattle.tsa_print.proofs.PieceSigns.{prefix_seen}
 use Rattle.tsa_print.proofs.Runs.{Run, run_split, run_shows, run_long}
-use Rattle.tsa_print.proofs.Spelled.{Expr, Post, level_below, bare_binary, wrapped_post, expr, post, rest}
+use Rattle.tsa_print.proofs.CanonicalTrees.{Expr, Post, level_below, bare_binary, wrapped_post, expr, post, rest}
 
 module _ (aliases : Aliases) (ts : List Lexeme) where
   abbrev pub Operand : (d : ℕ) → Expression → (a b : ℕ) → Type 0

@@ -23,7 +23,7 @@ use Rattle.tsa_print.specs.UnitPieces.{simple_pieces, optional_pieces}
 use Rattle.tsa_print.proofs.PieceSigns.{seen, name_seen, named_so}
 use Rattle.tsa_print.proofs.Runs.{Run, run_split}
 use Rattle.tsa_print.proofs.SpelledDeclarations.{local_spelled}
-use Rattle.tsa_print.proofs.Spelled.{Expr}
+use Rattle.tsa_print.proofs.CanonicalTrees.{Expr}
 use Rattle.tsa_print.proofs.SpelledSimples.{Optional, Test, ForInitRead, ForStepRead, simple_spelled, optional_spelled}
 use Rattle.tsa_print.proofs.WordSigns.{keyword_seen}
 

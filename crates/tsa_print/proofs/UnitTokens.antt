@@ -23,7 +23,7 @@ use Rattle.tsa_print.proofs.CanonicalApart.{word_of_name}
 use Rattle.tsa_print.proofs.DeclarationsApart.{joins_type, joins_global, joins_members}
 use Rattle.tsa_print.proofs.HeadsApart.{joins_head, joins_constants}
 use Rattle.tsa_print.proofs.Joins.{Joins, joins_none, joins_apart, joins_append}
-use Rattle.tsa_print.proofs.Lexed.{laid_tokens}
+use Rattle.tsa_print.proofs.CanonicalTokens.{laid_tokens}
 use Rattle.tsa_print.proofs.StatementsApart.{semicolon, joins_ended, joins_block, joins_statements}
 
 joins_tag : (tag : Option Identifier) → SoundTag tag → Joins true (name_pieces tag)

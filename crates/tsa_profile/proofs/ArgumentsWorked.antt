@@ -1,6 +1,6 @@
 -- The examples, worked out.
 use Rattle.std.proofs.Common.{refl}
-use Rattle.tsa_core.proofs.Worked.{worked}
+use Rattle.tsa_core.proofs.BodyExamples.{worked}
 use Rattle.tsa_profile_accesses.specs.Premises as profile
 use Rattle.tsa_tree.specs.types.Premises as types
 use Rattle.tsa_tree.specs.types.Initialisers.{cell_premises, initialiser_premises}

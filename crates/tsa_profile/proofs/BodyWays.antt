@@ -16,10 +16,10 @@ use Rattle.tsa_core.specs.Meanings.{Call}
 use Rattle.tsa_core.specs.Programs.{Attr, Function, Program, Declared}
 use Rattle.tsa_core.specs.Uses.{Uses, uses_of}
 use Rattle.tsa_core.proofs.MappedLists.{map_at}
-use Rattle.tsa_place_model.proofs.Laid.{front_at}
+use Rattle.tsa_place_model.proofs.GlobalsInRow.{front_at}
 use Rattle.tsa_core_points.specs.CoreLaws.{known_of}
 use Rattle.tsa_core_points.specs.Points.{PlacedPoint, placed, placed_all}
-use Rattle.tsa_core_points.proofs.Known.{points_are_of_the_core, uses_are_of_the_core}
+use Rattle.tsa_core_points.proofs.PointsOfCore.{points_are_of_the_core, uses_are_of_the_core}
 use Rattle.tsa_profile_accesses.specs.Expressions.{attributes_at}
 use Rattle.tsa_profile_points.specs.Bodies.{Around}
 use Rattle.tsa_profile_points.specs.Ways as deed

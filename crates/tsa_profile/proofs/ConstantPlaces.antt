@@ -31,7 +31,7 @@ use Rattle.tsa_place_model.specs.Calls.{Layout, global_place, member_place, elem
 use Rattle.tsa_place_model.specs.Layouts.{Part, Structures, no_members, structure_at}
 use Rattle.tsa_place_model.specs.Parts.{no_stable}
 use Rattle.tsa_place_model.specs.Places.{has_some}
-use Rattle.tsa_place_model.proofs.Laid.{IsLaid}
+use Rattle.tsa_place_model.proofs.GlobalsInRow.{IsLaid}
 use Rattle.tsa_core.specs.Uses.{access_guards, member_guards, field_guards, name_guards}
 use Rattle.tsa_core.proofs.KindTests.{both_true}
 use Rattle.tsa_core.proofs.KindsOfTerms.{of_owner}

@@ -10,7 +10,7 @@ use Rattle.tsa_place_model.specs.Layouts.{Part, Structures, kind_size, size_of, 
 use Rattle.tsa_place_model.specs.Places.{Given, Values, item_of, a_place, element_of, member_of, kind_places, elements_places, thing_places, members_places, places_inside}
 use Rattle.tsa_place_model.specs.Standing.{IsBelow, IsOrdered}
 use Rattle.tsa_place_model.proofs.Standing.{below_more, object_is}
-use Rattle.tsa_place_model.proofs.Later.{own_members_below, all_at}
+use Rattle.tsa_place_model.proofs.LaterStructs.{own_members_below, all_at}
 use Rattle.tsa_core.proofs.TypedTerms.{some_same}
 
 abbrev pub Every : (Placed → Type 0) → List Placed → Type 0

@@ -10,7 +10,7 @@ use Rattle.tsa_tree.specs.declared.meaning.Meaning.TheVariants as meant
 use Rattle.tsa_tree.specs.types.Heads.{is_another, by_meaning, differs, declares_function, function_entry, or_body, bodied, again, behind_known, behind_head}
 use Rattle.tsa_tree.specs.types.Scopes.{Scope, FunctionEntry, found}
 use Rattle.tsa_tree.specs.types.Symbols.{function_or_next, meant_function, number_of}
-use Rattle.tsa_place_model.proofs.Laid.{front_at, last_at, by_last}
+use Rattle.tsa_place_model.proofs.GlobalsInRow.{front_at, last_at, by_last}
 use Rattle.tsa_core.specs.Programs.{Bodied, Declared, unless_known, first_head}
 use Rattle.tsa_core.proofs.KindTests.{neither, or_left}
 use Rattle.tsa_core.proofs.TypedTerms.{some_same}

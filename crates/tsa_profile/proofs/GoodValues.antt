@@ -10,7 +10,7 @@ use Rattle.tsa_place_model.specs.declared.place.Placed.{Placed}
 use Rattle.tsa_place_model.specs.Calls.{is_structure}
 use Rattle.tsa_place_model.specs.Stores.{is_of}
 use Rattle.tsa_place_model.specs.Items.{zero_of}
-use Rattle.tsa_place_model.proofs.Laid.{front_at}
+use Rattle.tsa_place_model.proofs.GlobalsInRow.{front_at}
 
 -- the kinds of what is declared
 abbrev pub is_data : Kind → Bool

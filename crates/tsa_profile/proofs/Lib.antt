@@ -20,13 +20,13 @@ pub mod StartLaws
 pub mod StartsTyped
 pub mod TableLists
 pub mod UnitsRun
-pub mod Worked
 pub mod Laying
 pub mod EachOnce
 pub mod Attributes
 pub mod Cells
-pub mod Declared
 pub mod EndingScopes
 pub mod Items
 pub mod Parameters
 pub mod ArgumentsWorked
+pub mod Examples
+pub mod DeclaredGlobals

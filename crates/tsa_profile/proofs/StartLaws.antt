@@ -17,7 +17,7 @@ use Rattle.tsa_place_model.specs.declared.place.Placed.{Placed}
 use Rattle.tsa_place_model.specs.Calls.{Layout, is_structure, is_addressable}
 use Rattle.tsa_place_model.specs.Stores.{may_point, is_value_of, start}
 use Rattle.tsa_place_model.specs.Leading.{HasPlaces}
-use Rattle.tsa_place_model.proofs.Laid.{nothing_laid}
+use Rattle.tsa_place_model.proofs.GlobalsInRow.{nothing_laid}
 use Rattle.tsa_place_model.specs.GlobalPlaces.{no_places}
 use Rattle.tsa_core.proofs.LaidScopes.{Fits, MembersFit}
 use Rattle.tsa_core.specs.Programs.{layout_or_none, program_of}

@@ -36,8 +36,8 @@ use Rattle.tsa_place_model.proofs.Standing.{earlier_structure}
 use Rattle.tsa_place_model.specs.Items.{known_global, global_part, behind_data}
 use Rattle.tsa_place_model.specs.GlobalPlaces.{values_in, given_by}
 use Rattle.tsa_place_model.specs.Units.{data_placed, too_many_at, or_behind, placed_behind}
-use Rattle.tsa_place_model.proofs.Laid as laid
-use Rattle.tsa_place_model.proofs.Laid.{IsLaid, front_at}
+use Rattle.tsa_place_model.proofs.GlobalsInRow as laid
+use Rattle.tsa_place_model.proofs.GlobalsInRow.{IsLaid, front_at}
 use Rattle.tsa_place_model.proofs.Pieces.{some_at}
 use Rattle.tsa_core.specs.Kinds.{Setting, Belongs}
 use Rattle.tsa_core.proofs.KindTests.{both_true, not_false, not_true}

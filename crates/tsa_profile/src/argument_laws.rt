@@ -14,7 +14,7 @@ pub fn parameters_are_those_of_the_core()
 {}
 
 /// A global that is declared behind all items holds at the start what an argument of its type is worth by the same expression.
-#[tactic(auto, using(crate::proofs::Declared::declared_globals_hold_it))]
+#[tactic(auto, using(crate::proofs::DeclaredGlobals::declared_globals_hold_it))]
 pub fn declared_globals_hold_it()
     ensures { DeclaredGlobalsHoldIt }
 {}

@@ -6,15 +6,15 @@ use Rattle.tsa_place_model.specs.Ways.{Way}
 use Rattle.tsa_core.specs.Programs.{Attr, Function, Program}
 use Rattle.tsa_core.specs.Uses.{Access}
 use Rattle.tsa_path.specs.Sameness.{same_way}
-use Rattle.tsa_path.proofs.Same.{way_equal}
+use Rattle.tsa_path.proofs.PathsApart.{way_equal}
 use Rattle.tsa_rules.specs.Attributes.{is_path, names, all_as_called}
 use Rattle.tsa_rules.specs.Points.{points_of, or_idle, or_unused, attrs_called, attrs_at, uses_at, is_guarded_by}
 use Rattle.tsa_rules.specs.StatusLaws.{IsUnnamed}
-use Rattle.tsa_rules.specs.Kept.{KeepsRows, KeptProgramsHaveNoWarnings}
+use Rattle.tsa_rules.specs.KeptRows.{KeepsRows, KeptProgramsHaveNoWarnings}
 use Rattle.tsa_rules.specs.Sheets.{Sheet, rows_of, passes, is_among, has_attr, has_guards, lists_at, lists_from, lists, function_passes, functions_pass, ProgramsThatPassHaveNoWarnings}
 use Rattle.tsa_rules.proofs.Tests.{never, below, not_below, left_part, right_part}
-use Rattle.tsa_rules.proofs.Carried.{kept_rows_break_no_rule}
-use Rattle.tsa_rules.proofs.Unnamed.{rules_speak_of_named_paths}
+use Rattle.tsa_rules.proofs.EdgeInduction.{kept_rows_break_no_rule}
+use Rattle.tsa_rules.proofs.OtherPaths.{rules_speak_of_named_paths}
 use Rattle.tsa_rules.proofs.Sheets.{sheets_that_pass_are_kept}
 use Rattle.tsa_base.proofs.Options.{some_same}
 

@@ -1,14 +1,11 @@
 pub mod Tests
 pub mod Fitting
-pub mod Carried
 pub mod Possible
-pub mod Worked
 pub mod WorkedTests
 pub mod WorkedRules
 pub mod WorkedWalks
 pub mod WorkedLocks
 pub mod OneStatus
-pub mod Unnamed
 pub mod Sheets
 pub mod WorkedSheets
 pub mod WorkedOrder
@@ -23,3 +20,6 @@ pub mod CasePlaces
 pub mod Members
 pub mod KeptTries
 pub mod QuietCases
+pub mod RowExamples
+pub mod EdgeInduction
+pub mod OtherPaths

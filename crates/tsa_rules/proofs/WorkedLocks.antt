@@ -1,6 +1,6 @@
 -- Locks and attributes, worked out.
 use Rattle.std.proofs.Common.{refl}
-use Rattle.tsa_core.proofs.Worked.{worked}
+use Rattle.tsa_core.proofs.BodyExamples.{worked}
 use Rattle.tsa_rules.specs.LockLaws.{PathsLeadToTheirLocks, AttributesNameWhatArgumentsAre}
 
 pub paths_lead_to_their_locks : PathsLeadToTheirLocks

@@ -1,6 +1,6 @@
 -- The order of warnings, worked out.
 use Rattle.std.proofs.Common.{◌≡◌, ◌∙◌, codes, refl, sym}
-use Rattle.tsa_core.proofs.Worked.{worked}
+use Rattle.tsa_core.proofs.BodyExamples.{worked}
 use Rattle.tsa_path.specs.PathTexts.{path_text}
 use Rattle.tsa_rules.specs.Legends.{legend_of}
 use Rattle.tsa_rules.specs.Warnings.{by_text, by_locals}

@@ -1,6 +1,6 @@
 -- Rules, worked out.
 use Rattle.std.proofs.Common.{refl}
-use Rattle.tsa_core.proofs.Worked.{worked}
+use Rattle.tsa_core.proofs.BodyExamples.{worked}
 use Rattle.tsa_rules.specs.RuleLaws.{AccessesNeedTheirLocks, ReturnsAreAsDeclared, NamesOfCallsDiffer, DeclarationsFindFreePaths}
 
 pub accesses_need_their_locks : AccessesNeedTheirLocks

@@ -1,6 +1,6 @@
 -- Sheets, worked out.
 use Rattle.std.proofs.Common.{◌≡◌, true, List, [], ◌∷◌, refl}
-use Rattle.tsa_core.proofs.Worked.{worked}
+use Rattle.tsa_core.proofs.BodyExamples.{worked}
 use Rattle.tsa_rules.specs.Statuses.{Free, Exclusive}
 use Rattle.tsa_rules.specs.Sheets.{Sheet, program_passes}
 use Rattle.tsa_rules.specs.Texts.{global}

@@ -1,7 +1,7 @@
 -- Walks, worked out.
 use Rattle.std.proofs.Common.{◌≡◌, ℕ, zero, suc, List, [], ◌∷◌, Contains, Option, Some, slice_get, refl, sym, ◌∙◌, subst, arith}
 use Rattle.std.proofs.lemmas.List.Elements.{Contains-append_right}
-use Rattle.tsa_core.proofs.Worked.{worked}
+use Rattle.tsa_core.proofs.BodyExamples.{worked}
 use Rattle.tsa_core.specs.Control.{Outcome, Next, Yes, No, edge}
 use Rattle.tsa_rules.specs.Statuses.{Status, Free, Exclusive}
 use Rattle.tsa_rules.specs.Fails.{TS06, TS09}

@@ -14,7 +14,7 @@ use Rattle.tsa_place_model.specs.Layouts.{Part, structure_at}
 use Rattle.tsa_core.specs.Bodies.{Known, known_in_body}
 use Rattle.tsa_core.specs.Programs.{Bodied, Declared, bodied_function, declared_functions, program_of}
 use Rattle.tsa_path.specs.PathTexts.{Label, Names}
-use Rattle.tsa_path.specs.Written.{struct_in}
+use Rattle.tsa_path.specs.WrittenLocks.{struct_in}
 use Rattle.tsa_rules.specs.Warnings.{AreWarnings, Legend, Warning}
 
 abbrev pub label : List ℕ → Kind → Label

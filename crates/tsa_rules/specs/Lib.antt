@@ -12,7 +12,6 @@ pub mod TryVariables
 pub mod Fits
 pub mod Walks
 pub mod Warnings
-pub mod Kept
 pub mod Sheets
 pub mod Texts
 pub mod Laws
@@ -24,3 +23,4 @@ pub mod LockLaws
 pub mod KeptLaws
 pub mod Legends
 pub mod OrderLaws
+pub mod KeptRows

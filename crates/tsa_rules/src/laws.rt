@@ -2,7 +2,7 @@
 ghost use Rattle.tsa_rules.specs.Statuses.{SameStatusesAreEqual, NumbersTellStatuses, NumbersAreBits};
 ghost use Rattle.tsa_rules.specs.Cases.{CasesTellTheRules, QuietCases, StatusesKeepPlaces};
 ghost use Rattle.tsa_rules.specs.Fits.{WhatDoesNotFailFits};
-ghost use Rattle.tsa_rules.specs.Kept.{KeptRowsBreakNoRule, KeptProgramsHaveNoWarnings};
+ghost use Rattle.tsa_rules.specs.KeptRows.{KeptRowsBreakNoRule, KeptProgramsHaveNoWarnings};
 ghost use Rattle.tsa_rules.specs.KeptLaws.{AcceptedFunctionsHaveSheets, ALockedWriteIsAccepted};
 ghost use Rattle.tsa_rules.specs.Laws.{EntriesAndExitsAreAsDeclared, ExitsOfTriesAreByTheAnswer, CallsAreByTheirAttribute, CallsOfReentrantLocksCountDepths};
 ghost use Rattle.tsa_rules.specs.LockLaws.{PathsLeadToTheirLocks, AttributesNameWhatArgumentsAre};
@@ -128,25 +128,25 @@ pub fn attributes_name_what_arguments_are()
 {}
 
 /// A function begins and ends with the statuses that its attributes declare.
-#[tactic(auto, using(crate::proofs::Worked::entries_and_exits_are_as_declared))]
+#[tactic(auto, using(crate::proofs::RowExamples::entries_and_exits_are_as_declared))]
 pub fn entries_and_exits_are_as_declared()
     ensures { EntriesAndExitsAreAsDeclared }
 {}
 
 /// A function that tries ends with the statuses that its answer says.
-#[tactic(auto, using(crate::proofs::Worked::exits_of_tries_are_by_the_answer))]
+#[tactic(auto, using(crate::proofs::RowExamples::exits_of_tries_are_by_the_answer))]
 pub fn exits_of_tries_are_by_the_answer()
     ensures { ExitsOfTriesAreByTheAnswer }
 {}
 
 /// A call asks for what the attribute of the called function says, and leaves what it says.
-#[tactic(auto, using(crate::proofs::Worked::calls_are_by_their_attribute))]
+#[tactic(auto, using(crate::proofs::RowExamples::calls_are_by_their_attribute))]
 pub fn calls_are_by_their_attribute()
     ensures { CallsAreByTheirAttribute }
 {}
 
 /// Calls count how often a lock is held that its holder may take again.
-#[tactic(auto, using(crate::proofs::Worked::calls_of_reentrant_locks_count_depths))]
+#[tactic(auto, using(crate::proofs::RowExamples::calls_of_reentrant_locks_count_depths))]
 pub fn calls_of_reentrant_locks_count_depths()
     ensures { CallsOfReentrantLocksCountDepths }
 {}

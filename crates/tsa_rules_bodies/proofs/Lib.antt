@@ -3,4 +3,4 @@ pub mod FirstBodies
 pub mod SiteLaws
 pub mod Passing
 pub mod Seeking
-pub mod Controlled
+pub mod GraphsOfFunctions

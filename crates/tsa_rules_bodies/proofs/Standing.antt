@@ -8,7 +8,7 @@ use Rattle.tsa_tree.specs.types.Scopes.{Scope}
 use Rattle.tsa_tree.specs.types.Symbols.{number_of}
 use Rattle.tsa_tree.specs.types.Units.{outset, behind_item, item_premises, items_premises}
 use Rattle.tsa_tree.specs.units.Syntax.{UnitItem, body_item}
-use Rattle.tsa_place_model.proofs.Laid.{front_at}
+use Rattle.tsa_place_model.proofs.GlobalsInRow.{front_at}
 use Rattle.tsa_core.specs.Programs.{Declared, bodied_function, declared_by, declared_functions, first_head}
 use Rattle.tsa_core.proofs.NoFailure.{none_of_both}
 use Rattle.tsa_core.proofs.BodiesAgree.{Means}

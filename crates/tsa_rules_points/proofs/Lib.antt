@@ -1,5 +1,5 @@
 pub mod Uses
 pub mod Begun
-pub mod Added
 pub mod NotedPoints
 pub mod Along
+pub mod RowSteps

@@ -13,7 +13,7 @@ use Rattle.tsa_tree.specs.types.Scopes.{Scope}
 use Rattle.tsa_place_model.specs.Ways.{Way}
 use Rattle.tsa_core.specs.Bodies.{Point, declared, kinds_by}
 use Rattle.tsa_core.specs.Programs.{Attr, Program}
-use Rattle.tsa_place_model.proofs.Laid.{by_last}
+use Rattle.tsa_place_model.proofs.GlobalsInRow.{by_last}
 use Rattle.tsa_path.specs.PathTables.{AreDifferent}
 use Rattle.tsa_core_points.specs.CoreLaws.{known_of}
 use Rattle.tsa_core_points.specs.Points.{PlacedPoint, placed}

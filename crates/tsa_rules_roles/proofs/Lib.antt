@@ -1,11 +1,11 @@
 pub mod Worths
 pub mod Gists
 pub mod Conditions
-pub mod Given
 pub mod Duties
 pub mod Constants
-pub mod Worked
 pub mod Places
-pub mod Kept
 pub mod OfPrograms
 pub mod RoleDuties
+pub mod Examples
+pub mod VariablePlaces
+pub mod ReturnAnswers

@@ -191,7 +191,7 @@ fn given(kind: Kind, gist: Gist) -> Option<Number>
 }
 
 /// The answer that a return gives with an expression, of a function whose result has a kind.
-#[tactic(auto, using(crate::proofs::Given::answers))]
+#[tactic(auto, using(crate::proofs::ReturnAnswers::answers))]
 pub fn answer_told(scope: &Scope<'_>, kind: Kind, expr: &Expr<'_>) -> Option<bool>
     ensures { result ≡ answer_of (spec_given_as kind (meaning scope.now (shape expr.now))) }
 {

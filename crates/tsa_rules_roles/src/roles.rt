@@ -166,7 +166,7 @@ impl Roles {
     }
 
     /// The number of the try variable that a local is; of another local, the number behind all of theirs.
-    #[tactic(auto, using(crate::proofs::Kept::number_some, crate::proofs::Kept::number_none))]
+    #[tactic(auto, using(crate::proofs::VariablePlaces::number_some, crate::proofs::VariablePlaces::number_none))]
     fn number(&self, local: u32) -> u32
         ensures { result ≡ number_in self.now local }
     {

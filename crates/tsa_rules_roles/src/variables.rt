@@ -12,7 +12,7 @@ pub struct Variable {
 }
 
 /// Makes room for a local: what is new there is no try variable.
-#[tactic(auto, using(crate::proofs::Kept::none_push))]
+#[tactic(auto, using(crate::proofs::VariablePlaces::none_push))]
 pub fn make_room(variables: &mut Vec<Option<Variable>>, local: u32) -> Result<(), NoMemory>
     ensures room { OnOk result (local < length variables.new.items) }
     ensures same { (l : ℕ) → slice_index_or variables.new.items l None ≡ slice_index_or variables.old.items l None }

@@ -5,7 +5,7 @@ use Rattle.std.proofs.lemmas.Bool.Decides.{nat_tests}
 use Rattle.tsa_place_model.specs.Ways.{Way}
 use Rattle.tsa_path.specs.PathTables.{number_of, AreDifferent}
 use Rattle.tsa_path.specs.Sameness.{same_way}
-use Rattle.tsa_path.proofs.Same.{way_equal, way_itself}
+use Rattle.tsa_path.proofs.PathsApart.{way_equal, way_itself}
 use Rattle.tsa_rules.specs.declared.mark.Mark.{Mark}
 use Rattle.tsa_rules_table.specs.declared.note.Note.{Note}
 use Rattle.tsa_rules_table.specs.Numbers.{known_number}

@@ -5,7 +5,7 @@ use Rattle.std.proofs.lemmas.List.{length-take}
 use Rattle.tsa_place_model.specs.Ways.{Way}
 use Rattle.tsa_path.specs.PathTables.{is_known, number_of}
 use Rattle.tsa_path.specs.Sameness.{same_way}
-use Rattle.tsa_path.proofs.Same.{way_equal, way_itself}
+use Rattle.tsa_path.proofs.PathsApart.{way_equal, way_itself}
 use Rattle.tsa_rules_table.specs.Numbers.{below_count, known_number}
 
 -- the number of a path among the first of some

@@ -16,7 +16,7 @@ use Rattle.tsa_core.proofs.MappedLists.{map_at, map_length}
 use Rattle.tsa_core_points.specs.CoreLaws.{known_of, seen_at}
 use Rattle.tsa_core_points.specs.Points.{PlacedPoint}
 use Rattle.tsa_core_points.specs.Walks.{placed_in_body}
-use Rattle.tsa_core_points.proofs.Known.{placed_are_known, points_are_of_the_core, uses_are_of_the_core}
+use Rattle.tsa_core_points.proofs.PointsOfCore.{placed_are_known, points_are_of_the_core, uses_are_of_the_core}
 use Rattle.tsa_rules.specs.Attributes.{all_as_called}
 use Rattle.tsa_rules.specs.Marks.{mark_by, mark_of}
 use Rattle.tsa_rules.specs.Points.{attrs_at, attrs_called, local_begun, or_idle, or_unused, point_at, points_of, uses_at}

@@ -1,7 +1,7 @@
 pub mod Parts
 pub mod Views
-pub mod Made
 pub mod Kinds
 pub mod Structs
 pub mod Laws
 pub mod Examples
+pub mod BodyViews

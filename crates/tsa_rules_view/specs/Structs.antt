@@ -6,7 +6,7 @@ use Rattle.tsa_place_model.specs.declared.path.Root.{Root}
 use Rattle.tsa_place_model.specs.declared.path.Root.TheVariants as root
 use Rattle.tsa_place_model.specs.Calls.{Layout}
 use Rattle.tsa_rules.specs.Attributes.{part_struct, struct_along}
-use Rattle.tsa_path.specs.Written.{struct_in}
+use Rattle.tsa_path.specs.WrittenLocks.{struct_in}
 
 -- of what it begins at: the object whose member has a guard is of no struct that is known
 abbrev pub root_by : Layout → List Kind → Root → Option ℕ

@@ -11,7 +11,7 @@ ghost use Rattle.tsa_rules.specs.Sets.{pending_places};
 ghost use Rattle.tsa_core_points.specs.Steps.{step_shape};
 ghost use Rattle.tsa_tree.specs.declarations.Shapes.{head_shape};
 ghost use Rattle.tsa_tree.specs.types.Scopes.{with_locals};
-ghost use Rattle.tsa_rules_view.specs.Made.{AreNoted, IsMade, IsNoted, IsWhole};
+ghost use Rattle.tsa_rules_view.specs.BodyViews.{AreNoted, IsMade, IsNoted, IsWhole};
 ghost use Rattle.tsa_rules_view.specs.Parts.{kinds_along, param_kinds as spec_param_kinds};
 ghost use Rattle.tsa_place_model.specs.LockPaths.{stable_in};
 

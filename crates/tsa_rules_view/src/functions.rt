@@ -3,7 +3,7 @@ ghost use Rattle.std.specs.Prelude.{◌≡◌, Ok, slice_get, IfOk};
 ghost use Rattle.tsa_core.specs.Programs.{program_of};
 ghost use Rattle.tsa_place_model.specs.Units.{placed_in};
 ghost use Rattle.tsa_tree.specs.units.Shapes.{item_shapes};
-ghost use Rattle.tsa_rules_view.specs.Made.{IsMade};
+ghost use Rattle.tsa_rules_view.specs.BodyViews.{IsMade};
 ghost use Rattle.tsa_rules_view.specs.Views.{IsViewIn};
 
 use crate::build::Unit;

@@ -1,7 +1,7 @@
 //! To which struct a path leads: along members, elements and pointers, from what its root is (C11 6.5.2, 6.5.3.2).
 ghost use Rattle.std.specs.Prelude.{◌≡◌};
 ghost use Rattle.tsa_rules_view.specs.Structs.{root_by, struct_by};
-ghost use Rattle.tsa_path.specs.Written.{struct_in as spec_struct_in};
+ghost use Rattle.tsa_path.specs.WrittenLocks.{struct_in as spec_struct_in};
 ghost use Rattle.tsa_rules.specs.Attributes.{member_struct, struct_behind};
 
 use tsa_place_layout::Layout;

@@ -52,7 +52,7 @@ impl<'a> RuleView<'a> {
 
     /// The kind of the first attribute of the called function that names a path at a point. None exactly where there is no such point or path, or none names
     /// it there.
-    #[tactic(auto, using(crate::proofs::Named::named_there, crate::proofs::Named::named_past))]
+    #[tactic(auto, using(crate::proofs::Mentions::named_there, crate::proofs::Mentions::named_past))]
     pub fn named(&self, point: u32, cap: u32) -> Option<AttrKind>
         ensures { (u : Program) (f : Function) (paths : List Way) → IsViewOf u f paths self.now → result ≡ option_and_then (λ c. spec_named (attrs_at u f point) c) (slice_get paths cap) }
     {
@@ -90,7 +90,7 @@ impl<'a> RuleView<'a> {
     }
 
     /// What a point does.
-    #[tactic(auto, using(crate::proofs::Small::small))]
+    #[tactic(auto, using(crate::proofs::SmallSets::small))]
     pub fn role(&self, point: u32) -> Role
         ensures is { result ≡ role_in self.now.notes.roles point }
         ensures small { IsSmall result }

@@ -26,10 +26,10 @@ use Rattle.tsa_sound.specs.FramesFit.{FrameFits, GoesOnBehind, ProgramRows, func
 use Rattle.tsa_sound.specs.Invariant.{LowerFit, StackFits}
 use Rattle.tsa_sound.specs.LaidOut.{LaidOut}
 use Rattle.tsa_sound.specs.SettledStatuses.{answer_held, lock_named}
-use Rattle.tsa_sound.proofs.Answered.{AnswerFits, calls, given_is, is_tried, of_kind, stays_behind, stays_working}
+use Rattle.tsa_sound.proofs.CallAnswers.{AnswerFits, calls, given_is, is_tried, of_kind, stays_behind, stays_working}
 use Rattle.tsa_sound.proofs.CallTests.{call_told}
 use Rattle.tsa_sound.proofs.Claims.{holds_named}
-use Rattle.tsa_sound.proofs.Declared.{declared_behind}
+use Rattle.tsa_sound.proofs.DeclaredAnswers.{declared_behind}
 
 module _ (u : Program) (x : ProgramRows) (frame : Frame) (below : List Frame) (facts : FunctionFacts u x frame.function) (laid : LaidOut u.layout)
     (top : FrameFits u x (owned_below u x below) frame (status_before x frame)) (lower : LowerFit u x frame below)

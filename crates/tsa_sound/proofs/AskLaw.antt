@@ -34,7 +34,7 @@ use Rattle.tsa_sound.specs.FramesFit.{ProgramRows, function_of, owned_below, own
 use Rattle.tsa_sound.specs.Invariant.{Invariant, StackFits}
 use Rattle.tsa_sound.specs.Laws.{EnvironmentCallsGoWell, IsAsk, TakesTurn}
 use Rattle.tsa_sound.specs.SettledStatuses.{answer_held, lock_named, units}
-use Rattle.tsa_sound.proofs.Answered.{AnswerFits}
+use Rattle.tsa_sound.proofs.CallAnswers.{AnswerFits}
 use Rattle.tsa_sound.proofs.AnsweredCalls.{answered}
 use Rattle.tsa_sound.proofs.CallComes.{CallSource, OutsideSource, called_by, on_a_lock, on_nothing, outside}
 use Rattle.tsa_sound.proofs.Claims.{holds_named}

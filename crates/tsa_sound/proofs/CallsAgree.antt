@@ -34,7 +34,7 @@ use Rattle.tsa_sound.specs.SettledStatuses.{lock_in, lock_named}
 use Rattle.tsa_sound.proofs.ArgumentsLead.{arguments_suit}
 use Rattle.tsa_sound.proofs.Lists.{all_alike, all_unmapped}
 use Rattle.tsa_sound.proofs.LocalsBegin.{AreScalars, AreTyped, argument_begins, arguments_typed, begins_typed, begins_whole, length_mapped}
-use Rattle.tsa_sound.proofs.Mentioned.{leads_alike}
+use Rattle.tsa_sound.proofs.LocalsOfPaths.{leads_alike}
 use Rattle.tsa_sound.proofs.Tests.{none_is_some, same_some}
 
 -- the kinds of a function's parameters

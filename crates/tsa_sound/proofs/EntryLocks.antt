@@ -5,7 +5,7 @@ use Rattle.tsa_tree.specs.declared.attr.AttrKind.{AttrKind}
 use Rattle.tsa_tree.specs.declared.attr.AttrKind.TheVariants as attr
 use Rattle.tsa_place_model.specs.Ways.{Way}
 use Rattle.tsa_core.specs.Programs.{Attr, Program}
-use Rattle.tsa_path.proofs.Same.{way_itself}
+use Rattle.tsa_path.proofs.PathsApart.{way_itself}
 use Rattle.tsa_rules.specs.declared.rule.Rule.TheVariants.{TS03, TS04, TS07}
 use Rattle.tsa_rules.specs.declared.status.Status.{Status}
 use Rattle.tsa_rules.specs.declared.status.Status.TheVariants as status

@@ -13,7 +13,7 @@ use Rattle.tsa_sound.proofs.AskLaw as asks
 use Rattle.tsa_sound.proofs.Branches as branches
 use Rattle.tsa_sound.proofs.EnterLaw as calls
 use Rattle.tsa_sound.proofs.Going as going
-use Rattle.tsa_sound.proofs.Idle as idle
+use Rattle.tsa_sound.proofs.IdleTurns as idle
 use Rattle.tsa_sound.proofs.LeaveLaw as returns
 use Rattle.tsa_sound.proofs.LockLaws as locks
 use Rattle.tsa_sound.proofs.ReadLaw as reads

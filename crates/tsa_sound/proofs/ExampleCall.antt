@@ -2,10 +2,10 @@
 use Rattle.std.proofs.Common.{ℕ, zero, suc, ◌≡◌, ◌^◌, length, refl, subst, leb-true}
 use Rattle.std.specs.Prelude.{IsSome, slice_get}
 use Rattle.tsa_place_model.specs.Layouts.{structure_at}
-use Rattle.tsa_core.proofs.Worked.{worked}
+use Rattle.tsa_core.proofs.BodyExamples.{worked}
 use Rattle.tsa_path.specs.Laws.{IsSmall}
 use Rattle.tsa_rules.specs.Points.{function_at}
-use Rattle.tsa_mean.proofs.Worked.{turned}
+use Rattle.tsa_mean.proofs.RunExamples.{turned}
 use Rattle.tsa_sound.specs.Examples.{ACallMeetsTheFacts, call_rows, locked_call}
 use Rattle.tsa_sound.specs.Facts.{FunctionFacts}
 use Rattle.tsa_sound.specs.LaidOut.{LaidOut}

@@ -12,13 +12,13 @@ use Rattle.tsa_core.specs.Meanings.{Call}
 use Rattle.tsa_core.specs.Programs.{Attr, Function}
 use Rattle.tsa_core.specs.Terms.{Term, answer, variable}
 use Rattle.tsa_rules.specs.KeptLaws.{pointed}
-use Rattle.tsa_core.proofs.Worked.{worked}
+use Rattle.tsa_core.proofs.BodyExamples.{worked}
 use Rattle.tsa_path.specs.Substitution.{as_pointer, given}
 use Rattle.tsa_rules.specs.Points.{is_index, mentions, attrs_at, edges_of, function_at, point_at, uses_at}
 use Rattle.tsa_rules.specs.Sheets.{passes}
 use Rattle.tsa_rules.proofs.Sheets.{sheets_that_pass_are_kept}
 use Rattle.tsa_mean.proofs.Lists.{all_more, all_none}
-use Rattle.tsa_mean.proofs.Worked.{turned}
+use Rattle.tsa_mean.proofs.RunExamples.{turned}
 use Rattle.tsa_sound.specs.CallFacts.{CallFacts, first_pointed, of_lock}
 use Rattle.tsa_sound.specs.Examples.{call_rows, give_sheet, locked_call}
 use Rattle.tsa_sound.specs.BodyFacts.{AllLead, BodyFacts, IsScalar, MentionsParameters, SaysItsMode}

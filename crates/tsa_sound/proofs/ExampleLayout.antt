@@ -16,7 +16,7 @@ use Rattle.tsa_place_model.specs.Places.{has_some}
 use Rattle.tsa_place_model.specs.Calls.{around, guards_along}
 use Rattle.tsa_rules.specs.KeptLaws.{locked_write}
 use Rattle.tsa_mean.proofs.Lists.{all_more, all_none}
-use Rattle.tsa_mean.proofs.Worked.{turned}
+use Rattle.tsa_mean.proofs.RunExamples.{turned}
 use Rattle.tsa_sound.specs.LaidOut.{IsLocalFree, LaidOut, StandsAs}
 use Rattle.tsa_sound.proofs.Constants.{differ}
 use Rattle.tsa_sound.proofs.Tests.{none_is_some, same_some}

@@ -48,7 +48,7 @@ use Rattle.tsa_sound.proofs.Constants.{differ}
 use Rattle.tsa_sound.proofs.Deciding.{IsSettled, exclusive, free, lent, settled_is, shared}
 use Rattle.tsa_sound.proofs.HandedOver.{all_of, claim_is, join, names_own}
 use Rattle.tsa_sound.proofs.LocalsBegin.{scalar_served}
-use Rattle.tsa_sound.proofs.Mentioned.{or_left}
+use Rattle.tsa_sound.proofs.LocalsOfPaths.{or_left}
 use Rattle.tsa_sound.proofs.NewFrame.{none_held}
 use Rattle.tsa_sound.proofs.PlacesStand.{chained}
 use Rattle.tsa_sound.proofs.Says.{constant_value}

@@ -6,7 +6,7 @@ use Rattle.tsa_tree.specs.declared.attr.AttrKind.TheVariants as attr
 use Rattle.tsa_place_model.specs.Ways.{Way}
 use Rattle.tsa_core.specs.Meanings.{Call}
 use Rattle.tsa_core.specs.Programs.{Attr, Program}
-use Rattle.tsa_path.proofs.Same.{way_equal, way_itself}
+use Rattle.tsa_path.proofs.PathsApart.{way_equal, way_itself}
 use Rattle.tsa_rules.specs.declared.status.Status.{Status}
 use Rattle.tsa_rules.specs.declared.status.Status.TheVariants as status
 use Rattle.tsa_rules.specs.declared.status.Status.TheVariants.{Free, Lent, Pending}

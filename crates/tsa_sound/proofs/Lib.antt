@@ -1,5 +1,4 @@
 pub mod Threads
-pub mod Idle
 pub mod Sums
 pub mod Fresh
 pub mod Moves
@@ -33,8 +32,6 @@ pub mod Tables
 pub mod Transfer
 pub mod CallComes
 pub mod CallTests
-pub mod Answered
-pub mod Declared
 pub mod AnsweredCalls
 pub mod LockCalls
 pub mod LocksChange
@@ -43,7 +40,6 @@ pub mod LockLaws
 pub mod EntryLocks
 pub mod AskLaw
 pub mod LocalsBegin
-pub mod Mentioned
 pub mod ArgumentsLead
 pub mod CallsAgree
 pub mod HandedOver
@@ -61,3 +57,7 @@ pub mod ExampleCaller
 pub mod ExampleCallee
 pub mod ExampleCall
 pub mod Starting
+pub mod LocalsOfPaths
+pub mod CallAnswers
+pub mod IdleTurns
+pub mod DeclaredAnswers

@@ -20,7 +20,7 @@ use Rattle.tsa_place_model.specs.Stores.{is_value_of, may_point}
 use Rattle.tsa_core.specs.Terms.{Term}
 use Rattle.tsa_path.specs.Substitution.{as_pointer, further, given, substituted}
 use Rattle.tsa_path.specs.Values.{of_truth, pointed_place}
-use Rattle.tsa_path.proofs.Same.{way_itself}
+use Rattle.tsa_path.proofs.PathsApart.{way_itself}
 use Rattle.tsa_rules.specs.declared.status.Status.{Status}
 use Rattle.tsa_rules.specs.declared.status.Status.TheVariants.{Free}
 use Rattle.tsa_rules.specs.Attributes.{all_as_called, as_called, claim, claims, claims_path, is_path, is_reentrant, kind_of}
@@ -43,12 +43,12 @@ use Rattle.tsa_sound.specs.LaidOut.{LaidOut}
 use Rattle.tsa_sound.specs.PartlyWorked.{AreWorked, IsWorked, PointsAlong}
 use Rattle.tsa_sound.specs.SettledStatuses.{answer_held, hold, holds_for, lock_in, lock_named, total, units}
 use Rattle.tsa_sound.specs.TermFacts.{AllFit, TermFits}
-use Rattle.tsa_sound.proofs.Answered.{AnswerFits}
+use Rattle.tsa_sound.proofs.CallAnswers.{AnswerFits}
 use Rattle.tsa_sound.proofs.AnsweredCalls.{answered}
 use Rattle.tsa_sound.proofs.CallComes.{CallSource, LockCall}
 use Rattle.tsa_sound.proofs.Claims.{at_path, holds_named, unclaimed, worth}
 use Rattle.tsa_sound.proofs.Constants.{differ}
-use Rattle.tsa_sound.proofs.Declared.{inside}
+use Rattle.tsa_sound.proofs.DeclaredAnswers.{inside}
 use Rattle.tsa_sound.proofs.NumbersStay.{truth_fits}
 use Rattle.tsa_sound.proofs.PlacesStand.{chained}
 use Rattle.tsa_sound.proofs.Says.{bound, steps_behind, value_points}

@@ -42,7 +42,7 @@ use Rattle.tsa_sound.proofs.Fresh.{fresh_status, work_fits}
 use Rattle.tsa_sound.proofs.HandedOver.{all_of}
 use Rattle.tsa_sound.proofs.Lists.{all_alike}
 use Rattle.tsa_sound.proofs.LocalsBegin.{AreTyped, argument_begins, begins_typed, begins_whole}
-use Rattle.tsa_sound.proofs.Mentioned.{leads_alike}
+use Rattle.tsa_sound.proofs.LocalsOfPaths.{leads_alike}
 use Rattle.tsa_sound.proofs.RunsSound.{runs_are_sound}
 use Rattle.tsa_sound.proofs.Sums.{first_in, free_hold, no_hold, rest_in}
 use Rattle.tsa_sound.proofs.Transfer.{found}

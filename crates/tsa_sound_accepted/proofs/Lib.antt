@@ -1,2 +1,2 @@
 pub mod Facts
-pub mod Accepted
+pub mod AcceptedUnits

@@ -1,4 +1,3 @@
-pub mod Visited
 pub mod NamedPaths
 pub mod FinePaths
 pub mod StablePaths
@@ -7,3 +6,4 @@ pub mod SetLocals
 pub mod TryLocals
 pub mod SetsApart
 pub mod Functions
+pub mod RowsOfWalks

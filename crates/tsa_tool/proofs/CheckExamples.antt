@@ -1,7 +1,7 @@
 -- Answers of `check`, worked out.
 use Rattle.tsa_base.specs.Places.{line_at, column_at}
 use Rattle.tsa_base.specs.Spans.{span_text}
-use Rattle.tsa_tree.proofs.types.Computed.{computed}
+use Rattle.tsa_tree.proofs.types.TextValues.{computed}
 use Rattle.tsa_unit.specs.Parsing.{unit_of}
 use Rattle.tsa_tool.specs.Checks.{typed_in, sized_in, fit_in, tree_in}
 use Rattle.tsa_tool.specs.CheckExamples.{ChecksAreAsWritten}
@@ -11,7 +11,7 @@ use Rattle.tsa_place_model.specs.Places.{places_inside}
 use Rattle.tsa_place_model.specs.Parts.{argument_ways, guard_ways, parts_behind, members_after}
 use Rattle.tsa_place_model.specs.Items.{enumerators_behind}
 use Rattle.tsa_place_model.specs.Units.{placed_behind}
-use Rattle.tsa_profile.proofs.Worked.{all}
+use Rattle.tsa_profile.proofs.Examples.{all}
 
 pub checks_are_as_written : ChecksAreAsWritten
 unfolding computed line_at column_at span_text unit_of tree_in typed_in sized_in fit_in leads structure_at size_of places_inside argument_ways guard_ways parts_behind members_after enumerators_behind placed_behind all

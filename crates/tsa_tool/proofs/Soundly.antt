@@ -10,7 +10,7 @@ use Rattle.tsa_profile_accesses.specs.declared.premise.ProfileCode.{ProfileCode}
 use Rattle.tsa_profile_accesses.specs.declared.premise.ProfileCode.TheVariants.{PF1, PF2, PF3, PF4, PF5, PF6, PF7, PF8, PF9, LM4, LM7}
 use Rattle.tsa_sound_accepted.specs.terms.Units.{IsInProfile}
 use Rattle.tsa_warn.specs.WarningLines.{Warned}
-use Rattle.tsa_sound_accepted.proofs.Accepted.{units_without_warnings_are_sound}
+use Rattle.tsa_sound_accepted.proofs.AcceptedUnits.{units_without_warnings_are_sound}
 use Rattle.tsa_tool.specs.Checks.{fit_in}
 use Rattle.tsa_tool.specs.Reports.{IsCheckOf, IsReport, IsReportBy, OfUnit, Report, accepted, profile_status, refused_report, status_number, syntax_status, warned_report}
 use Rattle.tsa_tool.specs.Runs.{Gives, OfInput, ReadsItsInput}
@@ -22,7 +22,7 @@ use Rattle.tsa_tool.specs.declared.check.Refusal.{Refusal}
 use Rattle.tsa_tool.specs.declared.check.Refusal.TheVariants.{Lex, Syntax, Types, Places, Profile}
 use Rattle.tsa_tool.specs.declared.command.Command.{Command}
 use Rattle.tsa_tool.specs.declared.command.Command.TheVariants.{Check}
-use Rattle.tsa_tool.proofs.Accepted.{accepted_units}
+use Rattle.tsa_tool.proofs.Acceptance.{accepted_units}
 use Rattle.tsa_tool.proofs.PrintedAgain.{unit_is_spelled}
 
 -- a unit that is fit is in the profile, as the laws of soundness ask

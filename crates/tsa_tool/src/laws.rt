@@ -12,13 +12,13 @@ pub fn one_report_is_right()
 
 /// Where `check` answers `accepted`, the text is a unit of right types, in the profile and within the limits, of which no rule fails at any point of any
 /// function for any path, on any walk.
-#[tactic(auto, using(crate::proofs::Accepted::accepted_units))]
+#[tactic(auto, using(crate::proofs::Acceptance::accepted_units))]
 pub fn accepted_units_break_no_rule()
     ensures { AcceptedUnitsBreakNoRule }
 {}
 
 /// And such a unit is answered by `accepted`, where its text is no longer than an input may be.
-#[tactic(auto, using(crate::proofs::Accepted::quiet_units))]
+#[tactic(auto, using(crate::proofs::Acceptance::quiet_units))]
 pub fn units_that_break_no_rule_are_accepted()
     ensures { UnitsThatBreakNoRuleAreAccepted }
 {}

@@ -2,14 +2,10 @@
 pub mod Facts
 pub mod Meet
 pub mod Meanings
-pub mod Kept
-pub mod Opened
 pub mod Skips
 pub mod ToRows
 pub mod SkipsToRows
 pub mod ListsToRows
-pub mod Same
-pub mod Ahead
 pub mod Answers
 pub mod Negatives
 pub mod Read
@@ -18,3 +14,7 @@ pub mod Examples
 pub mod NamesRise
 pub mod SpansCover
 pub mod NodesClimb
+pub mod Beginnings
+pub mod RowSoundness
+pub mod TokenCounts
+pub mod RowEquality

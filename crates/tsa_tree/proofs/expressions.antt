@@ -3,11 +3,7 @@ pub mod ToRows
 pub mod RowsToProductions
 pub mod BeginningsToRows
 pub mod RowsToBeginnings
-pub mod Same
-pub mod Ahead
-pub mod Truncated
 pub mod GoesOn
-pub mod Unlimited
 pub mod Answers
 pub mod OneTree
 pub mod ReadSound
@@ -16,3 +12,7 @@ pub mod Trees
 pub mod NamesRise
 pub mod SpansCover
 pub mod NodesClimb
+pub mod OwnTokens
+pub mod TokenCounts
+pub mod RowEquality
+pub mod LimitsApart

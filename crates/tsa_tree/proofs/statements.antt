@@ -4,7 +4,6 @@ pub mod Meet
 pub mod BlocksMeet
 pub mod SimplesToRows
 pub mod BlocksToRows
-pub mod Kept
 pub mod Read
 pub mod Laws
 pub mod Examples
@@ -12,3 +11,4 @@ pub mod Trees
 pub mod NamesRise
 pub mod SpansCover
 pub mod NodesClimb
+pub mod RowSoundness

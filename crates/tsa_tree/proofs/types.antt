@@ -6,8 +6,8 @@ pub mod DeclarationNodes
 pub mod StatementNodes
 pub mod UnitNodes
 pub mod ExpressionExamples
-pub mod Computed
 pub mod PlaceExamples
 pub mod UnitExamples
 pub mod RunnableExamples
 pub mod Grown
+pub mod TextValues

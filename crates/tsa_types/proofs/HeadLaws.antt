@@ -11,7 +11,7 @@ use Rattle.tsa_tree.specs.types.Premises.{Premise, or_else, first}
 use Rattle.tsa_tree.specs.types.Scopes.{Scope, context_of, found, with_locals}
 use Rattle.tsa_tree.specs.types.Symbols.{names_in_params, names_in_attributes, names_in_head}
 use Rattle.tsa_types_expressions.specs.declared.refusal.TypeRefusal.{TypeRefusal}
-use Rattle.tsa_types_expressions.specs.Judged.{Judges}
+use Rattle.tsa_types_expressions.specs.Judgements.{Judges}
 use Rattle.tsa_types_expressions.proofs.Steps.{first_append}
 use Rattle.tsa_types_expressions.proofs.SymbolLaws.{Notes, noted, noted_append, noted_first}
 use Rattle.tsa_types_expressions.proofs.Sequences.{judged_some}

@@ -1,6 +1,6 @@
 //! Functions by their declarations (C11 6.7.6.3, 6.9.1): a later one beside the first, and what is known from each on.
 ghost use Rattle.std.specs.Prelude.{◌≡◌, ◌&&◌, not, false, slice_get, IfOk, OnOk, is_some};
-ghost use Rattle.tsa_types_expressions.specs.Judged.{Judges};
+ghost use Rattle.tsa_types_expressions.specs.Judgements.{Judges};
 ghost use Rattle.tsa_tree.specs.declarations.Shapes.{param_shapes, head_shape};
 ghost use Rattle.tsa_tree.specs.types.DeclaredTypes.{resolve as spec_resolve, declared_premises};
 ghost use Rattle.tsa_tree.specs.types.Heads.{params_of, same_kind as spec_same_kind, agrees as spec_agrees, agree, differs as spec_differs, is_another as spec_is_another, behind_head};

@@ -1,6 +1,6 @@
 //! Heads of functions (C11 6.7.6.3, 6.9.1): their parameters are known one after the other, and then in the attributes and the body.
 ghost use Rattle.std.specs.Prelude.{◌≡◌, ◌++◌, length, option_map, is_some, IfOk, OnOk};
-ghost use Rattle.tsa_types_expressions.specs.Judged.{Judges};
+ghost use Rattle.tsa_types_expressions.specs.Judgements.{Judges};
 ghost use Rattle.tsa_tree.specs.declarations.Shapes.{param_shape, param_shapes, head_shape};
 ghost use Rattle.tsa_tree.specs.expressions.Shapes.{name_shape};
 ghost use Rattle.tsa_tree.specs.types.DeclaredTypes.{declared_premises};

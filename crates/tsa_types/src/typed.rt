@@ -1,7 +1,7 @@
 //! Units that are typed (C11 6.5, 6.7, 6.8).
 ghost use Rattle.std.specs.Prelude.{◌≡◌, [], None, IfOk};
 ghost use Rattle.tsa_tree.specs.units.Shapes.{item_shapes};
-ghost use Rattle.tsa_types_expressions.specs.Judged.{Judges, forget};
+ghost use Rattle.tsa_types_expressions.specs.Judgements.{Judges, forget};
 ghost use Rattle.tsa_tree.specs.types.Symbols.{symbol_in};
 ghost use Rattle.tsa_tree.specs.types.FirstFailing.{first_failing};
 ghost use Rattle.tsa_tree.specs.types.Units.{names_in_unit};

@@ -1,6 +1,6 @@
 //! Functions with their bodies, and the items of a unit one by one (C11 6.9).
 ghost use Rattle.std.specs.Prelude.{◌≡◌, ◌++◌, [], OnOk, IfOk, length, is_some};
-ghost use Rattle.tsa_types_expressions.specs.Judged.{Judges, forget};
+ghost use Rattle.tsa_types_expressions.specs.Judgements.{Judges, forget};
 ghost use Rattle.tsa_tree.specs.declarations.Shapes.{head_shape};
 ghost use Rattle.tsa_tree.specs.statements.Shapes.{stmt_shapes};
 ghost use Rattle.tsa_tree.specs.types.DeclaredTypes.{thing_type};

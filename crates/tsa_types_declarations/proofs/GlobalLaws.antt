@@ -16,7 +16,7 @@ use Rattle.tsa_tree.specs.types.Premises.{Premise, or_else, first}
 use Rattle.tsa_tree.specs.types.Scopes.{Scope, context_of, with_name, with_globals, is_taken}
 use Rattle.tsa_tree.specs.types.Symbols.{names_in_given, names_in_attributes, names_in_given_init, names_in_declaration, names_in_global}
 use Rattle.tsa_types_expressions.specs.declared.refusal.TypeRefusal.{TypeRefusal}
-use Rattle.tsa_types_expressions.specs.Judged.{Judges}
+use Rattle.tsa_types_expressions.specs.Judgements.{Judges}
 use Rattle.tsa_types_expressions.proofs.Steps.{first_append}
 use Rattle.tsa_types_expressions.proofs.SymbolLaws.{Notes, noted, noted_append}
 use Rattle.tsa_types_expressions.proofs.Sequences.{judged_some}

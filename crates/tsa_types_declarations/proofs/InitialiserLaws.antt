@@ -23,7 +23,7 @@ use Rattle.tsa_tree.specs.types.Symbols.{names_in, names_in_init}
 use Rattle.tsa_types_expressions.specs.declared.constants.Found.{Found}
 use Rattle.tsa_types_expressions.specs.Found.{with_constant, constant_in, found_in}
 use Rattle.tsa_types_expressions.specs.Verdicts.{at, outcome, found_type, verdict_of}
-use Rattle.tsa_types_expressions.proofs.Asked.{asked, asked_first}
+use Rattle.tsa_types_expressions.proofs.LaterPremises.{asked, asked_first}
 use Rattle.tsa_types_expressions.proofs.ConstantLaws.{constant_is}
 use Rattle.tsa_types_expressions.proofs.Steps.{Alike, alike, found_is}
 use Rattle.tsa_types_expressions.proofs.SymbolLaws.{Notes, noted}

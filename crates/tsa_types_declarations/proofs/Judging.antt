@@ -5,7 +5,7 @@ use Rattle.tsa_tree.specs.declared.premise.Failure.{Failure}
 use Rattle.tsa_tree.specs.types.Premises.{Premise, or_else, first}
 use Rattle.tsa_types_expressions.specs.declared.refusal.TypeRefusal.{TypeRefusal}
 use Rattle.tsa_types_expressions.specs.declared.refusal.TypeRefusal.TheVariants.{At}
-use Rattle.tsa_types_expressions.specs.Judged.{Judges, judgement}
+use Rattle.tsa_types_expressions.specs.Judgements.{Judges, judgement}
 use Rattle.tsa_types_expressions.proofs.Steps.{first_append}
 
 -- a refusal by the first premise that fails

@@ -4,7 +4,7 @@ use Rattle.tsa_tree.specs.declared.premise.Failure.{Failure}
 use Rattle.tsa_tree.specs.types.Premises.{Premise, or_else, first}
 use Rattle.tsa_tree.specs.types.Symbols.{Names}
 use Rattle.tsa_types_expressions.specs.declared.refusal.TypeRefusal.{TypeRefusal}
-use Rattle.tsa_types_expressions.specs.Judged.{Judges}
+use Rattle.tsa_types_expressions.specs.Judgements.{Judges}
 use Rattle.tsa_types_expressions.proofs.Steps.{first_append}
 use Rattle.tsa_types_expressions.proofs.SymbolLaws.{Notes, noted, noted_append, noted_nothing}
 use Rattle.tsa_types_expressions.proofs.Sequences.{judged_some, nothing_fails}

@@ -7,7 +7,7 @@ use Rattle.tsa_tree.specs.types.Scopes.{Scope, Members}
 use Rattle.tsa_tree.specs.types.Structs.{member_premises, with_member, members_premises, members_behind}
 use Rattle.tsa_tree.specs.types.Symbols.{Names, names_in_member, names_in_members}
 use Rattle.tsa_types_expressions.specs.declared.refusal.TypeRefusal.{TypeRefusal}
-use Rattle.tsa_types_expressions.specs.Judged.{Judges}
+use Rattle.tsa_types_expressions.specs.Judgements.{Judges}
 use Rattle.tsa_types_expressions.proofs.SymbolLaws.{Notes, noted}
 use Rattle.tsa_types_declarations.proofs.Lists.{premises_end, premises_stop, premises_next, behind_end, behind_next, names_end, names_next}
 

@@ -20,7 +20,7 @@ use Rattle.tsa_tree.specs.types.Scopes.{Scope, Members, found, tag_in, with_owne
 use Rattle.tsa_tree.specs.types.Structs.{member_premises, with_member, members_premises, members_behind, first_place, other_struct, inside_struct, struct_premises, behind_struct}
 use Rattle.tsa_tree.specs.types.Types.{single}
 use Rattle.tsa_types_expressions.specs.declared.refusal.TypeRefusal.{TypeRefusal}
-use Rattle.tsa_types_expressions.specs.Judged.{Judges}
+use Rattle.tsa_types_expressions.specs.Judgements.{Judges}
 use Rattle.tsa_types_expressions.specs.Verdicts.{at}
 use Rattle.tsa_types_expressions.proofs.Steps.{first_append}
 use Rattle.tsa_types_expressions.proofs.Sequences.{judged_some, nothing_fails, one_fails, one_holds}

@@ -1,6 +1,6 @@
 //! Names of types (C11 6.7.8).
 ghost use Rattle.std.specs.Prelude.{◌≡◌, ◌++◌, OnOk};
-ghost use Rattle.tsa_types_expressions.specs.Judged.{Judges};
+ghost use Rattle.tsa_types_expressions.specs.Judgements.{Judges};
 ghost use Rattle.tsa_tree.specs.declarations.Shapes.{type_shape};
 ghost use Rattle.tsa_tree.specs.expressions.Shapes.{name_shape};
 ghost use Rattle.tsa_tree.specs.types.Premises.{first};

@@ -1,6 +1,6 @@
 //! Enumerators (C11 6.7.2.2): each is known after its own value.
 ghost use Rattle.std.specs.Prelude.{◌≡◌, ◌++◌, ◌||◌, ◌∷◌, pos, option_map, IfOk, OnOk};
-ghost use Rattle.tsa_types_expressions.specs.Judged.{Judges, forget};
+ghost use Rattle.tsa_types_expressions.specs.Judgements.{Judges, forget};
 ghost use Rattle.tsa_tree.specs.declarations.Shapes.{enumerator_shape, enumerator_shapes};
 ghost use Rattle.tsa_tree.specs.expressions.Shapes.{name_shape};
 ghost use Rattle.tsa_tree.specs.types.Enums.{int_value as spec_int_value, as_int, next_after, enumerator_premises, behind_enumerators, value_verdict, enumerator_value, enumerator_entry as spec_entry, other_enum as spec_other_enum, is_enumerator as spec_is_enumerator, enum_premises, behind_enum};

@@ -1,6 +1,6 @@
 //! Globals (C11 6.9.2): each is known in its own attributes, length and initialiser.
 ghost use Rattle.std.specs.Prelude.{◌≡◌, ◌++◌, Bool, option_map, IfOk, OnOk};
-ghost use Rattle.tsa_types_expressions.specs.Judged.{Judges};
+ghost use Rattle.tsa_types_expressions.specs.Judgements.{Judges};
 ghost use Rattle.tsa_types_expressions.specs.Lengths.{name_premises};
 ghost use Rattle.tsa_tree.specs.declarations.Shapes.{decl_shape, init_shape};
 ghost use Rattle.tsa_tree.specs.types.DeclaredTypes.{thing_type, typed_premises};

@@ -1,6 +1,6 @@
 //! Structs (C11 6.7.2.1): members, of which those before a guard are known in it.
 ghost use Rattle.std.specs.Prelude.{◌≡◌, ◌++◌, ◌||◌, [], OnOk, IfOk, length, option_map};
-ghost use Rattle.tsa_types_expressions.specs.Judged.{Judges};
+ghost use Rattle.tsa_types_expressions.specs.Judgements.{Judges};
 ghost use Rattle.tsa_tree.specs.attributes.Syntax.{attr_shape, attr_shapes};
 ghost use Rattle.tsa_tree.specs.declarations.Shapes.{decl_shape, decl_shapes};
 ghost use Rattle.tsa_tree.specs.expressions.Shapes.{name_shape};

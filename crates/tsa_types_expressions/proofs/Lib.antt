@@ -1,4 +1,3 @@
-pub mod Asked
 pub mod ConstantLaws
 pub mod FoundLaws
 pub mod Judging
@@ -10,3 +9,4 @@ pub mod Steps
 pub mod SymbolLaws
 pub mod ValueLaws
 pub mod Walk
+pub mod LaterPremises

@@ -15,7 +15,7 @@ use Rattle.tsa_types_expressions.specs.declared.constants.Constant.{Constant}
 use Rattle.tsa_types_expressions.specs.Found.{constant_in, found_in, with_constant}
 use Rattle.tsa_types_expressions.specs.Locks.{locked}
 use Rattle.tsa_types_expressions.specs.Verdicts.{at, verdict_of}
-use Rattle.tsa_types_expressions.proofs.Asked.{asked, asked_first}
+use Rattle.tsa_types_expressions.proofs.LaterPremises.{asked, asked_first}
 use Rattle.tsa_types_expressions.proofs.Steps.{first_append, or_else_same}
 use Rattle.tsa_base.proofs.Numbers.{plus_one}
 use Rattle.tsa_types_expressions.proofs.Walk.{or_nothing}

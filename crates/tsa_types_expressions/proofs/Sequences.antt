@@ -6,7 +6,7 @@ use Rattle.tsa_tree.specs.declarations.Syntax.{DeclaredType}
 use Rattle.tsa_tree.specs.declared.premise.TypeCode.{TypeCode}
 use Rattle.tsa_types_expressions.specs.declared.refusal.TypeRefusal.{TypeRefusal}
 use Rattle.tsa_types_expressions.specs.declared.refusal.TypeRefusal.TheVariants.{At, NoMemory}
-use Rattle.tsa_types_expressions.specs.Judged.{Judges}
+use Rattle.tsa_types_expressions.specs.Judgements.{Judges}
 use Rattle.tsa_tree.specs.types.Premises.{Premise, premise, or_else, first}
 use Rattle.tsa_tree.specs.declared.premise.Failure.{Failure}
 use Rattle.tsa_tree.specs.types.DeclaredTypes.{length_premises, typed_premises, declared_premises}

@@ -1,7 +1,7 @@
 pub mod Lengths
 pub mod Found
-pub mod Judged
 pub mod Judging
 pub mod Locks
 pub mod Parts
 pub mod Verdicts
+pub mod Judgements

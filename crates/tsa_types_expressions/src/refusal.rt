@@ -1,6 +1,6 @@
 //! Why a unit isn't typed.
 ghost use Rattle.std.specs.Prelude.{◌≡◌};
-ghost use Rattle.tsa_types_expressions.specs.Judged.{judgement};
+ghost use Rattle.tsa_types_expressions.specs.Judgements.{judgement};
 
 use tsa_base::{NoMemory, Span};
 use tsa_tree::premise::{Failure, TypeCode};

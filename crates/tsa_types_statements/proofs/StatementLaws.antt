@@ -9,7 +9,7 @@ use Rattle.tsa_tree.specs.statements.Shapes.{stmt_shapes}
 use Rattle.tsa_tree.specs.statements.Syntax.{Simple, ForInit, Statement, block, if_alone, if_else, while_loop, do_loop, for_loop, switch, case, otherwise, label, Statements}
 use Rattle.tsa_types_expressions.specs.declared.refusal.TypeRefusal.{TypeRefusal}
 use Rattle.tsa_tree.specs.types.Expressions.{premises_of}
-use Rattle.tsa_types_expressions.specs.Judged.{Judges, judgement}
+use Rattle.tsa_types_expressions.specs.Judgements.{Judges, judgement}
 use Rattle.tsa_tree.specs.types.Operands.{is_scalar, is_integer}
 use Rattle.tsa_tree.specs.types.Premises.{Premise, or_else, failure_of, first}
 use Rattle.tsa_tree.specs.declared.premise.Failure.{Failure}

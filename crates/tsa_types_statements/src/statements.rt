@@ -42,7 +42,7 @@ impl<'a> Walk<'a> {
     ghost use Rattle.tsa_tree.specs.types.Statements.{in_a_loop, in_a_switch, behind_init, case_premises, for_premises, leaf_premises, statement_premises, statements_premises, behind, behind_all};
     ghost use Rattle.tsa_tree.specs.types.Symbols.{names_in, names_in_for, names_in_leaf, names_in_local, names_in_statement, names_in_statements};
     ghost use Rattle.tsa_tree.specs.types.Targets.{declared_by_init, declared_in, declared_in_all};
-    ghost use Rattle.tsa_types_expressions.specs.Judged.{Judges};
+    ghost use Rattle.tsa_types_expressions.specs.Judgements.{Judges};
 
     /// A test of a statement that begins at a span. Its names are noted.
     #[tactic(auto, using(tsa_types_simple::proofs::SimpleLaws::tests))]

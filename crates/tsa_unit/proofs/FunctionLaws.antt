@@ -30,7 +30,7 @@ use Rattle.tsa_decl.specs.Outcomes.{going_items, finished}
 use Rattle.tsa_decl_declarators.proofs.ListLaws.{map-push}
 use Rattle.tsa_decl_declarators.proofs.TokenLaws.{not_semicolon}
 use Rattle.tsa_decl.proofs.BegunLaws.{more_pointed}
-use Rattle.tsa_unit_simple.specs.Pointed.{ArePointed}
+use Rattle.tsa_unit_simple.specs.PointNumbers.{ArePointed}
 use Rattle.tsa_unit_simple.proofs.RowLaws.{opens_law}
 
 -- the last point is the end

@@ -8,7 +8,7 @@ use Rattle.tsa_tree.specs.expressions.Shapes.{name_shape}
 use Rattle.tsa_tree.specs.tokens.Signs.{Aliases}
 use Rattle.tsa_tree.specs.units.Syntax.{name_of, names_of, names_of_item}
 use Rattle.tsa_tree.specs.units.Shapes.{item_shape, item_shapes}
-use Rattle.tsa_expr.specs.Known.{with_name}
+use Rattle.tsa_expr.specs.TypeNames.{with_name}
 use Rattle.tsa_unit.specs.Names.{with_names}
 
 -- the names of the items from one on

@@ -1,7 +1,7 @@
 -- How the names of types that are known grow.
 use Rattle.std.specs.Prelude.{ℕ, List, [], ◌∷◌}
 use Rattle.tsa_tree.specs.tokens.Signs.{Aliases}
-use Rattle.tsa_expr.specs.Known.{with_name}
+use Rattle.tsa_expr.specs.TypeNames.{with_name}
 
 -- some names more, one by one, each where it is not yet among them
 abbrev pub with_names : Aliases → List (List ℕ) → Aliases

@@ -5,7 +5,7 @@ ghost use Rattle.tsa_tree.specs.Reads.{read};
 ghost use Rattle.tsa_tree.specs.Rows.{some_items, function_end, item as item_call};
 ghost use Rattle.tsa_tree.specs.units.Shapes.{item_shapes, HaveTheirPoints};
 ghost use Rattle.tsa_tree.specs.tokens.Signs.{lexemes};
-ghost use Rattle.tsa_expr.specs.Known.{known};
+ghost use Rattle.tsa_expr.specs.TypeNames.{known};
 ghost use Rattle.tsa_expr.specs.Source.{input, named};
 ghost use Rattle.tsa_expr.specs.Gives.{Gives};
 ghost use Rattle.tsa_decl_declarators.specs.Outcomes.{after};

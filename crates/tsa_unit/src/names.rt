@@ -3,7 +3,7 @@ ghost use Rattle.std.specs.Prelude.{◌≡◌, ◌≤◌, OnOk, OnErr, Err, opti
 ghost use Rattle.tsa_tree.specs.expressions.Shapes.{name_shape};
 ghost use Rattle.tsa_tree.specs.units.Syntax.{name_of, names_of_item, names_of};
 ghost use Rattle.tsa_tree.specs.units.Shapes.{item_shape, item_shapes};
-ghost use Rattle.tsa_expr.specs.Known.{with_name};
+ghost use Rattle.tsa_expr.specs.TypeNames.{with_name};
 ghost use Rattle.tsa_unit.specs.Names.{with_names};
 
 use tsa_expr::{Aliases, SyntaxRefusal};

@@ -31,8 +31,8 @@ use Rattle.tsa_unit_heads.specs.declared.heads.Head.TheVariants as head
 use Rattle.tsa_unit_heads.specs.declared.heads.Headed.{Headed}
 use Rattle.tsa_unit_heads.specs.Heads.{ended_at, IsOpened}
 use Rattle.tsa_unit_simple.specs.Outcomes.{test_at, value_or_none_at, step_at, body_at}
-use Rattle.tsa_unit_simple.specs.Pointed.{IsStepAt, IsBegun, IsStepped}
-use Rattle.tsa_unit_simple.specs.Seen.{init_seen, step_seen}
+use Rattle.tsa_unit_simple.specs.PointNumbers.{IsStepAt, IsBegun, IsStepped}
+use Rattle.tsa_unit_simple.specs.Readings.{init_seen, step_seen}
 use Rattle.tsa_unit_heads.proofs.LeafRows.{label_is}
 use Rattle.tsa_unit_simple.proofs.MarkLaws.{tested_point, spanned, one_more}
 use Rattle.tsa_unit_simple.proofs.RowLaws.{while_is, switch_is, case_is, otherwise_is, for_is}

@@ -25,7 +25,7 @@ use Rattle.tsa_unit_heads.specs.Openings.{HoldsNoBody, ends_with_body}
 use Rattle.tsa_unit_heads.proofs.LeafRows.{break_is, continue_is, goto_is, return_is, wordless_is}
 use Rattle.tsa_unit_simple.specs.declared.points.Read.{Read}
 use Rattle.tsa_unit_simple.specs.Outcomes.{simple_statement_at, closed_at, goto_at, return_at}
-use Rattle.tsa_unit_simple.specs.Seen.{seen_statement}
+use Rattle.tsa_unit_simple.specs.Readings.{seen_statement}
 
 module _ (ts : List Lexeme) (aliases : Aliases) where
   -- jumps

@@ -15,8 +15,8 @@ use Rattle.tsa_unit_heads.specs.declared.heads.Head.TheVariants.{While, Switch, 
 use Rattle.tsa_unit_heads.specs.declared.heads.Headed.{Headed}
 use Rattle.tsa_unit_heads.specs.declared.heads.Marked.{Marked}
 use Rattle.tsa_unit_simple.specs.Outcomes.{body_at}
-use Rattle.tsa_unit_simple.specs.Pointed.{IsPartAt, IsStepAt}
-use Rattle.tsa_unit_simple.specs.Seen.{init_seen, step_seen}
+use Rattle.tsa_unit_simple.specs.PointNumbers.{IsPartAt, IsStepAt}
+use Rattle.tsa_unit_simple.specs.Readings.{init_seen, step_seen}
 
 abbrev pub seen_head : Headed → Head × ℕ
 seen_head r = (r.head, r.next)

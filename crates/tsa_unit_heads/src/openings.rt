@@ -7,8 +7,8 @@ ghost use Rattle.tsa_expr.specs.Source.{input, named};
 ghost use Rattle.tsa_expr.specs.Gives.{Gives, Leads};
 ghost use Rattle.tsa_unit_heads.specs.Heads.{IsOpened, ended_at, seen_head};
 ghost use Rattle.tsa_unit_heads.specs.Openings.{HoldsNoBody, ends_with_body};
-ghost use Rattle.tsa_unit_simple.specs.Pointed.{IsPointed};
-ghost use Rattle.tsa_unit_simple.specs.Seen.{seen_statement};
+ghost use Rattle.tsa_unit_simple.specs.PointNumbers.{IsPointed};
+ghost use Rattle.tsa_unit_simple.specs.Readings.{seen_statement};
 
 use crate::heads::{Headed, case_head, default_head, switch_head, while_head};
 use crate::text::TextReader;

@@ -15,7 +15,7 @@ use Rattle.tsa_expr.specs.declared.refusal.SyntaxRefusal.{SyntaxRefusal}
 use Rattle.tsa_expr.specs.declared.refusal.SyntaxRefusal.TheVariants.{NoMemory}
 use Rattle.tsa_expr.specs.Gives.{Fails, Gives}
 use Rattle.tsa_tree.specs.declared.stmt.Action.{Action}
-use Rattle.tsa_unit_simple.specs.Pointed.{IsAlone}
+use Rattle.tsa_unit_simple.specs.PointNumbers.{IsAlone}
 use Rattle.tsa_expr.proofs.Answering.{fails_then, fails_same, gives_same}
 use Rattle.tsa_decl_declarators.specs.Outcomes.{one_token, name_at}
 use Rattle.tsa_decl_declarators.proofs.TokenLaws.{not_semicolon}
@@ -29,7 +29,7 @@ use Rattle.tsa_unit_simple.specs.declared.simple.SimpleKind.{SimpleKind}
 use Rattle.tsa_unit_simple.specs.declared.simple.SimpleKind.TheVariants.{Eval, Assign}
 use Rattle.tsa_unit_simple.specs.declared.points.Read.{Read}
 use Rattle.tsa_unit_simple.specs.Outcomes.{simple_at, simple_statement_at, closed_at, goto_at, return_at}
-use Rattle.tsa_unit_simple.specs.Seen.{kind_shape, simple_shape, seen_statement}
+use Rattle.tsa_unit_simple.specs.Readings.{kind_shape, simple_shape, seen_statement}
 
 respanned : (k : SimpleKind) (a b : Span) → spanning (kind_shape k a) b ≡ kind_shape k b
 respanned (Eval x) a b = refl

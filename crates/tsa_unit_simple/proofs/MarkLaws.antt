@@ -31,7 +31,7 @@ use Rattle.tsa_attr.proofs.Joining.{append-nil, append-append}
 use Rattle.tsa_unit_simple.specs.Outcomes.{joined, statements_after}
 use Rattle.tsa_unit_simple.proofs.ListRows.{joined-nothing, joined-joined, locals_fail, locals_endless, locals_go}
 use Rattle.tsa_unit_simple.proofs.PointLaws.{alone_points}
-use Rattle.tsa_unit_simple.specs.Pointed.{IsPointed, IsAlone, ArePointed}
+use Rattle.tsa_unit_simple.specs.PointNumbers.{IsPointed, IsAlone, ArePointed}
 
 -- a local has one point
 pub local_alone : (d : Bor Decl) → IsAlone (Local d.now) (Declare d) d.now.span

@@ -29,8 +29,8 @@ use Rattle.tsa_expr.proofs.Answering.{fails_then, fails_same, not_close}
 use Rattle.tsa_decl_declarators.specs.Outcomes.{one_token}
 use Rattle.tsa_decl_declarators.proofs.TokenLaws.{not_semicolon}
 use Rattle.tsa_unit_simple.specs.Outcomes.{simple_at, simply_at, step_at}
-use Rattle.tsa_unit_simple.specs.Pointed.{IsPointed, IsBegun, IsStepped}
-use Rattle.tsa_unit_simple.specs.Seen.{simple_shape}
+use Rattle.tsa_unit_simple.specs.PointNumbers.{IsPointed, IsBegun, IsStepped}
+use Rattle.tsa_unit_simple.specs.Readings.{simple_shape}
 use Rattle.tsa_unit_simple.proofs.PointLaws.{simple_kept, simple_seen}
 use Rattle.tsa_unit_simple.specs.declared.simple.Simple as read_simple
 use Rattle.tsa_attr.proofs.Joining.{append-nil}

@@ -13,13 +13,13 @@ use Rattle.tsa_tree.specs.points.Syntax.{evaluates, assigns}
 use Rattle.tsa_tree.specs.statements.Syntax.{simple}
 use Rattle.tsa_unit_simple.specs.declared.simple.SimpleKind.{SimpleKind}
 use Rattle.tsa_unit_simple.specs.declared.simple.SimpleKind.TheVariants.{Eval, Assign}
-use Rattle.tsa_unit_simple.specs.Seen.{kind_shape}
+use Rattle.tsa_unit_simple.specs.Readings.{kind_shape}
 use Rattle.tsa_tree.specs.declared.stmt.Action.{Action}
 use Rattle.tsa_tree.specs.declared.stmt.Point.{Point}
 use Rattle.tsa_tree.specs.declared.stmt.StmtKind.{StmtKind}
 use Rattle.tsa_tree.specs.statements.Shapes.{point_shape, stmt_shape, IsNumbered}
 use Rattle.tsa_decl_declarators.proofs.ListLaws.{map-push}
-use Rattle.tsa_unit_simple.specs.Pointed.{IsPointed, IsAlone, simple_with}
+use Rattle.tsa_unit_simple.specs.PointNumbers.{IsPointed, IsAlone, simple_with}
 
 pub alone_points : (old new : List Point) (kind : StmtKind) (action : Action) (span : Span) (n : ℕ) → IsAlone kind action span
     → n ≡ length old → new ≡ old ++ record { action = action; span = span } ∷ []

@@ -23,7 +23,7 @@ use Rattle.tsa_expr.proofs.Places.{sign_within}
 use Rattle.tsa_attr.proofs.Joining.{then-then, then-same, then-ok}
 use Rattle.tsa_unit_simple.specs.declared.simple.Simple as read_simple
 use Rattle.tsa_unit_simple.specs.Outcomes.{step_in, simple_at}
-use Rattle.tsa_unit_simple.specs.Seen.{simple_shape}
+use Rattle.tsa_unit_simple.specs.Readings.{simple_shape}
 
 is_step : (s : Sign) (op : BinaryOp) → step_in s ≡ Some op → s ≡ sign.Step op
 is_step (sign.Step o) op h = cc

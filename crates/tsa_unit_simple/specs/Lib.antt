@@ -1,3 +1,3 @@
 pub mod Outcomes
-pub mod Seen
-pub mod Pointed
+pub mod Readings
+pub mod PointNumbers

@@ -5,9 +5,9 @@ ghost use Rattle.tsa_tree.specs.Rows.{a_close, a_colon, a_keyword, sees};
 ghost use Rattle.tsa_expr.specs.Source.{input, named};
 ghost use Rattle.tsa_expr.specs.Gives.{Gives};
 ghost use Rattle.tsa_decl_declarators.specs.Outcomes.{one_token};
-ghost use Rattle.tsa_attr.specs.Seen.{passed};
+ghost use Rattle.tsa_attr.specs.Readings.{passed};
 ghost use Rattle.tsa_unit_simple.specs.Outcomes.{test_at, value_or_none_at};
-ghost use Rattle.tsa_unit_simple.specs.Seen.{seen_tested, seen_value};
+ghost use Rattle.tsa_unit_simple.specs.Readings.{seen_tested, seen_value};
 
 use tsa_expr::{Reader, SyntaxCode, SyntaxRefusal, refuse};
 use tsa_decl_declarators::{kept_in, open, semicolon};

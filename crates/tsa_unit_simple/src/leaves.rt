@@ -7,8 +7,8 @@ ghost use Rattle.tsa_tree.specs.statements.Shapes.{stmt_shape};
 ghost use Rattle.tsa_expr.specs.Source.{input, named};
 ghost use Rattle.tsa_expr.specs.Gives.{Gives};
 ghost use Rattle.tsa_unit_simple.specs.Outcomes.{simple_statement_at, closed_at, goto_at, return_at};
-ghost use Rattle.tsa_unit_simple.specs.Pointed.{IsAlone, IsPointed, simple_with as spec_with};
-ghost use Rattle.tsa_unit_simple.specs.Seen.{kind_shape, seen_statement};
+ghost use Rattle.tsa_unit_simple.specs.PointNumbers.{IsAlone, IsPointed, simple_with as spec_with};
+ghost use Rattle.tsa_unit_simple.specs.Readings.{kind_shape, seen_statement};
 
 use crate::points::{Deed, Read, alone, mark};
 use crate::simple::{SimpleKind, read_simple};

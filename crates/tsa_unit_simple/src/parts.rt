@@ -9,10 +9,10 @@ ghost use Rattle.tsa_tree.specs.statements.Syntax.{locals_before, none};
 ghost use Rattle.tsa_tree.specs.statements.Shapes.{stmt_shapes};
 ghost use Rattle.tsa_expr.specs.Source.{input, named};
 ghost use Rattle.tsa_expr.specs.Gives.{Gives, Leads};
-ghost use Rattle.tsa_attr.specs.Seen.{passed};
+ghost use Rattle.tsa_attr.specs.Readings.{passed};
 ghost use Rattle.tsa_unit_simple.specs.Outcomes.{joined, simply_at, statements_after, step_at};
-ghost use Rattle.tsa_unit_simple.specs.Pointed.{ArePointed, IsBegun, IsPointed, IsStepped};
-ghost use Rattle.tsa_unit_simple.specs.Seen.{seen_body, seen_init, seen_step};
+ghost use Rattle.tsa_unit_simple.specs.PointNumbers.{ArePointed, IsBegun, IsPointed, IsStepped};
+ghost use Rattle.tsa_unit_simple.specs.Readings.{seen_body, seen_init, seen_step};
 
 use crate::conditions::close;
 use crate::leaves::{mark_simple, simple_with};

@@ -1,6 +1,6 @@
 //! Points are kept in order of the text, and statements bear their numbers.
 ghost use Rattle.std.specs.Prelude.{◌≡◌, ◌++◌, ◌∷◌, [], length, Some, Ok, OnOk, OnErr, Err, IfOk};
-ghost use Rattle.tsa_unit_simple.specs.Pointed.{IsPointed, IsAlone};
+ghost use Rattle.tsa_unit_simple.specs.PointNumbers.{IsPointed, IsAlone};
 
 use bumpalo::Bump;
 use std::alloc::Allocator;

@@ -8,7 +8,7 @@ ghost use Rattle.tsa_tree.specs.statements.Spelling.{one_at};
 ghost use Rattle.tsa_expr.specs.Gives.{Gives};
 ghost use Rattle.tsa_expr.specs.Source.{input, named};
 ghost use Rattle.tsa_unit_simple.specs.Outcomes.{simple_at, step_in};
-ghost use Rattle.tsa_unit_simple.specs.Seen.{kind_shape, seen_simple, simple_shape};
+ghost use Rattle.tsa_unit_simple.specs.Readings.{kind_shape, seen_simple, simple_shape};
 
 use crate::signs::{assigns, step_of};
 use tsa_base::Span;

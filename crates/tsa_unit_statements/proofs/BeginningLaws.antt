@@ -19,7 +19,7 @@ use Rattle.tsa_expr.proofs.Answering.{fails_then, fails_same, gives_same}
 use Rattle.tsa_expr.proofs.Places.{sign_within}
 use Rattle.tsa_unit_simple.specs.declared.points.Read.{Read}
 use Rattle.tsa_unit_simple.specs.Outcomes.{simple_statement_at, closed_at, test_at}
-use Rattle.tsa_unit_simple.specs.Seen.{seen_statement}
+use Rattle.tsa_unit_simple.specs.Readings.{seen_statement}
 use Rattle.tsa_unit_simple.proofs.ConditionLaws.{not_colon}
 use Rattle.tsa_unit_heads.specs.declared.heads.Head.{Head}
 use Rattle.tsa_unit_heads.specs.declared.heads.Head.TheVariants as head

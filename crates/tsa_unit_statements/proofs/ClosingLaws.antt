@@ -31,8 +31,8 @@ use Rattle.tsa_unit_heads.specs.declared.heads.Marked.{Marked}
 use Rattle.tsa_unit_heads.specs.Heads.{IsMarked, IsOpened, ended}
 use Rattle.tsa_unit_statements.specs.Closings.{ended_with, if_with, do_end_at}
 use Rattle.tsa_unit_simple.specs.Outcomes.{test_at}
-use Rattle.tsa_unit_simple.specs.Pointed.{IsPointed, ArePointed, ArmsPointed, IsPartAt, IsStepAt}
-use Rattle.tsa_unit_simple.specs.Seen.{init_seen, step_seen}
+use Rattle.tsa_unit_simple.specs.PointNumbers.{IsPointed, ArePointed, ArmsPointed, IsPartAt, IsStepAt}
+use Rattle.tsa_unit_simple.specs.Readings.{init_seen, step_seen}
 
 -- one point, and then a body
 one_ahead : (first middle last : List Point) (p : PlacedDeed) (body : List PlacedDeed) → map point_shape middle ≡ map point_shape first ++ p ∷ []

@@ -24,9 +24,9 @@ use Rattle.tsa_unit_simple.specs.declared.points.Read.{Read}
 use Rattle.tsa_unit_heads.specs.Heads.{ended, ended_at}
 use Rattle.tsa_unit_statements.specs.Closings.{arms_at, do_end_at, if_with}
 use Rattle.tsa_unit_simple.specs.Outcomes.{body_at, statements_after}
-use Rattle.tsa_unit_statements.specs.Kept.{IsKept}
-use Rattle.tsa_unit_simple.specs.Pointed.{IsPointed, ArePointed}
-use Rattle.tsa_unit_simple.specs.Seen.{seen_statement}
+use Rattle.tsa_unit_statements.specs.KeepAnswers.{IsKept}
+use Rattle.tsa_unit_simple.specs.PointNumbers.{IsPointed, ArePointed}
+use Rattle.tsa_unit_simple.specs.Readings.{seen_statement}
 use Rattle.tsa_unit_simple.proofs.RowLaws.{do_is}
 use Rattle.tsa_unit_simple.proofs.ListRows.{block_is, after-nothing, stmts_close, another_fails, another_goes}
 use Rattle.tsa_expr.proofs.Places.{sign_within}

@@ -1,2 +1,2 @@
 pub mod Closings
-pub mod Kept
+pub mod KeepAnswers

@@ -9,8 +9,8 @@ ghost use Rattle.tsa_expr.specs.Source.{input, named};
 ghost use Rattle.tsa_expr.specs.Gives.{Gives};
 ghost use Rattle.tsa_unit_heads.specs.Heads.{IsMarked, IsOpened, ended as spec_ended};
 ghost use Rattle.tsa_unit_statements.specs.Closings.{do_end_at, ended_with as spec_with, if_with};
-ghost use Rattle.tsa_unit_simple.specs.Pointed.{ArePointed, IsPointed, ArmsPointed};
-ghost use Rattle.tsa_unit_simple.specs.Seen.{seen_statement};
+ghost use Rattle.tsa_unit_simple.specs.PointNumbers.{ArePointed, IsPointed, ArmsPointed};
+ghost use Rattle.tsa_unit_simple.specs.Readings.{seen_statement};
 
 use tsa_base::Span;
 use tsa_expr::{Reader, SyntaxRefusal};

@@ -14,9 +14,9 @@ ghost use Rattle.tsa_unit_heads.specs.Heads.{IsMarked, IsOpened, ended_at};
 ghost use Rattle.tsa_unit_heads.specs.Openings.{ends_with_body};
 ghost use Rattle.tsa_unit_statements.specs.Closings.{arms_at};
 ghost use Rattle.tsa_unit_simple.specs.Outcomes.{body_at};
-ghost use Rattle.tsa_unit_statements.specs.Kept.{IsKept};
-ghost use Rattle.tsa_unit_simple.specs.Pointed.{ArePointed, IsPointed};
-ghost use Rattle.tsa_unit_simple.specs.Seen.{seen_body, seen_statement};
+ghost use Rattle.tsa_unit_statements.specs.KeepAnswers.{IsKept};
+ghost use Rattle.tsa_unit_simple.specs.PointNumbers.{ArePointed, IsPointed};
+ghost use Rattle.tsa_unit_simple.specs.Readings.{seen_body, seen_statement};
 
 use crate::closings::{Arms, block_of, do_with_test, headed_with_body, if_with_arms};
 use std::alloc::Global;

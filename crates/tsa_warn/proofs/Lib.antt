@@ -1,10 +1,10 @@
 pub mod SortedOnce
-pub mod Unique
-pub mod Having
-pub mod Beside
-pub mod Told
-pub mod Quiet
 pub mod Lines
 pub mod OneLine
 pub mod Progress
-pub mod Named
+pub mod PathsOfFunctions
+pub mod FailuresOfBodies
+pub mod Silence
+pub mod BodiesOfUnits
+pub mod BodiesOfUses
+pub mod OneText

@@ -1,11 +1,11 @@
 pub mod Comparing
 pub mod Sorting
 pub mod Telling
-pub mod Added
-pub mod Asked
-pub mod Noted
 pub mod Pathwise
-pub mod Quiet
 pub mod Leaving
-pub mod Whole
 pub mod OfBodies
+pub mod SilentPoints
+pub mod AllPasses
+pub mod MarkRules
+pub mod ListGrowth
+pub mod Notes

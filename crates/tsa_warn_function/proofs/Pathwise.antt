@@ -13,8 +13,8 @@ use Rattle.tsa_warn_function.specs.declared.spot.Spot.{Spot}
 use Rattle.tsa_warn_function.specs.Adding.{Adds}
 use Rattle.tsa_warn_function.specs.Passes.{IsOfEdges, IsOfPoint, IsOfPoints, IsOfReturns}
 use Rattle.tsa_warn_function.specs.Spots.{FailsOnWalks, IsNoted}
-use Rattle.tsa_warn_function.proofs.Added.{and_then, as_others, none_more, one_more}
-use Rattle.tsa_warn_function.proofs.Noted.{same_failure}
+use Rattle.tsa_warn_function.proofs.ListGrowth.{and_then, as_others, none_more, one_more}
+use Rattle.tsa_warn_function.proofs.Notes.{same_failure}
 use Rattle.tsa_flow_solver.proofs.Slots.{one_there}
 
 -- What is of the first paths, of one path, and of all.

@@ -7,6 +7,6 @@ pub mod Sorting
 pub mod Telling
 pub mod LocalTexts
 pub mod DeclaredLabels
-pub mod Ends
 pub mod SetMembers
 pub mod HeldWords
+pub mod LabelEnds

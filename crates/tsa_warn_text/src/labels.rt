@@ -1,7 +1,7 @@
 //! Names with the structs to which they lead.
 ghost use Rattle.std.specs.Prelude.{◌≡◌};
 ghost use Rattle.tsa_path.specs.Labels.{label};
-ghost use Rattle.tsa_path.specs.Written.{struct_in};
+ghost use Rattle.tsa_path.specs.WrittenLocks.{struct_in};
 ghost use Rattle.tsa_rules.specs.Legends as legends;
 
 use tsa_place_layout::Part;

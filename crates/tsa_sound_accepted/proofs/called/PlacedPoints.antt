@@ -20,7 +20,7 @@ use Rattle.tsa_core.specs.Bodies.{Known, known_in_body, point_by, point_of}
 use Rattle.tsa_core.specs.Meanings.{Call}
 use Rattle.tsa_core.specs.Programs.{Bodied, Declared, Function, Program, bodied_by, bodied_function, body_in, declared_by, declared_functions, first_head, function_in, or_body, program_of, stable_locals}
 use Rattle.tsa_core.specs.Uses.{uses_of}
-use Rattle.tsa_place_model.proofs.Laid.{by_last, front_at}
+use Rattle.tsa_place_model.proofs.GlobalsInRow.{by_last, front_at}
 use Rattle.tsa_core.proofs.MappedLists.{map_at}
 use Rattle.tsa_core.proofs.NoFailure as typing
 use Rattle.tsa_core.proofs.TypedTerms.{some_same}
@@ -34,7 +34,7 @@ use Rattle.tsa_profile_accesses.specs.Expressions.{attributes_at}
 use Rattle.tsa_core_points.specs.Points.{PlacedPoint, placed, placed_all}
 use Rattle.tsa_profile_context.specs.Units as profile
 use Rattle.tsa_profile_context.specs.Units.{Unit, around, attributes_behind, attributes_by, heads_premises, own_attributes, paths_limits, points_in, refusal_of_profile, stable_of, tries_limits, unit_of}
-use Rattle.tsa_core_points.proofs.Known.{placed_are_known, points_are_of_the_core, uses_are_of_the_core}
+use Rattle.tsa_core_points.proofs.PointsOfCore.{placed_are_known, points_are_of_the_core, uses_are_of_the_core}
 use Rattle.tsa_profile.proofs.AddedNames.{adds_inside}
 use Rattle.tsa_profile.proofs.BodyWays as ways
 use Rattle.tsa_profile.proofs.FunctionPaths.{functions_are}

@@ -24,7 +24,7 @@ use Rattle.tsa_core.specs.Terms.{Term, constant, variable, answer, global, membe
 use Rattle.tsa_core.proofs.KindTests.{one_of}
 use Rattle.tsa_core.proofs.MappedLists.{map_at}
 use Rattle.tsa_core.proofs.TypedTerms.{some_same}
-use Rattle.tsa_place_model.proofs.Laid.{by_last}
+use Rattle.tsa_place_model.proofs.GlobalsInRow.{by_last}
 use Rattle.tsa_rules.specs.Conditions as told
 use Rattle.tsa_rules.specs.Conditions.{answer_in, answer_of, constant_in, yes_or_no}
 use Rattle.tsa_profile_accesses.specs.Premises.{first}
@@ -35,7 +35,7 @@ use Rattle.tsa_profile_points.specs.Bodies.{Around, deed_premises, is_no_truth, 
 use Rattle.tsa_core_points.specs.CoreLaws.{known_of, seen, seen_at}
 use Rattle.tsa_profile_accesses.specs.Expressions.{expression, is_truth}
 use Rattle.tsa_core_points.specs.Points.{PlacedPoint, placed, placed_all}
-use Rattle.tsa_core_points.proofs.Known.{placed_are_known}
+use Rattle.tsa_core_points.proofs.PointsOfCore.{placed_are_known}
 use Rattle.tsa_rules_roles.proofs.Constants.{terms_have_the_constants}
 use Rattle.tsa_sound.specs.BodyFacts.{GivesAnAnswer}
 use Rattle.tsa_sound_accepted.proofs.entered.ArgumentsLead.{constant_converted}

@@ -19,7 +19,7 @@ use Rattle.tsa_core.proofs.KindTests.{both_true, neither, not_false, or_left}
 use Rattle.tsa_core.proofs.NoFailure as typed
 use Rattle.tsa_path.specs.PathTables.{is_known}
 use Rattle.tsa_path.specs.Sameness.{same_way}
-use Rattle.tsa_path.proofs.Same.{way_equal}
+use Rattle.tsa_path.proofs.PathsApart.{way_equal}
 use Rattle.tsa_rules.specs.Attributes.{claim_count, claims, claims_path, is_path}
 use Rattle.tsa_profile_accesses.specs.Locks.{is_try}
 use Rattle.tsa_profile_accesses.specs.Premises.{first, premise}

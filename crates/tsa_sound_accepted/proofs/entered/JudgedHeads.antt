@@ -21,7 +21,7 @@ use Rattle.tsa_core.proofs.MappedLists.{map_at}
 use Rattle.tsa_core.proofs.NoFailure as typed
 use Rattle.tsa_core.proofs.TypedTerms.{some_same}
 use Rattle.tsa_core.proofs.BodiesAgree.{Means}
-use Rattle.tsa_place_model.proofs.Laid.{front_at}
+use Rattle.tsa_place_model.proofs.GlobalsInRow.{front_at}
 use Rattle.tsa_profile_accesses.specs.Locks.{tries}
 use Rattle.tsa_profile_accesses.specs.Premises.{first}
 use Rattle.tsa_profile_guards.proofs.NoneFails.{none_of_both}

@@ -16,7 +16,7 @@ use Rattle.tsa_profile.proofs.FunctionPaths.{functions_are}
 use Rattle.tsa_sound_accepted.specs.kept.Laws.{LocalsAreSetApart, SetsApart, UnitsKeepTheirRows}
 use Rattle.tsa_sound_accepted.proofs.kept.NamedPaths.{paths_are_named_once}
 use Rattle.tsa_sound_accepted.proofs.kept.SetsApart.{sets_apart}
-use Rattle.tsa_sound_accepted.proofs.kept.Visited.{rows_are_kept}
+use Rattle.tsa_sound_accepted.proofs.kept.RowsOfWalks.{rows_are_kept}
 
 -- A function of a program, with its declaration.
 record Made (items : List UnitItem) (n : ℕ) (f : Function) : Type 0 where

@@ -11,7 +11,7 @@ use Rattle.tsa_path.specs.PathTables.{AreDifferent, with_path}
 use Rattle.tsa_path.specs.Sameness.{same_way}
 use Rattle.tsa_path.specs.Substitution.{substituted}
 use Rattle.tsa_path.proofs.Numbers.{numbers_stay, table_holds_different_paths}
-use Rattle.tsa_path.proofs.Same.{way_equal}
+use Rattle.tsa_path.proofs.PathsApart.{way_equal}
 use Rattle.tsa_rules.specs.Attributes.{all_as_called, as_called}
 use Rattle.tsa_rules.specs.Points.{attrs_at, attrs_called, or_idle, or_no_function, or_unused, points_of}
 use Rattle.tsa_profile.specs.Paths.{called, called_in, paths_of, point_ways, points_in, points_ways, ways_of}

@@ -18,7 +18,7 @@ use Rattle.tsa_place_model.specs.Items.{behind_data, global_part, known_global}
 use Rattle.tsa_place_model.specs.Layouts.{Part, structure_at}
 use Rattle.tsa_place_model.specs.Parts.{argument_ways, guard_ways, is_guard, member_behind, no_stable, part_in, parts_behind, structure_in}
 use Rattle.tsa_place_model.specs.Units.{data_placed, or_behind, placed_behind, too_many_at}
-use Rattle.tsa_place_model.proofs.Laid.{by_last}
+use Rattle.tsa_place_model.proofs.GlobalsInRow.{by_last}
 use Rattle.tsa_sound.specs.LaidOut.{AreLocalFree, IsLocalFree, IsLocalFreeRoot}
 use Rattle.tsa_sound_accepted.proofs.laid.Mentions.{AreFine, IsFineIfAny, IsFineRoot, way_fine}
 

@@ -11,7 +11,7 @@ use Rattle.tsa_place_model.specs.declared.place.Placed.{Placed}
 use Rattle.tsa_place_model.specs.Places.{a_place}
 use Rattle.tsa_place_model.specs.Standing.{HasSome}
 use Rattle.tsa_place_model.proofs.Asking.{element_alone, none_is_none}
-use Rattle.tsa_place_model.proofs.Laid.{IsLaid}
+use Rattle.tsa_place_model.proofs.GlobalsInRow.{IsLaid}
 use Rattle.tsa_place_model.proofs.Pieces.{at_row, row_at, thing_at}
 use Rattle.tsa_place_model.proofs.Rows.{Object, PieceAt, Row, Thing, object_alone, object_element, object_place}
 use Rattle.tsa_place_model.proofs.TextsAlong.{none_around}

@@ -14,7 +14,7 @@ use Rattle.tsa_place_model.specs.Leading.{HasPlaces, leads_to}
 use Rattle.tsa_place_model.specs.declared.place.Placed.{Placed}
 use Rattle.tsa_place_model.specs.Places.{has_some}
 use Rattle.tsa_place_model.proofs.Asking.{none_is_none, same_some}
-use Rattle.tsa_place_model.proofs.Laid.{IsLaid, unit_laid}
+use Rattle.tsa_place_model.proofs.GlobalsInRow.{IsLaid, unit_laid}
 use Rattle.tsa_place_model.proofs.Pieces.{at_row, element_is, row_at}
 use Rattle.tsa_place_model.proofs.Rows.{PieceAt, Row, Thing}
 use Rattle.tsa_place_model.proofs.Leading.{what_is_led_to_bears}

@@ -15,7 +15,7 @@ use Rattle.tsa_core.specs.Uses.{Access, access, access_guards, accesses}
 use Rattle.tsa_core.proofs.KindTests.{or_left, one_of}
 use Rattle.tsa_core.proofs.ValuesServe.{free_gives}
 use Rattle.tsa_path.specs.Sameness.{same_way}
-use Rattle.tsa_path.proofs.Same.{way_itself}
+use Rattle.tsa_path.proofs.PathsApart.{way_itself}
 use Rattle.tsa_rules.specs.Attributes.{is_path}
 use Rattle.tsa_rules.specs.Points.{is_guarded_by, is_read_under, is_write_under}
 use Rattle.tsa_sound.specs.PartlyWorked.{guard_ways}

@@ -10,7 +10,7 @@ use Rattle.tsa_core.specs.Uses.{Access, Uses}
 use Rattle.tsa_core.proofs.KindTests.{or_left}
 use Rattle.tsa_profile_points.specs.Ways.{each_once, present}
 use Rattle.tsa_path.specs.Sameness.{same_way}
-use Rattle.tsa_path.proofs.Same.{way_equal}
+use Rattle.tsa_path.proofs.PathsApart.{way_equal}
 use Rattle.tsa_profile.specs.Paths.{called, paths_of, point_ways, points_in, points_ways, ways_of}
 use Rattle.tsa_profile.proofs.EachOnce.{comes}
 use Rattle.tsa_rules.specs.Attributes.{is_path}

@@ -11,7 +11,7 @@ use Rattle.tsa_place_model.specs.Leading.{HasPlaces}
 use Rattle.tsa_core.specs.Programs.{Function, Program, program_of}
 use Rattle.tsa_core.specs.Terms.{Term}
 use Rattle.tsa_path.specs.Sameness.{same_way}
-use Rattle.tsa_rules.specs.Kept.{AreKept}
+use Rattle.tsa_rules.specs.KeptRows.{AreKept}
 use Rattle.tsa_rules.specs.Points.{attrs_at, function_at, mentions, point_at, points_of, try_variables}
 use Rattle.tsa_rules.specs.Warnings.{HasNoWarnings}
 use Rattle.tsa_profile_context.specs.Units.{refusal_of_profile}

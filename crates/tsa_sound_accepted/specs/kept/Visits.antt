@@ -3,7 +3,7 @@ use Rattle.std.specs.Prelude.{ℕ, zero, suc, nat_eq, List, [], ◌∷◌, lengt
 use Rattle.tsa_place_model.specs.Ways.{Way}
 use Rattle.tsa_core.specs.Control as control
 use Rattle.tsa_core.specs.Programs.{Function, Program}
-use Rattle.tsa_rules.specs.Kept.{Rows}
+use Rattle.tsa_rules.specs.KeptRows.{Rows}
 use Rattle.tsa_rules.specs.Points.{edges_of}
 use Rattle.tsa_rules.specs.declared.status.Status.{Status}
 use Rattle.tsa_rules.specs.declared.status.Status.TheVariants.{Free}

@@ -14,7 +14,7 @@ use Rattle.tsa_tree.specs.Reads.{read}
 use Rattle.tsa_tree.specs.Rows as rows
 use Rattle.tsa_tree.specs.Rows.{sees, rule, is_attribute_sign, attributes}
 use Rattle.tsa_tree.specs.tokens.Signs.{Aliases, sign_at}
-use Rattle.tsa_tree.proofs.attributes.Same.{attributes_spell, attributes_begin, attributes_refuse}
+use Rattle.tsa_tree.proofs.attributes.RowEquality.{attributes_spell, attributes_begin, attributes_refuse}
 use Rattle.tsa_tree.proofs.expressions.RowsToProductions.{production_of}
 use Rattle.tsa_tree.proofs.RowsRead.{reading, reading_exact, completed, broken_free}
 use Rattle.tsa_grammar.proofs.Cases.{on_choose}

@@ -11,10 +11,10 @@ use Rattle.tsa_tree.specs.attributes.Answers.{read_any, SpellTheSame, BeginTheSa
 use Rattle.tsa_tree.specs.Rows as rows
 use Rattle.tsa_tree.specs.Rows.{is_attribute_sign, attributes}
 use Rattle.tsa_tree.specs.tokens.Signs.{Aliases, sign_at, sign_in}
-use Rattle.tsa_tree.proofs.attributes.Ahead.{ahead-attributes, none-there}
+use Rattle.tsa_tree.proofs.attributes.TokenCounts.{ahead-attributes, none-there}
 use Rattle.tsa_tree.proofs.attributes.Answers.{whole, going_on, read_any_answers}
 use Rattle.tsa_tree.proofs.attributes.ListsToRows.{attributes_rows}
-use Rattle.tsa_tree.proofs.attributes.Same.{attributes_begin, attributes_refuse}
+use Rattle.tsa_tree.proofs.attributes.RowEquality.{attributes_begin, attributes_refuse}
 use Rattle.tsa_tree.proofs.RowsRead.{one_reading, piece_begins, one_bar}
 use Rattle.tsa_tree.proofs.RowsFree.{free_spelled, free_begun, begun_to_bar}
 use Rattle.tsa_tree.proofs.OneAnswer as verdicts

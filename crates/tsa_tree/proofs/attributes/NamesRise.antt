@@ -9,7 +9,7 @@ use Rattle.tsa_tree.specs.attributes.Spelling.{attribute_or, IsAttribute, of_tex
 use Rattle.tsa_tree.specs.expressions.Syntax.{Expression, Arguments, unary, none, more}
 use Rattle.tsa_tree.specs.tokens.Signs.{Aliases}
 use Rattle.tsa_tree.specs.units.Names.{names_in_expression, names_in_arguments, names_in_attributes}
-use Rattle.tsa_tree.proofs.attributes.Ahead.{ahead-balanced}
+use Rattle.tsa_tree.proofs.attributes.TokenCounts.{ahead-balanced}
 use Rattle.tsa_tree.proofs.expressions.NamesRise.{rises-expression, rises-series}
 use Rattle.tsa_tree.proofs.tokens.Rising.{Rises, no_name, rises-within, rises-then, rises-last}
 

@@ -9,9 +9,9 @@ use Rattle.tsa_tree.specs.attributes.Spelling.{attribute_or, IsAttribute, of_tex
 use Rattle.tsa_tree.specs.expressions.Syntax.{Expression, Arguments, unary, none, more}
 use Rattle.tsa_tree.specs.tokens.Signs.{Aliases}
 use Rattle.tsa_tree.specs.units.Order.{places_in_expression, places_in_arguments, places_in_attribute, places_in_attributes}
-use Rattle.tsa_tree.proofs.attributes.Ahead.{ahead-balanced}
+use Rattle.tsa_tree.proofs.attributes.TokenCounts.{ahead-balanced}
 use Rattle.tsa_tree.proofs.attributes.NamesRise.{parts}
-use Rattle.tsa_tree.proofs.expressions.Ahead.{ahead-expression, ahead-series}
+use Rattle.tsa_tree.proofs.expressions.TokenCounts.{ahead-expression, ahead-series}
 use Rattle.tsa_tree.proofs.expressions.NodesClimb.{climbs-expression, climbs-series}
 use Rattle.tsa_tree.proofs.tokens.Climbing.{Climbs, no_place, climbs-within, climbs-then, climbs-last, climbs-tail, climbs-back, climbs-over, climbs-alone}
 

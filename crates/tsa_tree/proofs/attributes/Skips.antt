@@ -8,7 +8,7 @@ use Rattle.tsa_tree.specs.attributes.Spelling.{IsBalanced, of_nothing, of_token}
 use Rattle.tsa_tree.specs.attributes.Beginnings.{BeginsBalanced, begins_balanced, begins_parentheses, begins_brackets, begins_braces}
 use Rattle.tsa_tree.specs.Rows.{a_skip, balanced, Closer, balanced_row, rule}
 use Rattle.tsa_tree.proofs.attributes.Meanings.{Begun, Opens}
-use Rattle.tsa_tree.proofs.attributes.Kept.{and_balanced, closed_parentheses, closed_brackets, closed_braces}
+use Rattle.tsa_tree.proofs.attributes.RowSoundness.{and_balanced, closed_parentheses, closed_brackets, closed_braces}
 use Rattle.tsa_grammar.specs.Form.{done, part}
 
 -- What begins balanced tokens begins more of them.

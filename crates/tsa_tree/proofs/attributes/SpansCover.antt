@@ -9,9 +9,9 @@ use Rattle.tsa_tree.specs.attributes.Spelling.{attribute_or, IsAttribute, of_tex
 use Rattle.tsa_tree.specs.expressions.Syntax.{Expression, Arguments, unary, none, more}
 use Rattle.tsa_tree.specs.tokens.Signs.{Aliases}
 use Rattle.tsa_tree.specs.units.Spans.{spans_in_expression, spans_in_arguments, spans_in_attribute, spans_in_attributes}
-use Rattle.tsa_tree.proofs.attributes.Ahead.{ahead-balanced}
+use Rattle.tsa_tree.proofs.attributes.TokenCounts.{ahead-balanced}
 use Rattle.tsa_tree.proofs.attributes.NamesRise.{parts}
-use Rattle.tsa_tree.proofs.expressions.Ahead.{ahead-expression, ahead-series}
+use Rattle.tsa_tree.proofs.expressions.TokenCounts.{ahead-expression, ahead-series}
 use Rattle.tsa_tree.proofs.expressions.SpansCover.{cover-expression, cover-series}
 use Rattle.tsa_tree.proofs.tokens.Covering.{Cover, no_span, over, cover-within, cover-both, cover-then, cover-last, cover-front, cover-back}
 

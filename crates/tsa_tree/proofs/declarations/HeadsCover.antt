@@ -8,7 +8,7 @@ use Rattle.tsa_tree.specs.expressions.Syntax.{Identifier}
 use Rattle.tsa_tree.specs.tokens.Signs.{Aliases}
 use Rattle.tsa_tree.specs.units.Spans.{spans_in_optional, spans_in_attributes, span_of_name, spans_in_parameter, spans_in_parameters, spans_in_head, spans_in_constants}
 use Rattle.tsa_tree.proofs.attributes.SpansCover.{cover-attributes}
-use Rattle.tsa_tree.proofs.declarations.Ahead.{ahead-star, ahead-storage, ahead-specifier}
+use Rattle.tsa_tree.proofs.declarations.TokenCounts.{ahead-star, ahead-storage, ahead-specifier}
 use Rattle.tsa_tree.proofs.declarations.SpansCover.{cover-specifier, cover-declarator}
 use Rattle.tsa_tree.proofs.expressions.SpansCover.{cover-expression}
 use Rattle.tsa_tree.proofs.tokens.Covering.{Cover, no_span, over, name_at, cover-ends, cover-within, cover-then, cover-last}

@@ -7,7 +7,7 @@ use Rattle.tsa_tree.specs.expressions.Syntax.{Identifier}
 use Rattle.tsa_tree.specs.tokens.Signs.{Aliases}
 use Rattle.tsa_tree.specs.units.Names.{names_in_optional, names_in_attributes, the_name, name_of_base, names_in_parameters, names_in_head, names_in_constants}
 use Rattle.tsa_tree.proofs.attributes.NamesRise.{rises-attributes}
-use Rattle.tsa_tree.proofs.declarations.Ahead.{ahead-star, ahead-storage}
+use Rattle.tsa_tree.proofs.declarations.TokenCounts.{ahead-star, ahead-storage}
 use Rattle.tsa_tree.proofs.declarations.NamesRise.{rises-specifier, declared}
 use Rattle.tsa_tree.proofs.expressions.NamesRise.{rises-expression}
 use Rattle.tsa_tree.proofs.tokens.Rising.{Rises, no_name, name_at, rises-within, rises-then, rises-here, rises-last}

@@ -19,7 +19,7 @@ use Rattle.tsa_tree.proofs.declarations.Signs.{shows_semicolon}
 use Rattle.tsa_tree.proofs.expressions.RowsToProductions.{production_of}
 use Rattle.tsa_tree.proofs.declarations.ItemsKept.{keeps_behind_storage}
 use Rattle.tsa_tree.proofs.declarations.Meanings.{Keeps, Means}
-use Rattle.tsa_tree.proofs.declarations.Kept.{keeps_behind_consts}
+use Rattle.tsa_tree.proofs.declarations.RowSoundness.{keeps_behind_consts}
 use Rattle.tsa_grammar.specs.Form.{done, part}
 
 module _ (tokens : List Lexeme) (aliases : Aliases) (fits : ℕ → Bool) (bodies : Bool) where

@@ -14,7 +14,7 @@ use Rattle.tsa_tree.proofs.tokens.ProductionSigns.{shows_name, shows_open, shows
 use Rattle.tsa_tree.proofs.declarations.Signs.{shows_open_brace, shows_semicolon, shows_equals}
 use Rattle.tsa_tree.proofs.expressions.RowsToProductions.{production_of}
 use Rattle.tsa_tree.proofs.declarations.Meanings.{Keeps, Means}
-use Rattle.tsa_tree.proofs.declarations.Kept.{keeps_behind_star, keeps_behind_attributes, goes_on_comma, ends_semicolon}
+use Rattle.tsa_tree.proofs.declarations.RowSoundness.{keeps_behind_star, keeps_behind_attributes, goes_on_comma, ends_semicolon}
 use Rattle.tsa_grammar.specs.Form.{done, token, part, either}
 use Rattle.tsa_tree.specs.statements.Syntax.{Statements}
 

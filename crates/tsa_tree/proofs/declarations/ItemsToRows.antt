@@ -17,7 +17,7 @@ use Rattle.tsa_tree.specs.declarations.ItemSpelling.{IsStorage, no_storage, of_s
 use Rattle.tsa_tree.specs.tokens.Signs.{Aliases, sign_at, span_over, identifier_at, is_storage, span_at}
 use Rattle.tsa_tree.specs.Rows.{Sort, some_attributes, a_specifier, some_items, Node, Call, attributes, specifier, declared, item, a_name, a_semicolon, a_tag, is_keyword, sees, Row, behind_storage, structure_end, structure_alias_end, enumeration_end, enumeration_alias_end, alias_end, tagged_alias, typedef_row, item_row, rule, function_end}
 use Rattle.tsa_tree.proofs.attributes.ListsToRows.{attributes_rows}
-use Rattle.tsa_tree.proofs.attributes.Ahead.{ahead-group, ahead-attributes}
+use Rattle.tsa_tree.proofs.attributes.TokenCounts.{ahead-group, ahead-attributes}
 use Rattle.tsa_tree.proofs.declarations.ToRows.{consts_goes, qualified_rows, specifier_rows, declarator_rows, rest_rows_comma, rest_rows_semicolon, declarators_rows}
 use Rattle.tsa_tree.proofs.declarations.HeadsToRows.{storage_goes, signature_rows, struct_body_rows, enum_body_rows}
 use Rattle.tsa_tree.proofs.tokens.ProductionSigns.{seen}

@@ -10,7 +10,7 @@ use Rattle.tsa_tree.specs.Reads.{read}
 use Rattle.tsa_tree.specs.Rows.{Node, some_items, item, mark, is_attribute_sign, sees, rule}
 use Rattle.tsa_tree.specs.tokens.Signs.{Aliases}
 use Rattle.tsa_tree.proofs.declarations.ToRows.{specifier_rows, locals_rows}
-use Rattle.tsa_tree.proofs.declarations.Broken.{ends_or_on}
+use Rattle.tsa_tree.proofs.declarations.Refusals.{ends_or_on}
 use Rattle.tsa_tree.proofs.declarations.HeadsToRows.{head_rows}
 use Rattle.tsa_tree.proofs.declarations.ItemsToRows.{items_rows}
 use Rattle.tsa_tree.proofs.expressions.OneTree.{ends_there, at_the_end}

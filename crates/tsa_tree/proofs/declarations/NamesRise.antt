@@ -8,7 +8,7 @@ use Rattle.tsa_tree.specs.expressions.Syntax.{Identifier, Expression}
 use Rattle.tsa_tree.specs.tokens.Signs.{Aliases}
 use Rattle.tsa_tree.specs.units.Names.{names_in_optional, the_name, name_of_base, begins_where, name_unshared, names_in_initialiser, names_in_initialisers, names_in_init, names_behind_base, base_in, names_in_declaration, names_in_declarations}
 use Rattle.tsa_tree.proofs.attributes.NamesRise.{rises-attributes}
-use Rattle.tsa_tree.proofs.declarations.Ahead.{ahead-consts, ahead-star}
+use Rattle.tsa_tree.proofs.declarations.TokenCounts.{ahead-consts, ahead-star}
 use Rattle.tsa_tree.proofs.expressions.NamesRise.{rises-expression}
 use Rattle.tsa_tree.proofs.tokens.Rising.{Rises, no_name, name_at, rises-ends, rises-within, rises-then, rises-next, rises-here, rises-last}
 

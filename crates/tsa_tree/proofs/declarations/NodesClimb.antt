@@ -8,7 +8,7 @@ use Rattle.tsa_tree.specs.expressions.Syntax.{Expression}
 use Rattle.tsa_tree.specs.tokens.Signs.{Aliases}
 use Rattle.tsa_tree.specs.units.Order.{places_in_optional, places_in_attributes, places_in_initialiser, places_in_initialisers, places_in_init, places_in_declaration, places_in_declarations, places_in_parameters, places_in_head, places_in_constants}
 use Rattle.tsa_tree.proofs.attributes.NodesClimb.{climbs-attributes}
-use Rattle.tsa_tree.proofs.declarations.Ahead.{ahead-specifier, ahead-star, ahead-storage}
+use Rattle.tsa_tree.proofs.declarations.TokenCounts.{ahead-specifier, ahead-star, ahead-storage}
 use Rattle.tsa_tree.proofs.expressions.NodesClimb.{climbs-expression}
 use Rattle.tsa_tree.proofs.tokens.Climbing.{Climbs, no_place, climbs-ends, climbs-within, climbs-then, climbs-last, climbs-over, climbs-alone, climbs-name}
 

@@ -9,7 +9,7 @@ use Rattle.tsa_tree.specs.tokens.Signs.{Aliases}
 use Rattle.tsa_tree.specs.units.Names.{name_of_base}
 use Rattle.tsa_tree.specs.units.Spans.{spans_in_optional, span_in_base, spans_in_initialiser, spans_in_initialisers, spans_in_init, spans_in_declaration, spans_in_declarations}
 use Rattle.tsa_tree.proofs.attributes.SpansCover.{cover-attributes}
-use Rattle.tsa_tree.proofs.declarations.Ahead.{ahead-consts, ahead-star}
+use Rattle.tsa_tree.proofs.declarations.TokenCounts.{ahead-consts, ahead-star}
 use Rattle.tsa_tree.proofs.declarations.NamesRise.{rises-shared, rises-rest, rises-declarators, rises-variable, rises-variables}
 use Rattle.tsa_tree.proofs.expressions.SpansCover.{cover-expression}
 use Rattle.tsa_tree.proofs.tokens.Covering.{Cover, no_span, over, name_at, cover-ends, cover-within, cover-both, cover-then, cover-last}

@@ -16,7 +16,7 @@ use Rattle.tsa_tree.specs.Rows.{Sort, an_expression, a_skip, a_specifier, a_decl
 use Rattle.tsa_tree.proofs.tokens.ProductionSigns.{seen}
 use Rattle.tsa_tree.proofs.expressions.ToRows.{expression_rows}
 use Rattle.tsa_tree.proofs.attributes.ListsToRows.{attributes_rows}
-use Rattle.tsa_tree.proofs.attributes.Ahead.{ahead-group, ahead-attributes}
+use Rattle.tsa_tree.proofs.attributes.TokenCounts.{ahead-group, ahead-attributes}
 use Rattle.tsa_grammar.specs.Form.{done, token, part, either}
 use Rattle.tsa_grammar.specs.Spelling as forms
 use Rattle.tsa_grammar.specs.Spelling.{by_rule, goes_done, goes_token, goes_part, goes_limit, goes_only, goes_left, goes_right}

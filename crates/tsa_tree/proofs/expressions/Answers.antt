@@ -14,9 +14,9 @@ use Rattle.tsa_tree.specs.Reads.{read}
 use Rattle.tsa_tree.specs.expressions.Laws.{call_of, RowsBegin}
 use Rattle.tsa_tree.proofs.RowFacts.{last_named, lone, Ended, Ends}
 use Rattle.tsa_tree.proofs.RowsRead.{reading, reading_exact, completed, broken_free, no_bar}
-use Rattle.tsa_tree.proofs.expressions.Same.{spell_the_same, begin_the_same}
+use Rattle.tsa_tree.proofs.expressions.RowEquality.{spell_the_same, begin_the_same}
 use Rattle.tsa_tree.proofs.expressions.GoesOn.{unary_goes_on, expression_goes_on, operator_goes_on, unary_calls, expression_calls}
-use Rattle.tsa_tree.proofs.expressions.Unlimited.{whole, free-spelled, free-part}
+use Rattle.tsa_tree.proofs.expressions.LimitsApart.{whole, free-spelled, free-part}
 use Rattle.tsa_tree.proofs.attributes.Facts.{both}
 use Rattle.tsa_grammar.specs.Exact as forms
 use Rattle.tsa_grammar.specs.Reading.{Code, syntax, deep, barred, Refusal, refuse, Outcome, all}

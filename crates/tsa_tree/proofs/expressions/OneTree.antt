@@ -12,8 +12,8 @@ use Rattle.tsa_tree.specs.expressions.Answers.{Part, an_expression, a_unary, Spe
 use Rattle.tsa_tree.specs.expressions.Laws.{call_of}
 use Rattle.tsa_tree.proofs.RowFacts.{Ends, Ended}
 use Rattle.tsa_tree.proofs.RowsRead.{one_reading}
-use Rattle.tsa_tree.proofs.expressions.Same.{spell_the_same}
-use Rattle.tsa_tree.proofs.expressions.Truncated.{truncated-expression, truncated-unary}
+use Rattle.tsa_tree.proofs.expressions.RowEquality.{spell_the_same}
+use Rattle.tsa_tree.proofs.expressions.OwnTokens.{truncated-expression, truncated-unary}
 use Rattle.tsa_grammar.specs.Reading.{all}
 
 module _ (tokens : List Lexeme) (aliases : Aliases) where

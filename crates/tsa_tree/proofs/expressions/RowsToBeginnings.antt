@@ -16,7 +16,7 @@ use Rattle.tsa_tree.specs.Rows.{Sort, an_expression, some_arguments, Call, expre
 use Rattle.tsa_tree.proofs.tokens.ProductionSigns.{shows_name, shows_open, shows_close, shows_close_bracket, shows_comma}
 use Rattle.tsa_tree.proofs.Inductions as all
 use Rattle.tsa_tree.proofs.attributes.Meanings.{Needs, Closed, Means, Begun, Refused, Opens}
-use Rattle.tsa_tree.proofs.attributes.Opened.{opens_attributes, opens_one_group, opens_entries}
+use Rattle.tsa_tree.proofs.attributes.Beginnings.{opens_attributes, opens_one_group, opens_entries}
 use Rattle.tsa_tree.proofs.attributes.Skips.{opens_skip}
 use Rattle.tsa_tree.proofs.expressions.RowsToProductions.{weaken, keeps}
 use Rattle.tsa_grammar.specs.Form.{done}

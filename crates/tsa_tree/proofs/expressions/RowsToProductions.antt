@@ -14,7 +14,7 @@ use Rattle.tsa_tree.specs.Rows.{Sort, an_expression, some_arguments, Node, Call,
 use Rattle.tsa_tree.proofs.tokens.ProductionSigns.{shows_name, shows_open, shows_close, shows_close_bracket, shows_comma}
 use Rattle.tsa_tree.proofs.Inductions as all
 pub use Rattle.tsa_tree.proofs.attributes.Meanings.{Needs, Closed, Means, Keeps}
-use Rattle.tsa_tree.proofs.attributes.Kept.{keeps_attributes, keeps_one_group, keeps_entries, keeps_skip}
+use Rattle.tsa_tree.proofs.attributes.RowSoundness.{keeps_attributes, keeps_one_group, keeps_entries, keeps_skip}
 use Rattle.tsa_grammar.specs.Form.{done}
 use Rattle.tsa_grammar.specs.Spelling as forms
 

@@ -3,7 +3,7 @@ use Rattle.std.proofs.Common.{refl}
 use Rattle.tsa_tree.specs.types.FirstFailing.{first_failing}
 use Rattle.tsa_tree.specs.types.PlaceExamples.{PlacesAreTold}
 use Rattle.tsa_tree.specs.types.Texts.{told_in}
-use Rattle.tsa_tree.proofs.types.Computed.{computed}
+use Rattle.tsa_tree.proofs.types.TextValues.{computed}
 
 -- each by its first failing node
 pub places_are_told : PlacesAreTold (told_in first_failing)

@@ -10,7 +10,7 @@ use Rattle.tsa_tree.specs.units.Names.{names_in_attributes, base_in, names_in_de
 use Rattle.tsa_tree.specs.units.Spelling.{IsItems, no_items, of_items}
 use Rattle.tsa_tree.specs.units.Syntax.{UnitItem, global_item}
 use Rattle.tsa_tree.proofs.attributes.NamesRise.{rises-attributes, names-attributes}
-use Rattle.tsa_tree.proofs.declarations.Ahead.{ahead-storage}
+use Rattle.tsa_tree.proofs.declarations.TokenCounts.{ahead-storage}
 use Rattle.tsa_tree.proofs.declarations.HeadsRise.{rises-tag, rises-head, rises-enum-body}
 use Rattle.tsa_tree.proofs.declarations.NamesRise.{last_base, rises-specifier, declared, rises-declared, rises-members}
 use Rattle.tsa_tree.proofs.statements.NamesRise.{rises-statements}

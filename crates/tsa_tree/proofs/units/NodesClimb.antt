@@ -8,9 +8,9 @@ use Rattle.tsa_tree.specs.tokens.Signs.{Aliases, span_over}
 use Rattle.tsa_tree.specs.units.Order.{places_in_attributes, places_in_declaration, places_in_declarations, places_in_item, places_of_unit, RiseInStructures, NodesRise}
 use Rattle.tsa_tree.specs.units.Spelling.{IsItems, no_items, of_items}
 use Rattle.tsa_tree.specs.units.Syntax.{UnitItem, global_item}
-use Rattle.tsa_tree.proofs.attributes.Ahead.{ahead-attributes}
+use Rattle.tsa_tree.proofs.attributes.TokenCounts.{ahead-attributes}
 use Rattle.tsa_tree.proofs.attributes.NodesClimb.{joined, climbs-attributes}
-use Rattle.tsa_tree.proofs.declarations.Ahead.{ahead-storage, ahead-specifier, ahead-declarator}
+use Rattle.tsa_tree.proofs.declarations.TokenCounts.{ahead-storage, ahead-specifier, ahead-declarator}
 use Rattle.tsa_tree.proofs.declarations.HeadsCover.{cover-tag}
 use Rattle.tsa_tree.proofs.declarations.NodesClimb.{climbs-declared, climbs-members, climbs-head, climbs-enum-body}
 use Rattle.tsa_tree.proofs.statements.NodesClimb.{climb-statements}

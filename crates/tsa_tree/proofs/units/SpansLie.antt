@@ -10,7 +10,7 @@ use Rattle.tsa_tree.specs.units.Spans.{spans_in_attributes, spans_in_declaration
 use Rattle.tsa_tree.specs.units.Spelling.{IsItems, no_items, of_items}
 use Rattle.tsa_tree.specs.units.Syntax.{UnitItem, global_item}
 use Rattle.tsa_tree.proofs.attributes.SpansCover.{joined, cover-attributes}
-use Rattle.tsa_tree.proofs.declarations.Ahead.{ahead-storage, ahead-specifier, ahead-declarator}
+use Rattle.tsa_tree.proofs.declarations.TokenCounts.{ahead-storage, ahead-specifier, ahead-declarator}
 use Rattle.tsa_tree.proofs.declarations.HeadsCover.{cover-tag, cover-head, cover-enum-body}
 use Rattle.tsa_tree.proofs.declarations.SpansCover.{cover-specifier, cover-declarator, cover-declared, cover-members}
 use Rattle.tsa_tree.proofs.statements.SpansCover.{cover-statements}

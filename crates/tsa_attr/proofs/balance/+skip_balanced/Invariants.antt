@@ -2,7 +2,7 @@ use Rattle.std.proofs.Common.{◌≡◌, ◌≤◌, length, ◌-◌}
 use Rattle.tsa_tree.specs.Reads.{read}
 use Rattle.tsa_tree.specs.Rows.{a_skip, balanced}
 use Rattle.tsa_expr.specs.Source.{input, named}
-use Rattle.tsa_attr.specs.Seen.{row_closer}
+use Rattle.tsa_attr.specs.Readings.{row_closer}
 use Rattle.tsa_attr.proofs.balance.+skip_balanced.Given as goal
 
 abbrev pub decreases-skip_balanced : goal.decreases-skip_balanced

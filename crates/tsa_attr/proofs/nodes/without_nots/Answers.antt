@@ -3,7 +3,7 @@ use Rattle.std.proofs.lemmas.List.{drop_all, drop_more}
 use Rattle.std.specs.Option.{option_map}
 use Rattle.tsa_tree.specs.attributes.Syntax.{without_nots}
 use Rattle.tsa_tree.specs.expressions.Shapes.{shape, shapes}
-use Rattle.tsa_expr.specs.Seen.{joined}
+use Rattle.tsa_expr.specs.Readings.{joined}
 use Rattle.tsa_attr.proofs.Negatives.{taken_one, taken_all}
 use Rattle.tsa_attr.proofs.nodes.without_nots.Goals as goal
 

@@ -1,4 +1,4 @@
-use Rattle.tsa_core.proofs.Followed.{edges_are_followed}
+use Rattle.tsa_core.proofs.EdgeTargets.{edges_are_followed}
 use Rattle.tsa_core.proofs.laws.edges_are_followed.Goals as goal
 
 pub returns : goal.returns

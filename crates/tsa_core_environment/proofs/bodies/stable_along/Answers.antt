@@ -7,7 +7,7 @@ use Rattle.tsa_tree.specs.types.Scopes.{with_locals}
 use Rattle.tsa_core_points.specs.Steps.{step_shape}
 use Rattle.tsa_core_points.specs.Stable.{stable_along}
 use Rattle.tsa_core_points.specs.Walks.{walk_behind}
-use Rattle.tsa_core_points.proofs.Known.{stable_is_of_the_core}
+use Rattle.tsa_core_points.proofs.PointsOfCore.{stable_is_of_the_core}
 use Rattle.tsa_core_points.proofs.Passing.{body_steps_are_the_points}
 use Rattle.tsa_core_environment.proofs.bodies.stable_along.Goals as goal
 

@@ -1,4 +1,4 @@
-use Rattle.tsa_core_points.proofs.Known as proved
+use Rattle.tsa_core_points.proofs.PointsOfCore as proved
 use Rattle.tsa_core_points.proofs.laws.points_are_of_the_core.Goals as goal
 
 pub returns-clause-known : goal.returns-clause-known

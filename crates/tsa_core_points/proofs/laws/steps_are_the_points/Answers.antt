@@ -1,5 +1,5 @@
 use Rattle.tsa_core_points.proofs.Passing as proved
-use Rattle.tsa_core_points.proofs.Written.{placed_are_written}
+use Rattle.tsa_core_points.proofs.PointsOfTexts.{placed_are_written}
 use Rattle.tsa_core_points.proofs.laws.steps_are_the_points.Goals as goal
 
 pub returns-clause-one : goal.returns-clause-one

@@ -1,6 +1,6 @@
 use Rattle.tsa_tree.specs.declarations.Shapes.{base_shape}
 use Rattle.tsa_expr.proofs.Answering.{gives_same}
-use Rattle.tsa_decl_declarators.specs.Seen.{row_type}
+use Rattle.tsa_decl_declarators.specs.Readings.{row_type}
 use Rattle.tsa_decl.proofs.ItemLaws.{alias_of_same}
 use Rattle.tsa_decl.proofs.items.alias_of.Goals as goal
 

@@ -1,5 +1,5 @@
 use Rattle.tsa_tree.specs.declarations.Shapes.{base_shape}
-use Rattle.tsa_decl_declarators.specs.Seen.{row_type}
+use Rattle.tsa_decl_declarators.specs.Readings.{row_type}
 use Rattle.tsa_decl.proofs.BegunLaws.{leads_same}
 use Rattle.tsa_decl.proofs.ItemLaws.{declared_of_same}
 use Rattle.tsa_decl.proofs.items.declared_of.Goals as goal

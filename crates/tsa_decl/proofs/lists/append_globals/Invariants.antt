@@ -3,7 +3,7 @@ use Rattle.tsa_tree.specs.units.Shapes.{item_shapes, HaveTheirPoints}
 use Rattle.tsa_expr.specs.Source.{input, named}
 use Rattle.tsa_decl_declarators.specs.Outcomes.{after}
 use Rattle.tsa_decl.specs.Outcomes.{globals_at}
-use Rattle.tsa_decl_declarators.specs.Seen.{row_type, row_declarator}
+use Rattle.tsa_decl_declarators.specs.Readings.{row_type, row_declarator}
 use Rattle.tsa_decl.proofs.lists.append_globals.Given as goal
 
 abbrev pub invariant-globals : goal.invariant-globals

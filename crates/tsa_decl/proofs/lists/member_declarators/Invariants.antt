@@ -5,7 +5,7 @@ use Rattle.tsa_tree.specs.Reads.{read}
 use Rattle.tsa_tree.specs.Rows.{some_declarations, declarators}
 use Rattle.tsa_expr.specs.Source.{input, named}
 use Rattle.tsa_decl_declarators.specs.Outcomes.{after}
-use Rattle.tsa_decl_declarators.specs.Seen.{row_type}
+use Rattle.tsa_decl_declarators.specs.Readings.{row_type}
 use Rattle.tsa_decl.proofs.lists.member_declarators.Given as goal
 
 abbrev pub invariant-declarators : goal.invariant-declarators

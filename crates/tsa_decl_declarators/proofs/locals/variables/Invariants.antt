@@ -2,7 +2,7 @@ use Rattle.std.proofs.Common.{◌≡◌, ◌≤◌, ◌+◌, length, ◌-◌}
 use Rattle.tsa_tree.specs.declarations.Shapes.{decl_shapes}
 use Rattle.tsa_expr.specs.Source.{input, named}
 use Rattle.tsa_decl_declarators.specs.Outcomes.{after, variables_at}
-use Rattle.tsa_decl_declarators.specs.Seen.{row_type}
+use Rattle.tsa_decl_declarators.specs.Readings.{row_type}
 use Rattle.tsa_decl_declarators.proofs.locals.variables.Given as goal
 
 abbrev pub invariant-variables : goal.invariant-variables

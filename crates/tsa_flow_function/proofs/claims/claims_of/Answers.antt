@@ -1,7 +1,7 @@
 use Rattle.std.proofs.Common.{◌∙◌, ◌+◌, ◌≤◌, arith, drop, length, sym, ap}
 use Rattle.std.proofs.lemmas.List.{drop_all}
 use Rattle.tsa_flow_function.specs.Claims.{noted}
-use Rattle.tsa_flow_function.proofs.Claimed.{none_left, noted_on}
+use Rattle.tsa_flow_function.proofs.ClaimLists.{none_left, noted_on}
 use Rattle.tsa_flow_function.proofs.claims.claims_of.Goals as goal
 
 pub each-preserved : goal.each-preserved

@@ -2,7 +2,7 @@ use Rattle.std.proofs.Common.{rules, arith, ◌≡◌, length, replicate}
 use Rattle.tsa_graph.specs.declared.arcs.Exit.TheVariants.{Nowhere}
 use Rattle.tsa_graph_edges.specs.declared.link.Link.{Link}
 use Rattle.tsa_graph_edges.specs.declared.link.Outcome.TheVariants.{Next}
-use Rattle.tsa_graph.proofs.Noted.{next_noted, none_noted}
+use Rattle.tsa_graph.proofs.FurtherEdges.{next_noted, none_noted}
 use Rattle.tsa_graph.proofs.arcs.arcs_of.Goals as goal
 
 -- what is read where nothing stands

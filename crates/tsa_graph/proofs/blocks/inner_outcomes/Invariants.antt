@@ -1,5 +1,5 @@
 use Rattle.std.proofs.Common.{◌≡◌, [], map, take, get_or}
-use Rattle.tsa_graph.specs.Inner.{outcome_of_one}
+use Rattle.tsa_graph.specs.InnerOutcomes.{outcome_of_one}
 use Rattle.tsa_graph.proofs.blocks.inner_outcomes.Given as goal
 
 abbrev pub invariant-each : goal.invariant-each

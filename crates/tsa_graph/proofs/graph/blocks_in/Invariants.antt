@@ -1,5 +1,5 @@
 use Rattle.std.proofs.Common.{take}
-use Rattle.tsa_graph.specs.Made.{AreMade}
+use Rattle.tsa_graph.specs.BlocksOfRuns.{AreMade}
 use Rattle.tsa_graph.proofs.graph.blocks_in.Given as goal
 
 abbrev pub invariant-each : goal.invariant-each

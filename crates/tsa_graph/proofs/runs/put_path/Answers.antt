@@ -1,5 +1,5 @@
 use Rattle.std.proofs.lemmas.Result.{on_ok_weaker}
-use Rattle.tsa_graph.proofs.Whole.{one_next, path_runs}
+use Rattle.tsa_graph.proofs.FurtherRuns.{one_next, path_runs}
 use Rattle.tsa_graph.proofs.runs.put_path.Goals as goal
 
 pub path_from-requires-clause-one : goal.path_from-requires-clause-one

@@ -1,5 +1,5 @@
 use Rattle.std.proofs.lemmas.Result.{on_ok_weaker}
-use Rattle.tsa_graph.proofs.Whole.{one_back, inside_back, round_runs}
+use Rattle.tsa_graph.proofs.FurtherRuns.{one_back, inside_back, round_runs}
 use Rattle.tsa_graph.proofs.runs.put_round.Goals as goal
 
 pub way_back-requires-clause-one : goal.way_back-requires-clause-one

@@ -2,7 +2,7 @@ use Rattle.std.proofs.Common.{◌∙◌, ◌++◌, map, reverse, sym, ap}
 use Rattle.tsa_tree.specs.types.Scopes.{found}
 use Rattle.tsa_graph_edges.specs.Marks.{label_of}
 use Rattle.tsa_graph_edges.proofs.LabelLists.{next_label}
-use Rattle.tsa_graph_edges.proofs.Turned.{labels}
+use Rattle.tsa_graph_edges.proofs.LastFirst.{labels}
 use Rattle.tsa_graph_edges.proofs.links.known_labels.Goals as goal
 
 pub each-preserved : goal.each-preserved

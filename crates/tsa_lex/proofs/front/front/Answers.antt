@@ -1,6 +1,6 @@
 use Rattle.std.proofs.Common.{◌≡◌, rules}
 use Rattle.tsa_base.specs.Tokens.{opens_line, front_of}
-use Rattle.tsa_lex.specs.Seen.{seen}
+use Rattle.tsa_lex.specs.Fronts.{seen}
 use Rattle.tsa_lex.proofs.Within.{front_within}
 use Rattle.tsa_lex.proofs.front.front.Goals as goal
 

@@ -1,4 +1,4 @@
-use Rattle.tsa_path.proofs.Written as proved
+use Rattle.tsa_path.proofs.LockExamples as proved
 use Rattle.tsa_path.proofs.laws.locks_are_as_written.Goals as goal
 
 pub returns : goal.returns

@@ -1,4 +1,4 @@
-use Rattle.tsa_profile.proofs.Worked as proved
+use Rattle.tsa_profile.proofs.Examples as proved
 use Rattle.tsa_profile.proofs.laws.profiles_are_as_written.Goals as goal
 
 pub returns : goal.returns

@@ -4,7 +4,7 @@ use Rattle.tsa_core.specs.Programs.{program_of}
 use Rattle.tsa_profile_context.specs.Units.{unit_of}
 use Rattle.tsa_rules_bodies.specs.Finding.{IsFound}
 use Rattle.tsa_rules_bodies.specs.Sites.{site_of}
-use Rattle.tsa_rules_bodies.proofs.Controlled.{graph_nowhere, graph_there}
+use Rattle.tsa_rules_bodies.proofs.GraphsOfFunctions.{graph_nowhere, graph_there}
 use Rattle.tsa_rules_bodies.proofs.control.graph_of.Goals as goal
 
 pub returns-in_ok-control_of-in-Some : goal.returns-in_ok-control_of-in-Some

@@ -4,8 +4,8 @@ use Rattle.tsa_core_points.specs.Walks.{points_along, walk}
 use Rattle.tsa_core_points.specs.Steps.{step_shape}
 use Rattle.tsa_profile_points.specs.PointAnswers.{around_of}
 use Rattle.tsa_rules_points.specs.Notes.{AreNotes}
-use Rattle.tsa_rules_view.specs.Made.{AreNoted}
-use Rattle.tsa_rules_view.proofs.Handed.{told_twice}
+use Rattle.tsa_rules_view.specs.BodyViews.{AreNoted}
+use Rattle.tsa_rules_view.proofs.HandedResults.{told_twice}
 use Rattle.tsa_rules_view.proofs.build.notes_along.Goals as goal
 
 pub returns-clause-noted : goal.returns-clause-noted

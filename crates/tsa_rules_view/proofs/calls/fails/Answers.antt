@@ -1,5 +1,5 @@
 use Rattle.std.proofs.Common.{◌∙◌, sym}
-use Rattle.tsa_rules_view.proofs.Ruled.{numbered}
+use Rattle.tsa_rules_view.proofs.RuleNumbers.{numbered}
 use Rattle.tsa_rules_view.proofs.calls.fails.Goals as goal
 
 pub returns-in-Some-clause-other : goal.returns-in-Some-clause-other

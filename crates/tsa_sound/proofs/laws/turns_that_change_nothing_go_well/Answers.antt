@@ -1,4 +1,4 @@
-use Rattle.tsa_sound.proofs.Idle.{threads_that_do_not_run_go_well, traps_go_well, waits_go_well}
+use Rattle.tsa_sound.proofs.IdleTurns.{threads_that_do_not_run_go_well, traps_go_well, waits_go_well}
 use Rattle.tsa_sound.proofs.laws.turns_that_change_nothing_go_well.Goals as goal
 
 -- src/laws.rt:6:1

@@ -1,7 +1,7 @@
 use Rattle.tsa_tree.specs.Rows as rows
 use Rattle.tsa_tree.specs.expressions.Laws.{call_of}
 use Rattle.tsa_tree.proofs.RowsRead.{piece_begins}
-use Rattle.tsa_tree.proofs.expressions.Same.{spell_the_same, begin_the_same}
+use Rattle.tsa_tree.proofs.expressions.RowEquality.{spell_the_same, begin_the_same}
 use Rattle.tsa_tree.proofs.laws.first_pieces_begin.Goals as goal
 
 pub returns : goal.returns

@@ -1,4 +1,4 @@
-use Rattle.tsa_tree.proofs.expressions.Same.{spell_the_same, begin_the_same}
+use Rattle.tsa_tree.proofs.expressions.RowEquality.{spell_the_same, begin_the_same}
 use Rattle.tsa_tree.proofs.laws.rows_are_productions.Goals as goal
 
 pub returns-clause-spelled : goal.returns-clause-spelled

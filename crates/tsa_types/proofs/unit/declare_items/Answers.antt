@@ -1,7 +1,7 @@
 use Rattle.std.proofs.Common.{◌∙◌, ◌∷◌, Err, suc, drop, sym, ap, subst}
 use Rattle.std.proofs.Math.Seq.{drop-cons}
 use Rattle.std.proofs.lemmas.List.{drop_all}
-use Rattle.tsa_types_expressions.specs.Judged.{Judges}
+use Rattle.tsa_types_expressions.specs.Judgements.{Judges}
 use Rattle.tsa_types.proofs.ItemNames as names
 use Rattle.tsa_types.proofs.UnitLaws.{items_end, items_stop, items_next}
 use Rattle.tsa_types.proofs.unit.declare_items.Goals as goal

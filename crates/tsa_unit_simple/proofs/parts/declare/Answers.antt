@@ -1,5 +1,5 @@
 use Rattle.std.proofs.Common.{◌∙◌, sym, subst, refl}
-use Rattle.tsa_unit_simple.specs.Pointed.{ArePointed}
+use Rattle.tsa_unit_simple.specs.PointNumbers.{ArePointed}
 use Rattle.tsa_unit_simple.proofs.MarkLaws.{locals_one, locals_none, pushed}
 use Rattle.tsa_unit_simple.proofs.parts.declare.Goals as goal
 

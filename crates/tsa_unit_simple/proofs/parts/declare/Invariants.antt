@@ -4,7 +4,7 @@ use Rattle.tsa_tree.specs.declarations.Shapes.{decl_shapes}
 use Rattle.tsa_tree.specs.statements.Syntax.{none, locals_before}
 use Rattle.tsa_tree.specs.statements.Shapes.{stmt_shapes}
 use Rattle.tsa_unit_simple.specs.Outcomes.{joined}
-use Rattle.tsa_unit_simple.specs.Pointed.{ArePointed}
+use Rattle.tsa_unit_simple.specs.PointNumbers.{ArePointed}
 use Rattle.tsa_unit_simple.proofs.parts.declare.Given as goal
 
 abbrev pub invariant-locals : goal.invariant-locals

@@ -1,5 +1,5 @@
 use Rattle.std.proofs.Common.{rules, ◌∙◌, subst, sym}
-use Rattle.tsa_unit_simple.specs.Pointed.{ArePointed}
+use Rattle.tsa_unit_simple.specs.PointNumbers.{ArePointed}
 use Rattle.tsa_expr.specs.Source.{input, named}
 use Rattle.tsa_unit_statements.proofs.StatementLaws.{list_begins, list_goes, none_pointed, one_pointed}
 use Rattle.tsa_unit_statements.proofs.reader.+statements.Goals as goal

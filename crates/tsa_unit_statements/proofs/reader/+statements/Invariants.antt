@@ -4,7 +4,7 @@ use Rattle.tsa_tree.specs.Rows.{some_statements, statements}
 use Rattle.tsa_tree.specs.statements.Shapes.{stmt_shapes}
 use Rattle.tsa_expr.specs.Source.{input, named}
 use Rattle.tsa_unit_simple.specs.Outcomes.{statements_after}
-use Rattle.tsa_unit_simple.specs.Pointed.{ArePointed}
+use Rattle.tsa_unit_simple.specs.PointNumbers.{ArePointed}
 use Rattle.tsa_unit_statements.proofs.reader.+statements.Given as goal
 
 abbrev pub decreases-statement : goal.decreases-statement

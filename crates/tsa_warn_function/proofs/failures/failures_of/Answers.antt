@@ -1,7 +1,7 @@
 use Rattle.std.proofs.Common.{subst}
 use Rattle.tsa_warn_function.specs.Adding.{Adds}
 use Rattle.tsa_warn_function.specs.Passes.{IsOfMarks}
-use Rattle.tsa_warn_function.proofs.Whole.{places, whole}
+use Rattle.tsa_warn_function.proofs.AllPasses.{places, whole}
 use Rattle.tsa_warn_function.proofs.failures.failures_of.Goals as goal
 
 pub returns : goal.returns

@@ -4,7 +4,7 @@ use Rattle.tsa_rules_table.specs.Rows.{entry_of, Rows}
 use Rattle.tsa_rules_view.specs.declared.content.RuleView.{RuleView}
 use Rattle.tsa_warn_function.specs.Adding.{Adds}
 use Rattle.tsa_warn_function.specs.Passes.{IsOfMarks}
-use Rattle.tsa_warn_function.proofs.Noted.{fresh_place, mark_more, next_place, no_marks, none_there, some_there}
+use Rattle.tsa_warn_function.proofs.Notes.{fresh_place, mark_more, next_place, no_marks, none_there, some_there}
 use Rattle.tsa_warn_function.proofs.marks.note_marks.Goals as goal
 use Rattle.tsa_warn_function.proofs.marks.note_marks.Goals.{in-Some+in_ok-note_mark, in_default}
 

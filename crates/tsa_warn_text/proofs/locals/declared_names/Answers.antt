@@ -5,7 +5,7 @@ use Rattle.std.specs.Slice.Iter.{iter_rest}
 use Rattle.tsa_tree.specs.statements.Shapes.{point_shape}
 use Rattle.tsa_path.specs.Labels.{label}
 use Rattle.tsa_warn_text.proofs.DeclaredLabels.{by_points}
-use Rattle.tsa_warn_text.proofs.Ends.{texts_end}
+use Rattle.tsa_warn_text.proofs.LabelEnds.{texts_end}
 use Rattle.tsa_warn_text.proofs.locals.declared_names.Goals as goal
 
 pub returns-clause-by : goal.returns-clause-by

@@ -3,7 +3,7 @@ use Rattle.std.proofs.lemmas.Slice.Zip.{either_empty_from_Zip}
 use Rattle.std.specs.Iterator.Adapters.{zip_first, zip_second}
 use Rattle.std.specs.Slice.Iter.{iter_rest}
 use Rattle.tsa_path.specs.Labels.{label}
-use Rattle.tsa_warn_text.proofs.Ends.{params_end}
+use Rattle.tsa_warn_text.proofs.LabelEnds.{params_end}
 use Rattle.tsa_warn_text.proofs.parameters.param_names.Goals as goal
 
 pub returns : goal.returns

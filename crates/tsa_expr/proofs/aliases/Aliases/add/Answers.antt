@@ -1,5 +1,5 @@
 use Rattle.std.proofs.Common.{◌∙◌, ap, map}
-use Rattle.tsa_expr.specs.Known.{with_name}
+use Rattle.tsa_expr.specs.TypeNames.{with_name}
 use Rattle.tsa_expr.proofs.Names.{names-insert_key}
 use Rattle.tsa_expr.proofs.aliases.Aliases.add.Goals as goal
 

@@ -5,7 +5,7 @@ use Rattle.tsa_tree.specs.Rows.{some_arguments, series}
 use Rattle.tsa_tree.specs.expressions.Shapes.{shape, shapes}
 use Rattle.tsa_tree.specs.tokens.Signs.{sign_at}
 use Rattle.tsa_expr.specs.Source.{input, named}
-use Rattle.tsa_expr.specs.Seen.{after}
+use Rattle.tsa_expr.specs.Readings.{after}
 use Rattle.tsa_expr.proofs.source.Reader.+reader.Given as goal
 
 abbrev pub decreases-arguments : goal.decreases-arguments

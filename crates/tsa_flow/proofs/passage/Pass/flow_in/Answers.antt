@@ -4,8 +4,8 @@ use Rattle.tsa_tree.specs.units.Shapes.{item_shapes}
 use Rattle.tsa_core.specs.Programs.{program_of}
 use Rattle.tsa_graph.specs.Rows.{AreBlocksOf}
 use Rattle.tsa_rules.specs.Points.{edges_of, points_of}
-use Rattle.tsa_rules_bodies.proofs.Controlled.{controlled}
-use Rattle.tsa_flow_function.proofs.Numbered.{flow_there, is_between, is_graph}
+use Rattle.tsa_rules_bodies.proofs.GraphsOfFunctions.{controlled}
+use Rattle.tsa_flow_function.proofs.FunctionNumbers.{flow_there, is_between, is_graph}
 use Rattle.tsa_rules_table.specs.Rows.{rows_in}
 use Rattle.tsa_flow.proofs.Passing.{both_found, different}
 use Rattle.tsa_flow.proofs.passage.Pass.flow_in.Goals as goal

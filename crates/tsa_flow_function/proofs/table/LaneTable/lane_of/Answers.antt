@@ -1,5 +1,5 @@
 use Rattle.std.proofs.Common.{◌∙◌, ap, refl}
-use Rattle.tsa_flow_function.specs.Idle.{shared_with}
+use Rattle.tsa_flow_function.specs.IdlePaths.{shared_with}
 use Rattle.tsa_flow_function.specs.Lanes.{fresh, known}
 use Rattle.tsa_flow_function.proofs.table.LaneTable.lane_of.Goals as goal
 

@@ -2,7 +2,7 @@ use Rattle.std.proofs.Common.{◌∙◌, ◌≡◌, ◌<◌, ℕ, ◌^◌, false
 use Rattle.tsa_rules.specs.Sets.{Has}
 use Rattle.tsa_flow_solver.specs.Agreeing.{Differs, goes, IsAlike, IsLaneCompared, stays}
 use Rattle.tsa_flow_solver.specs.Rows.{flag_at, set_at}
-use Rattle.tsa_flow_solver.proofs.Compared.{apart_differs, lanes_done, lanes_rest}
+use Rattle.tsa_flow_solver.proofs.EdgeComparisons.{apart_differs, lanes_done, lanes_rest}
 use Rattle.tsa_flow_solver.proofs.flags.Flags.compare.Goals as goal
 use Rattle.tsa_flow_solver.proofs.flags.Flags.compare.Goals.{then-differs, else-differs}
 

@@ -1,6 +1,6 @@
 use Rattle.std.proofs.Common.{◌∙◌, ◌≡◌, subst, sym, true}
 use Rattle.std.specs.List.{list_all}
-use Rattle.tsa_flow_solver.proofs.Compared.{flags_there}
+use Rattle.tsa_flow_solver.proofs.EdgeComparisons.{flags_there}
 use Rattle.tsa_flow_solver.proofs.flags.Flags.hold.Goals as goal
 
 pub returns : goal.returns

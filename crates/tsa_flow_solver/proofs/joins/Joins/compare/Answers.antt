@@ -3,7 +3,7 @@ use Rattle.std.proofs.lemmas.List.{get_or_default}
 use Rattle.tsa_rules.specs.declared.statuses.Statuses.{Statuses}
 use Rattle.tsa_flow_solver.specs.Agreeing.{IsLaneCompared, IsOneCompared}
 use Rattle.tsa_flow_solver.specs.Rows.{flag_at, flags_of, lane_of, row_at, set_at}
-use Rattle.tsa_flow_solver.proofs.Compared.{one_compared}
+use Rattle.tsa_flow_solver.proofs.EdgeComparisons.{one_compared}
 use Rattle.tsa_flow_solver.proofs.Grids.{flag_in, flags_long, flags_set, lane_at}
 use Rattle.tsa_flow_solver.proofs.joins.Joins.compare.Goals as goal
 

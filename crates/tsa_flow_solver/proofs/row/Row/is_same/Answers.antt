@@ -1,5 +1,5 @@
 use Rattle.std.proofs.Common.{◌∙◌, sym}
-use Rattle.tsa_flow_solver.proofs.Alike.{rows_same}
+use Rattle.tsa_flow_solver.proofs.RowEquality.{rows_same}
 use Rattle.tsa_flow_solver.proofs.row.Row.is_same.Goals as goal
 
 pub returns : goal.returns

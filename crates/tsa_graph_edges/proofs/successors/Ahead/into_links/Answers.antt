@@ -1,6 +1,6 @@
 use Rattle.std.proofs.Common.{◌∙◌, map, ap}
 use Rattle.tsa_graph_edges.specs.Links.{edge_of}
-use Rattle.tsa_graph_edges.proofs.Turned.{all_turned}
+use Rattle.tsa_graph_edges.proofs.LastFirst.{all_turned}
 use Rattle.tsa_graph_edges.proofs.successors.Ahead.into_links.Goals as goal
 
 pub returns : goal.returns

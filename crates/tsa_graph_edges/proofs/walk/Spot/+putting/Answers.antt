@@ -12,7 +12,7 @@ use Rattle.tsa_tree.specs.statements.Syntax.{evaluation, assignment, block, empt
 use Rattle.tsa_tree.proofs.statements.Trees.{tall, shape_of, block_at, for_at}
 use Rattle.tsa_graph_edges.specs.Links.{edge_of}
 use Rattle.tsa_graph_edges.specs.Marks.{case_of}
-use Rattle.tsa_graph_edges.specs.Ahead.{with_edges}
+use Rattle.tsa_graph_edges.specs.Successors.{with_edges}
 use Rattle.tsa_graph_edges.specs.Spots.{IsPut, ArePut}
 use Rattle.tsa_graph_edges.proofs.Putting as lemmas
 use Rattle.tsa_graph_edges.proofs.Putting.{spot_at, start}

@@ -4,7 +4,7 @@ use Rattle.tsa_rules_table.specs.Notes.{NotesLeft, NotesRight}
 use Rattle.tsa_rules_points.specs.Marking.{NotesBegun}
 use Rattle.tsa_rules_points.specs.Points.{begun_here, uses_here}
 use Rattle.tsa_rules_points.specs.Visits.{around_at, known_at}
-use Rattle.tsa_rules_points.proofs.Added.{row_added}
+use Rattle.tsa_rules_points.proofs.RowSteps.{row_added}
 use Rattle.tsa_rules_points.proofs.marking.Marking.note.Goals as goal
 
 pub returns-clause-row : goal.returns-clause-row

@@ -1,4 +1,4 @@
-use Rattle.tsa_rules_roles.proofs.Kept.{passed}
+use Rattle.tsa_rules_roles.proofs.VariablePlaces.{passed}
 use Rattle.tsa_rules_roles.proofs.roles.Roles.add.Goals as goal
 
 pub invariant_of-self-2 : goal.invariant_of-self-2

@@ -1,5 +1,5 @@
 use Rattle.std.proofs.Common.{arith}
-use Rattle.tsa_rules_roles.proofs.Kept.{declared, next_fits}
+use Rattle.tsa_rules_roles.proofs.VariablePlaces.{declared, next_fits}
 use Rattle.tsa_rules_roles.proofs.roles.Roles.declare.Goals as goal
 
 pub overflow_add-self : goal.overflow_add-self

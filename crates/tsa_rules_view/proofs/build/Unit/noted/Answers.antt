@@ -10,7 +10,7 @@ use Rattle.tsa_core_points.specs.Steps.{step_shape}
 use Rattle.tsa_profile_points.specs.Bodies.{Around}
 use Rattle.tsa_profile_points.specs.PointAnswers.{around_of}
 use Rattle.tsa_rules_bodies.specs.Knowing.{Knowledge, with_scope}
-use Rattle.tsa_rules_view.specs.Made.{around_in, points_in, result_in}
+use Rattle.tsa_rules_view.specs.BodyViews.{around_in, points_in, result_in}
 use Rattle.tsa_rules_view.proofs.Leaving.{same_behind}
 use Rattle.tsa_rules_view.proofs.SameNotes.{notes_same}
 use Rattle.tsa_rules_view.proofs.build.Unit.noted.Goals as goal

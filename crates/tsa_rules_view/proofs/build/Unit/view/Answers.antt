@@ -1,7 +1,7 @@
 use Rattle.std.proofs.Common.{subst}
 use Rattle.std.proofs.lemmas.Result.{IfOk-weaker}
-use Rattle.tsa_rules_view.specs.Made.{IsWhole}
-use Rattle.tsa_rules_view.proofs.Made.{made}
+use Rattle.tsa_rules_view.specs.BodyViews.{IsWhole}
+use Rattle.tsa_rules_view.proofs.ViewsOfFunctions.{made}
 use Rattle.tsa_rules_view.proofs.build.Unit.view.Goals as goal
 
 pub returns-clause-view : goal.returns-clause-view

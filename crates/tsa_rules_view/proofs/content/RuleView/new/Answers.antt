@@ -6,7 +6,7 @@ use Rattle.tsa_rules_view.specs.Kinds.{kinds_of}
 use Rattle.tsa_profile.proofs.Laying.{laid}
 use Rattle.tsa_rules_bodies.specs.Finding.{IsFound}
 use Rattle.tsa_rules_bodies.specs.Sites.{site_of}
-use Rattle.tsa_rules_view.proofs.Handed.{mapped}
+use Rattle.tsa_rules_view.proofs.HandedResults.{mapped}
 use Rattle.tsa_rules_view.proofs.NewView.{locks_are, never_none, view_there}
 use Rattle.tsa_rules_view.proofs.content.RuleView.new.Goals as goal
 

@@ -7,7 +7,7 @@ use Rattle.tsa_tree.specs.types.Symbols.{names_in, names_in_statement}
 use Rattle.tsa_types_expressions.proofs.SymbolLaws.{noted, noted_append}
 use Rattle.tsa_types_statements.proofs.StatementNames as names
 use Rattle.tsa_types_statements.proofs.StatementNames.{block_names}
-use Rattle.tsa_types_expressions.specs.Judged.{Judges}
+use Rattle.tsa_types_expressions.specs.Judgements.{Judges}
 use Rattle.tsa_tree.specs.types.Premises.{first}
 use Rattle.tsa_tree.specs.types.Scopes.{context_of}
 use Rattle.tsa_tree.specs.types.Statements.{statement_premises, behind}

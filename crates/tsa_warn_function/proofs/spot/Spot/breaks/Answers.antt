@@ -1,5 +1,5 @@
 use Rattle.tsa_rules.proofs.Members.{some_fails}
-use Rattle.tsa_warn_function.proofs.Noted.{on_walks}
+use Rattle.tsa_warn_function.proofs.Notes.{on_walks}
 use Rattle.tsa_warn_function.proofs.spot.Spot.breaks.Goals as goal
 
 pub returns : goal.returns

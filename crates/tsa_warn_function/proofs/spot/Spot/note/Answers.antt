@@ -2,7 +2,7 @@ use Rattle.std.proofs.Common.{◌∙◌, refl, sym, subst, true≢false}
 use Rattle.std.proofs.lemmas.Result.{on_ok_weaker}
 use Rattle.tsa_warn_function.specs.Adding.{Adds}
 use Rattle.tsa_warn_function.specs.Spots.{failure_at, IsNoted}
-use Rattle.tsa_warn_function.proofs.Added.{none_more, one_more}
+use Rattle.tsa_warn_function.proofs.ListGrowth.{none_more, one_more}
 use Rattle.tsa_warn_function.proofs.spot.Spot.note.Goals as goal
 
 pub returns-then-breaks : goal.returns-then-breaks

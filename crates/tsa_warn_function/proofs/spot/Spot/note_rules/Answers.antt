@@ -3,8 +3,8 @@ use Rattle.std.proofs.lemmas.List.{take_all}
 use Rattle.tsa_warn_function.specs.declared.spot.TheConstants.{MARK_RULES}
 use Rattle.tsa_warn_function.specs.Adding.{Adds}
 use Rattle.tsa_warn_function.specs.Spots.{IsNotedBy}
-use Rattle.tsa_warn_function.proofs.Asked.{asked_once}
-use Rattle.tsa_warn_function.proofs.Noted.{none_noted, rule_more}
+use Rattle.tsa_warn_function.proofs.MarkRules.{asked_once}
+use Rattle.tsa_warn_function.proofs.Notes.{none_noted, rule_more}
 use Rattle.tsa_warn_function.proofs.spot.Spot.note_rules.Goals as goal
 
 pub each-init : goal.each-init

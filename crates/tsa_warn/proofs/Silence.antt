@@ -9,7 +9,7 @@ use Rattle.tsa_warn_bodies.specs.Bodies.{BodyText, bodies_of, names_of}
 use Rattle.tsa_profile.specs.Paths.{paths_of}
 use Rattle.tsa_warn.specs.Laws.{UnitsWithoutLinesHaveNoWarnings, UnitsWithoutWarningsHaveNoLines}
 use Rattle.tsa_warn.specs.WarningLines.{AreWarned, IsBodyWarned, Warned, both, lines_of, no_lines}
-use Rattle.tsa_warn.proofs.Told.{rules_that_fail_are_told}
+use Rattle.tsa_warn.proofs.FailuresOfBodies.{rules_that_fail_are_told}
 use Rattle.tsa_base.proofs.Options.{some_same as same}
 
 -- a body of which no line is told

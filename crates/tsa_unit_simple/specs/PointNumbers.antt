@@ -12,7 +12,7 @@ use Rattle.tsa_tree.specs.statements.Shapes.{stmt_shape, stmt_shapes, point_shap
 use Rattle.tsa_tree.specs.declared.stmt.StmtKind.TheVariants as kinds
 use Rattle.tsa_unit_simple.specs.declared.simple.SimpleKind.{SimpleKind}
 use Rattle.tsa_unit_simple.specs.declared.simple.SimpleKind.TheVariants.{Eval, Assign}
-use Rattle.tsa_unit_simple.specs.Seen.{init_seen, step_seen}
+use Rattle.tsa_unit_simple.specs.Readings.{init_seen, step_seen}
 
 abbrev pub IsPointed : (old new : List Point) → Stmt → Type 0
 IsPointed old new s =

@@ -1,7 +1,7 @@
 -- Short runs worked out.
 use Rattle.std.proofs.Common.{refl}
 use Rattle.tsa_mean.specs.OrderTraces.{NumbersTurnAtTheirEdges, TermsAreWorkedOutInOrder}
-use Rattle.tsa_mean.proofs.Worked.{quickly, turned}
+use Rattle.tsa_mean.proofs.RunExamples.{quickly, turned}
 
 pub terms_are_worked_out_in_order : TermsAreWorkedOutInOrder
 unfolding turned

@@ -16,7 +16,7 @@ use Rattle.tsa_rules.specs.Fails.{Rule, TS01, TS02, TS03, TS04, TS05, TS06, TS07
 use Rattle.tsa_rules.specs.Walks.{course_of, Edge, IsWalk, LeadsTo, along, Reach, on_a_walk, where_edges_meet}
 use Rattle.tsa_rules.specs.StatusLaws.{IsUnnamed, RulesSpeakOfNamedPaths}
 use Rattle.tsa_rules.proofs.Tests.{never, neither}
-use Rattle.tsa_rules.proofs.Carried.{carried}
+use Rattle.tsa_rules.proofs.EdgeInduction.{carried}
 
 and_false : (a b : Bool) → b ≡ false → (a && b) ≡ false
 and_false true b e = e

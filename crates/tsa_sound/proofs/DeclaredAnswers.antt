@@ -40,7 +40,7 @@ use Rattle.tsa_sound.specs.FramesFit.{FrameFits, IsDecided, ProgramRows, functio
 use Rattle.tsa_sound.specs.Invariant.{LowerFit, StackFits}
 use Rattle.tsa_sound.specs.LaidOut.{LaidOut}
 use Rattle.tsa_sound.specs.SettledStatuses.{answer_held, left_by, left_in, lock_in, lock_named, settled}
-use Rattle.tsa_sound.proofs.Answered.{AnswerFits, calls, given_is, goes_behind, is_tried, named_is, of_kind, untested}
+use Rattle.tsa_sound.proofs.CallAnswers.{AnswerFits, calls, given_is, goes_behind, is_tried, named_is, of_kind, untested}
 use Rattle.tsa_sound.proofs.CallTests.{answered_worked}
 use Rattle.tsa_sound.proofs.Claims.{holds_named}
 use Rattle.tsa_sound.proofs.Constants.{differ}

@@ -1,6 +1,6 @@
 -- Structs and paths, worked out.
 use Rattle.std.proofs.Common.{refl}
-use Rattle.tsa_core.proofs.Worked.{worked}
+use Rattle.tsa_core.proofs.BodyExamples.{worked}
 use Rattle.tsa_rules_view.specs.Examples.{LockKindsAreAsWritten}
 
 pub lock_kinds_are_as_written : LockKindsAreAsWritten

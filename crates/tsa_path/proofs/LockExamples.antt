@@ -1,7 +1,7 @@
 -- Lock expressions, worked out.
 use Rattle.std.proofs.Common.{refl}
-use Rattle.tsa_core.proofs.Worked.{worked}
-use Rattle.tsa_path.specs.Written.{LocksAreAsWritten}
+use Rattle.tsa_core.proofs.BodyExamples.{worked}
+use Rattle.tsa_path.specs.WrittenLocks.{LocksAreAsWritten}
 
 pub locks_are_as_written : LocksAreAsWritten
 unfolding worked

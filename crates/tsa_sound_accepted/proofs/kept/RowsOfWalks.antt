@@ -7,14 +7,14 @@ use Rattle.tsa_core.specs.Control.{Outcome, edge}
 use Rattle.tsa_core.specs.Programs.{Function, Program}
 use Rattle.tsa_rules.specs.Effects.{effect}
 use Rattle.tsa_rules.specs.Fails.{fails}
-use Rattle.tsa_rules.specs.Kept.{AreKept}
+use Rattle.tsa_rules.specs.KeptRows.{AreKept}
 use Rattle.tsa_rules.specs.Points.{edges_of, is_status}
 use Rattle.tsa_rules.specs.declared.rule.Rule.{Rule}
 use Rattle.tsa_rules.specs.declared.rule.Rule.TheVariants.{TS10}
 use Rattle.tsa_rules.specs.declared.status.Status.{Status}
 use Rattle.tsa_rules.specs.Walks.{Course, Edge, Fails, IsWalk, LeadsTo, ReachAt, along, course_of, edge_from, entry_edge, on_a_walk}
 use Rattle.tsa_rules.specs.Warnings.{HasNoWarnings, warning}
-use Rattle.tsa_rules.proofs.Carried.{carried}
+use Rattle.tsa_rules.proofs.EdgeInduction.{carried}
 use Rattle.tsa_rules.proofs.OneStatus.{one_status_where_edges_agree}
 use Rattle.tsa_rules.proofs.Possible.{statuses_stay_possible}
 use Rattle.tsa_sound_accepted.specs.kept.Laws.{RowsAreKeptWhereNoRuleFails}

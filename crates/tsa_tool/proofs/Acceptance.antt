@@ -9,7 +9,7 @@ use Rattle.tsa_profile_accesses.specs.declared.premise.ProfileCode.TheVariants.{
 use Rattle.tsa_core.specs.Programs.{program_of}
 use Rattle.tsa_rules.specs.Warnings.{HasNoWarnings}
 use Rattle.tsa_warn.specs.WarningLines.{Warned}
-use Rattle.tsa_warn.proofs.Quiet.{units_without_lines, units_without_warnings}
+use Rattle.tsa_warn.proofs.Silence.{units_without_lines, units_without_warnings}
 use Rattle.tsa_tool.specs.Checks.{fit_in}
 use Rattle.tsa_tool.specs.Reports.{IsCheckOf, IsReportBy, OfUnit, Report, accepted, profile_status, refused_report, syntax_status, warned_report}
 use Rattle.tsa_tool.specs.Units.{AcceptedUnitsBreakNoRule, IsAccepted, UnitsThatBreakNoRuleAreAccepted}

@@ -20,7 +20,7 @@ use Rattle.tsa_place_model.specs.GlobalPlaces.{values_in, given_by, with_structu
 use Rattle.tsa_place_model.specs.Units.{data_placed, too_many_at, or_behind, placed_behind}
 use Rattle.tsa_place_model.proofs.Asking.{none_is_none}
 use Rattle.tsa_place_model.proofs.Below.{parts_below, part_within}
-use Rattle.tsa_place_model.proofs.Later.{later_thing, later_size}
+use Rattle.tsa_place_model.proofs.LaterStructs.{later_thing, later_size}
 use Rattle.tsa_place_model.proofs.Sizes.{thing_sized, inside_sized}
 use Rattle.tsa_place_model.proofs.Standing.{below_more}
 use Rattle.tsa_place_model.proofs.StructCounts.{same_structs}

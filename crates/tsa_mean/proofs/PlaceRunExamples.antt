@@ -5,7 +5,7 @@ use Rattle.tsa_lex.specs.Quick.{quick_tokens_of}
 use Rattle.tsa_lex.proofs.Quick.{tokens_are}
 use Rattle.tsa_tree.specs.types.Texts.{unit_in}
 use Rattle.tsa_mean.specs.TracePlaces.{first_places, places, places_of, PointsStandAtTheirPlaces}
-use Rattle.tsa_mean.proofs.Worked.{turned}
+use Rattle.tsa_mean.proofs.RunExamples.{turned}
 
 all_places : (text : List ℕ) (expected : List (List (ℕ × ℕ))) → places_of text (unit_in (quick_tokens_of text)) ≡ expected → places text ≡ expected
 unfolding places

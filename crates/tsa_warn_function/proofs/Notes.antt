@@ -15,7 +15,7 @@ use Rattle.tsa_warn_function.specs.declared.spot.TheConstants.{MARK_RULES}
 use Rattle.tsa_warn_function.specs.Adding.{Adds, EachOnce}
 use Rattle.tsa_warn_function.specs.Passes.{IsOfMarks}
 use Rattle.tsa_warn_function.specs.Spots.{FailsOnWalks, IsNoted, IsNotedBy, IsSpotOf}
-use Rattle.tsa_warn_function.proofs.Added.{and_then, as_others, none_more}
+use Rattle.tsa_warn_function.proofs.ListGrowth.{and_then, as_others, none_more}
 use Rattle.tsa_base.proofs.Options.{some_same as same_some}
 use Rattle.tsa_flow_solver.proofs.Slots.{one_there}
 

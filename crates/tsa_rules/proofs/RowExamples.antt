@@ -1,7 +1,7 @@
 -- The rows of the tables, worked out.
 use Rattle.std.proofs.Common.{◌≡◌, ℕ, ◌+◌, ◌-◌, ◌<◌, min, nat_lt, true, refl, ap, arith}
 use Rattle.std.proofs.lemmas.Bool.Decides.{nat_tests}
-use Rattle.tsa_core.proofs.Worked.{worked}
+use Rattle.tsa_core.proofs.BodyExamples.{worked}
 use Rattle.tsa_rules.specs.Statuses.{Exclusive}
 use Rattle.tsa_rules.specs.Effects.{deeper, given_back}
 use Rattle.tsa_rules.specs.Laws.{EntriesAndExitsAreAsDeclared, ExitsOfTriesAreByTheAnswer, CallsAreByTheirAttribute, CallsOfReentrantLocksCountDepths}

@@ -1,6 +1,6 @@
 -- The examples, worked out.
 use Rattle.std.proofs.Common.{refl}
-use Rattle.tsa_core.proofs.Worked.{worked}
+use Rattle.tsa_core.proofs.BodyExamples.{worked}
 use Rattle.tsa_core_points.specs.Points.{placed_in, placed_all}
 use Rattle.tsa_profile_accesses.specs.Premises.{first}
 use Rattle.tsa_profile_accesses.specs.Expressions.{parts, arguments}

@@ -7,7 +7,7 @@ use Rattle.tsa_rules.specs.Statuses.{Status}
 use Rattle.tsa_rules.specs.Effects.{effect}
 use Rattle.tsa_rules.specs.Fails.{fails}
 use Rattle.tsa_rules.specs.Walks.{Course, course_of, Edge, entry_edge, edge_from, LeadsTo, IsWalk, along, Reach, on_a_walk, where_edges_meet}
-use Rattle.tsa_rules.specs.Kept.{Rows, AreKept, KeptRowsBreakNoRule}
+use Rattle.tsa_rules.specs.KeptRows.{Rows, AreKept, KeptRowsBreakNoRule}
 
 pub carried : (k : Course) (At : ℕ → Status → Type 0) → At 0 k.entry
     → ((p q : ℕ) (o : Outcome) (s : Status) → Contains k.edges (edge p o q) → At p s → At q (k.effect p o s))

@@ -3,7 +3,7 @@ use Rattle.std.specs.Prelude.{ℕ, ◌≡◌, List, [], ◌∷◌, slice_index_o
 use Rattle.tsa_graph.specs.Runs.{first_of}
 use Rattle.tsa_graph.specs.declared.blocks.GraphBlock.{GraphBlock}
 use Rattle.tsa_graph.specs.declared.entries.Edge.{Edge}
-use Rattle.tsa_graph.specs.Inner.{inner_of}
+use Rattle.tsa_graph.specs.InnerOutcomes.{inner_of}
 
 pub record IsMade (ins : List (List Edge)) (b : GraphBlock) (run : List ℕ) : Type 0 where
   pub points : b.points.items ≡ run

@@ -1,6 +1,6 @@
 -- The places of units, worked out.
 use Rattle.std.proofs.Common.{refl}
-use Rattle.tsa_tree.proofs.types.Computed.{computed}
+use Rattle.tsa_tree.proofs.types.TextValues.{computed}
 use Rattle.tsa_place_model.specs.LockPaths.{leads}
 use Rattle.tsa_place_model.specs.Layouts.{structure_at, size_of}
 use Rattle.tsa_place_model.specs.Places.{places_inside}

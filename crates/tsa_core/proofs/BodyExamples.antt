@@ -1,6 +1,6 @@
 -- The bodies, worked out.
 use Rattle.std.proofs.Common.{refl}
-use Rattle.tsa_tree.proofs.types.Computed.{computed}
+use Rattle.tsa_tree.proofs.types.TextValues.{computed}
 use Rattle.tsa_lex.specs.Puncts.{is_pair}
 use Rattle.tsa_lex.specs.Quick.{quick_longest, front_with, quick_pieces_at}
 use Rattle.tsa_place_model.specs.LockPaths.{leads}

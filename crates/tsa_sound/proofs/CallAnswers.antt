@@ -12,7 +12,7 @@ use Rattle.tsa_core.specs.Meanings.{Call}
 use Rattle.tsa_core.specs.PointKinds.{answer_of}
 use Rattle.tsa_core.specs.Programs.{Attr, Function, Program}
 use Rattle.tsa_place_model.specs.Stores.{is_value_of}
-use Rattle.tsa_path.proofs.Same.{way_equal}
+use Rattle.tsa_path.proofs.PathsApart.{way_equal}
 use Rattle.tsa_rules.specs.declared.status.Status.{Status}
 use Rattle.tsa_rules.specs.declared.status.Status.TheVariants.{Free, Lent, Pending}
 use Rattle.tsa_rules.specs.Attributes.{all_as_called, claim, is_path, is_reentrant, is_try, kind_of, local_kinds, names}

@@ -15,13 +15,13 @@ use Rattle.tsa_tree.specs.tokens.Signs.{Aliases, sign_at, span_over}
 use Rattle.tsa_tree.specs.Rows.{Sort, an_expression, some_attributes, a_specifier, a_declarator, some_declarations, a_variable, some_variables, a_signature, a_head, Node, Call, expression, attributes, specifier, declarator, variable, variables, locals, signature, head, an_open_bracket, a_comma, an_equals, sees, is_attribute_sign, Row, behind_length, behind_storage, rule}
 use Rattle.tsa_tree.proofs.expressions.Answers as whole
 use Rattle.tsa_tree.proofs.attributes.Answers.{on_sign}
-use Rattle.tsa_tree.proofs.attributes.Same.{attributes_begin, attributes_refuse}
+use Rattle.tsa_tree.proofs.attributes.RowEquality.{attributes_begin, attributes_refuse}
 use Rattle.tsa_tree.proofs.declarations.ToRows.{specifier_rows, declarator_rows, variable_rows}
 use Rattle.tsa_tree.proofs.declarations.HeadsToRows.{storage_goes, parameters_rows}
 use Rattle.tsa_tree.proofs.tokens.ProductionSigns.{seen}
 use Rattle.tsa_tree.proofs.expressions.ToRows.{expression_rows}
 use Rattle.tsa_tree.proofs.RowFacts.{Ends, EndsVariable, EndsVariables, EndsLocals, Bare}
-use Rattle.tsa_tree.proofs.expressions.Same.{begin_the_same}
+use Rattle.tsa_tree.proofs.expressions.RowEquality.{begin_the_same}
 use Rattle.tsa_grammar.specs.Form.{done, token, part, either}
 use Rattle.tsa_grammar.specs.Spelling as forms
 use Rattle.tsa_grammar.specs.Spelling.{by_rule, goes_done, goes_token, begins_rule, starts_here, starts_token, starts_in, starts_over, starts_limit, starts_left, starts_right}

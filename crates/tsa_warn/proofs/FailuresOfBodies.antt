@@ -15,11 +15,11 @@ use Rattle.tsa_profile.specs.Paths.{paths_of}
 use Rattle.tsa_rules_bodies.specs.Laws.{StandsFor, body_at, result_at}
 use Rattle.tsa_rules_bodies.specs.Sites.{Site, site_of, within}
 use Rattle.tsa_rules_bodies.proofs.SiteLaws.{sites_are_of_the_program}
-use Rattle.tsa_warn.proofs.Named.{rules_fail_for_paths}
+use Rattle.tsa_warn.proofs.PathsOfFunctions.{rules_fail_for_paths}
 use Rattle.tsa_warn_bodies.specs.Bodies.{bodies_of}
 use Rattle.tsa_warn.specs.Laws.{IsToldIn, RulesThatFailAreTold}
-use Rattle.tsa_warn.proofs.Beside.{beside, bodied}
-use Rattle.tsa_warn.proofs.Having.{HasBody, has_body}
+use Rattle.tsa_warn.proofs.BodiesOfUses.{beside, bodied}
+use Rattle.tsa_warn.proofs.BodiesOfUnits.{HasBody, has_body}
 
 -- what a function of the program uses stands beside its points
 uses_beside : (items : List UnitItem) (n : ℕ) (f : Function) (s : Site) → StandsFor items n f s → length f.uses ≡ length (points_of f)

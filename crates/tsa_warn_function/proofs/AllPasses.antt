@@ -22,10 +22,10 @@ use Rattle.tsa_warn_function.specs.declared.spot.TheConstants.{MARK_RULES}
 use Rattle.tsa_warn_function.specs.Adding.{Adds}
 use Rattle.tsa_warn_function.specs.Failures.{AreFailures, FailsThere}
 use Rattle.tsa_warn_function.specs.Passes.{IsOfMarks, IsOfPoints, IsOnWalks}
-use Rattle.tsa_warn_function.proofs.Added.{and_then}
-use Rattle.tsa_warn_function.proofs.Asked.{not_of_edges, not_of_returns, two_or_asked}
+use Rattle.tsa_warn_function.proofs.ListGrowth.{and_then}
+use Rattle.tsa_warn_function.proofs.MarkRules.{not_of_edges, not_of_returns, two_or_asked}
 use Rattle.tsa_warn_function.proofs.Leaving.{in_case}
-use Rattle.tsa_warn_function.proofs.Quiet.{quiet}
+use Rattle.tsa_warn_function.proofs.SilentPoints.{quiet}
 
 abbrev pub places : Rows → List (ℕ × ℕ)
 places m = map (λ e. e.0) m.marks

@@ -4,7 +4,7 @@ use Rattle.tsa_lex.specs.Quick.{quick_tokens_of}
 use Rattle.tsa_lex.proofs.Quick.{tokens_are}
 use Rattle.tsa_tree.specs.types.Texts.{unit_in}
 use Rattle.tsa_place_model.specs.Calls.{around, guards_along}
-use Rattle.tsa_core.proofs.Worked.{worked}
+use Rattle.tsa_core.proofs.BodyExamples.{worked}
 use Rattle.tsa_core.specs.Programs.{program_of}
 use Rattle.tsa_locks.specs.Locks.{count_of, one_less, one_more, sharer_from}
 use Rattle.tsa_sched.specs.declared.event.Event.{Event}

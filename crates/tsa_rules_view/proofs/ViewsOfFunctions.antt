@@ -19,10 +19,10 @@ use Rattle.tsa_rules_bodies.specs.Laws.{result_at}
 use Rattle.tsa_rules_bodies.specs.Sites.{within}
 use Rattle.tsa_rules_view.specs.declared.build.Unit.{Unit}
 use Rattle.tsa_rules_view.specs.declared.content.RuleView.{RuleView}
-use Rattle.tsa_rules_view.specs.Made.{IsMade, IsNoted, IsWhole, around_in, points_in, result_in}
+use Rattle.tsa_rules_view.specs.BodyViews.{IsMade, IsNoted, IsWhole, around_in, points_in, result_in}
 use Rattle.tsa_rules_view.specs.Parts.{kinds_along, param_kinds}
 use Rattle.tsa_rules_view.proofs.SameNotes.{notes_same}
-use Rattle.tsa_rules_view.proofs.Whole.{is_view}
+use Rattle.tsa_rules_view.proofs.BodyViews.{is_view}
 
 module _ (u : Unit) (k : Knowledge) (i : Inside) (paths : List Way) (noted : Noted) (v : RuleView) where
   pub made : (AreDifferent paths → IsNoted u k i paths noted) → IsWhole u k i noted v → IsMade u k i paths v

@@ -19,7 +19,7 @@ use Rattle.tsa_tree.specs.Rows.{some_attributes, attributes, group, entries, Kin
 use Rattle.tsa_grammar.specs.Form.{done, token, part, either}
 use Rattle.tsa_tree.proofs.tokens.ProductionSigns.{shows_open, shows_close, shows_comma, shows_text}
 use Rattle.tsa_tree.proofs.attributes.Meanings.{ClosedEntries, Begun, Opens}
-use Rattle.tsa_tree.proofs.attributes.Kept.{given, closed_expressions, closed_try, closed_list, closed_entry}
+use Rattle.tsa_tree.proofs.attributes.RowSoundness.{given, closed_expressions, closed_try, closed_list, closed_entry}
 
 -- an attribute that takes a result is a try
 takes_a_try : (t : Taking) → takes_result t ≡ true → t ≡ takes.a_try

@@ -2,7 +2,7 @@
 use Rattle.std.proofs.Common.{◌≡◌, ◌∙◌, ℕ, length, false, List, Option, Some, None, is_some, refl, sym, subst, true≢false}
 use Rattle.tsa_place_model.specs.Ways.{Way}
 use Rattle.tsa_core.specs.Programs.{Function, Program}
-use Rattle.tsa_graph.specs.Between.{AreBetween}
+use Rattle.tsa_graph.specs.InnerEdges.{AreBetween}
 use Rattle.tsa_rules.specs.Points.{edges_of, points_of}
 use Rattle.tsa_profile.specs.Paths.{paths_if}
 use Rattle.tsa_rules_view.proofs.NewView.{has_body}

@@ -10,7 +10,7 @@ use Rattle.tsa_rules.specs.declared.statuses.Statuses.{Statuses}
 use Rattle.tsa_rules.specs.Sets.{Has}
 use Rattle.tsa_rules.specs.declared.status.Status.{Status}
 use Rattle.tsa_rules.specs.Walks.{along, Course, Edge, edge_from, entry_edge, IsWalk, LeadsTo, ReachAt}
-use Rattle.tsa_rules.proofs.Carried.{carried}
+use Rattle.tsa_rules.proofs.EdgeInduction.{carried}
 use Rattle.tsa_flow_solver.specs.Courses.{Carried, course_by}
 
 module _ (es : List control.Edge) (entry : Status) (cases : ℕ → Case) where

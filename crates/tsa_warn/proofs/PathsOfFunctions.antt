@@ -10,11 +10,11 @@ use Rattle.tsa_core.specs.Uses.{Access, Uses}
 use Rattle.tsa_profile_points.specs.Ways.{present}
 use Rattle.tsa_path.specs.Sameness.{same_way}
 use Rattle.tsa_path.specs.Substitution.{substituted}
-use Rattle.tsa_path.proofs.Same.{way_equal}
+use Rattle.tsa_path.proofs.PathsApart.{way_equal}
 use Rattle.tsa_rules.specs.Attributes.{all_as_called, as_called, is_path, names}
 use Rattle.tsa_rules.specs.Points.{attrs_at, attrs_called, is_guarded_by, or_idle, or_no_function, or_unused, point_at, points_of, uses_at}
 use Rattle.tsa_rules.specs.StatusLaws.{IsUnnamed}
-use Rattle.tsa_rules.proofs.Unnamed.{rules_speak_of_named_paths}
+use Rattle.tsa_rules.proofs.OtherPaths.{rules_speak_of_named_paths}
 use Rattle.tsa_warn.specs.CoverageLaws.{RulesFailForPathsOfFunctions}
 use Rattle.tsa_profile.specs.Paths.{called, called_in, paths_of, point_ways, points_in, points_ways, ways_of}
 use Rattle.tsa_profile.proofs.EachOnce.{comes}
