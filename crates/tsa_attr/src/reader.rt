@@ -4,7 +4,7 @@ ghost use Rattle.tsa_tree.specs.attributes.Answers.{read_any};
 ghost use Rattle.tsa_tree.specs.attributes.Syntax.{attr_shapes};
 ghost use Rattle.tsa_tree.specs.Reads.{read};
 ghost use Rattle.tsa_tree.specs.Rows.{some_attributes, group as group_call};
-ghost use Rattle.tsa_tree.specs.tokens.Signs.{sign_at as spec_sign};
+ghost use Rattle.tsa_tree.specs.tokens.Signs.{sign_at};
 ghost use Rattle.tsa_expr.specs.Gives.{Gives};
 ghost use Rattle.tsa_expr.specs.Source.{input, named};
 ghost use Rattle.tsa_attr.specs.Readings.{IsBehind};
@@ -51,7 +51,7 @@ fn attribute_list<'a>(
     depth: u32,
     list: &mut Vec<Attr<'a>, &'a Bump>,
 ) -> Result<u32, SyntaxRefusal>
-    requires there { spec_sign (input reader) (named reader) at ≡ Sign.Attribute }
+    requires there { sign_at (input reader) (named reader) at ≡ Sign.Attribute }
     ensures gives { Gives (λ next. (attr_shapes list.new.items, next)) result (after (attr_shapes list.old.items) (read (input reader.entry) some_attributes (group_call (named reader.entry) depth) at)) }
     ensures ends { IfOk result (IsBehind reader.entry at) }
 {

@@ -3,8 +3,8 @@ ghost use Rattle.std.specs.Prelude.{◌≡◌, ◌+◌, ◌<◌, length, Some, N
 ghost use Rattle.std.specs.Str.{bytes_eq};
 ghost use Rattle.tsa_base.specs.declared.limits.TheConstants.{NESTING_LIMIT};
 ghost use Rattle.tsa_tree.specs.attributes.Syntax.{try_value as spec_try, taking};
-ghost use Rattle.tsa_tree.specs.Rows.{sees, a_close, is_attribute_sign as spec_begins, lacking_at, takes_result as spec_takes};
-ghost use Rattle.tsa_tree.specs.tokens.Signs.{identifier_at, is_plain_sign as spec_plain, entry_meaning as spec_meaning};
+ghost use Rattle.tsa_tree.specs.Rows.{sees, a_close, is_attribute_sign, lacking_at, takes_result as spec_takes};
+ghost use Rattle.tsa_tree.specs.tokens.Signs.{identifier_at, is_plain_sign, entry_meaning as spec_meaning};
 ghost use Rattle.tsa_expr.specs.Gives.{Gives};
 ghost use Rattle.tsa_expr.specs.Source.{input, named};
 ghost use Rattle.tsa_attr.specs.Outcomes.{opening, one_token};
@@ -52,7 +52,7 @@ pub fn content_of(kind: AttrKind) -> Content
 
 /// Whether a group of attributes can begin with a sign.
 pub fn begins_group(sign: Sign) -> bool
-    ensures { result ≡ spec_begins sign }
+    ensures { result ≡ is_attribute_sign sign }
 {
     match sign {
         Sign::Attribute | Sign::Macro(_) | Sign::LeftOutMacro => true,
@@ -62,7 +62,7 @@ pub fn begins_group(sign: Sign) -> bool
 
 /// Whether a token opens and closes nothing.
 pub fn is_plain(sign: Sign) -> bool
-    ensures { result ≡ spec_plain sign }
+    ensures { result ≡ is_plain_sign sign }
 {
     match sign {
         Sign::End

@@ -5,7 +5,7 @@ ghost use Rattle.tsa_tree.specs.declarations.Shapes.{param_shape, param_shapes, 
 ghost use Rattle.tsa_tree.specs.Reads.{read};
 ghost use Rattle.tsa_tree.specs.Rows.{some_parameters, a_signature, a_head, parameter_list as list_call, parameters as parameters_call, signature as signature_call, head as head_call};
 ghost use Rattle.tsa_tree.specs.expressions.Shapes.{name_shape};
-ghost use Rattle.tsa_tree.specs.tokens.Signs.{sign_at as spec_sign, is_storage as spec_storage, is_void, is_close};
+ghost use Rattle.tsa_tree.specs.tokens.Signs.{sign_at, is_storage as spec_storage, is_void, is_close};
 ghost use Rattle.tsa_expr.specs.Source.{input, named};
 ghost use Rattle.tsa_expr.specs.Gives.{Gives};
 ghost use Rattle.tsa_decl_declarators.specs.Outcomes.{after};
@@ -134,7 +134,7 @@ fn parameter_list<'a>(
 /// Whether a sign that stands at a place is that of `void` alone before a closing parenthesis.
 pub fn is_lone_void(reader: Reader<'_, '_>, at: u32, sign: Sign) -> bool
     requires within { sign ≢ Sign.End → at < length reader.tokens.now }
-    ensures { result ≡ (is_void sign && is_close (spec_sign (input reader.entry) (named reader.entry) (at + 1))) }
+    ensures { result ≡ (is_void sign && is_close (sign_at (input reader.entry) (named reader.entry) (at + 1))) }
 {
     match sign {
         Sign::Keyword(Keyword::Void) => match reader.sign(at + 1) {

@@ -4,7 +4,7 @@ ghost use Rattle.tsa_tree.specs.declarations.Shapes.{base_shape};
 ghost use Rattle.tsa_tree.specs.units.Shapes.{item_shapes, HaveTheirPoints};
 ghost use Rattle.tsa_tree.specs.Reads.{read};
 ghost use Rattle.tsa_tree.specs.Rows.{some_items, an_open_brace, sees, declared as declared_call, item as item_call, declared_of as declared_of_row, alias_of as alias_of_row, structure_row, enumeration_row, structure_alias_row, enumeration_alias_row, typedef_row};
-ghost use Rattle.tsa_tree.specs.tokens.Signs.{sign_at as spec_sign};
+ghost use Rattle.tsa_tree.specs.tokens.Signs.{sign_at};
 ghost use Rattle.tsa_grammar.specs.Reading.{choose};
 ghost use Rattle.tsa_expr.specs.Source.{input, named};
 ghost use Rattle.tsa_expr.specs.Gives.{Gives, Leads};
@@ -229,7 +229,7 @@ fn typedef<'a>(
     list: &mut Vec<Item<'a>>,
 ) -> Result<u32, SyntaxRefusal>
     requires within { at < length reader.tokens.now }
-    ensures gives { Gives (λ next. (item_shapes list.new.items, next)) result (after (item_shapes list.old.items) (going_items (input reader.entry) (typedef_row (input reader.entry) (named reader.entry) at (spec_sign (input reader.entry) (named reader.entry) (at + 1))) (at + 1))) }
+    ensures gives { Gives (λ next. (item_shapes list.new.items, next)) result (after (item_shapes list.old.items) (going_items (input reader.entry) (typedef_row (input reader.entry) (named reader.entry) at (sign_at (input reader.entry) (named reader.entry) (at + 1))) (at + 1))) }
     ensures pointed { IfOk result (λ next. HaveTheirPoints list.old.items → HaveTheirPoints list.new.items) }
     ensures ends { IfOk result (λ next. (at < next) × (next ≤ length reader.entry.tokens.now)) }
     ensures lent { OnErr result (list.new.items ≡ list.old.items) }

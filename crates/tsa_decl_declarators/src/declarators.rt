@@ -3,7 +3,7 @@ ghost use Rattle.std.specs.Prelude.{◌≡◌, ◌≢◌, ◌≤◌, ◌<◌, le
 ghost use Rattle.tsa_tree.specs.Reads.{read};
 ghost use Rattle.tsa_tree.specs.Rows.{a_declarator, declarator as declarator_call};
 ghost use Rattle.tsa_tree.specs.expressions.Shapes.{shape};
-ghost use Rattle.tsa_tree.specs.tokens.Signs.{sign_at as spec_sign};
+ghost use Rattle.tsa_tree.specs.tokens.Signs.{sign_at};
 ghost use Rattle.tsa_expr.specs.Source.{input, named};
 ghost use Rattle.tsa_expr.specs.Gives.{Gives};
 ghost use Rattle.tsa_decl_declarators.specs.Outcomes.{star_at as spec_star, length_at as spec_length};
@@ -38,7 +38,7 @@ pub struct Length<'a> {
 #[tactic(auto, using(crate::proofs::DeclaratorLaws::stars))]
 pub fn star_at(reader: Reader<'_, '_>, at: u32) -> Star
     ensures is { spec_star (input reader.entry) (named reader.entry) at ≡ seen_star result }
-    ensures there { result.sign ≡ spec_sign (input reader.entry) (named reader.entry) result.next }
+    ensures there { result.sign ≡ sign_at (input reader.entry) (named reader.entry) result.next }
     ensures seen { result.sign ≢ Sign.End → result.next < count reader.entry.tokens.now }
     ensures ends { at ≤ result.next }
     ensures within { at ≤ count reader.entry.tokens.now → result.next ≤ count reader.entry.tokens.now }

@@ -3,7 +3,7 @@ ghost use Rattle.std.specs.Prelude.{◌≡◌, ◌≢◌, ◌≤◌, ◌<◌, le
 ghost use Rattle.tsa_tree.specs.declarations.Shapes.{base_shape};
 ghost use Rattle.tsa_tree.specs.Reads.{read};
 ghost use Rattle.tsa_tree.specs.Rows.{a_specifier, specifier as specifier_call, a_keyword, sees};
-ghost use Rattle.tsa_tree.specs.tokens.Signs.{sign_at as spec_sign};
+ghost use Rattle.tsa_tree.specs.tokens.Signs.{sign_at};
 ghost use Rattle.tsa_tree.specs.declared.sign.Keyword.TheVariants as key;
 ghost use Rattle.tsa_expr.specs.Source.{input, named};
 ghost use Rattle.tsa_expr.specs.Gives.{Gives};
@@ -62,7 +62,7 @@ pub fn specifier<'a>(reader: Reader<'a, '_>, at: u32) -> Result<Specified<'a>, S
 fn consts(reader: Reader<'_, '_>, at: u32) -> ConstWords
     ensures first { result.is_const ≡ sees (input reader.entry) (a_keyword (named reader.entry) key.Const) at }
     ensures is { consts_at (input reader.entry) (named reader.entry) at ≡ Ok (tt, result.next) }
-    ensures there { result.sign ≡ spec_sign (input reader.entry) (named reader.entry) result.next }
+    ensures there { result.sign ≡ sign_at (input reader.entry) (named reader.entry) result.next }
     ensures seen { result.sign ≢ Sign.End → result.next < length reader.entry.tokens.now }
     ensures ends { at ≤ result.next }
     ensures within { at ≤ length reader.entry.tokens.now → result.next ≤ length reader.entry.tokens.now }

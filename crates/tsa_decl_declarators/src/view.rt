@@ -2,11 +2,11 @@
 ghost use Rattle.std.specs.Prelude.{◌≡◌, ◌≢◌, ◌+◌, ◌≤◌, ◌<◌, ◌&&◌, true, length, IfOk};
 ghost use Rattle.tsa_base.specs.declared.limits.TheConstants.{NESTING_LIMIT};
 ghost use Rattle.tsa_tree.specs.Rows.{a_keyword, is_keyword, a_semicolon, a_close_brace, sees};
-ghost use Rattle.tsa_tree.specs.tokens.Signs.{sign_at as spec_sign, is_void, is_close};
+ghost use Rattle.tsa_tree.specs.tokens.Signs.{sign_at, is_void, is_close};
 ghost use Rattle.tsa_tree.specs.declared.sign.Keyword.TheVariants as key;
 ghost use Rattle.tsa_expr.specs.Source.{input, named};
 ghost use Rattle.tsa_expr.specs.Gives.{Gives};
-ghost use Rattle.tsa_decl_declarators.specs.Outcomes.{name_at as spec_name, tag_at as spec_tag, one_token, opening, opening_brace};
+ghost use Rattle.tsa_decl_declarators.specs.Outcomes.{name_at, tag_at, one_token, opening, opening_brace};
 ghost use Rattle.tsa_attr.specs.Readings.{passed};
 ghost use Rattle.tsa_decl_declarators.specs.Readings.{seen_name};
 
@@ -51,7 +51,7 @@ pub fn is_close_brace_at(reader: Reader<'_, '_>, at: u32) -> bool
 /// The name at a place, kept in the arena.
 #[tactic(auto, using(crate::proofs::TokenLaws::names))]
 pub fn name<'a>(reader: Reader<'a, '_>, at: u32) -> Result<Name<'a>, SyntaxRefusal>
-    ensures gives { Gives (seen_name at) result (spec_name (input reader.entry) (named reader.entry) at) }
+    ensures gives { Gives (seen_name at) result (name_at (input reader.entry) (named reader.entry) at) }
     ensures inside { IfOk result (λ name. at < length reader.entry.tokens.now) }
 {
     let Sign::Name = reader.sign(at) else {
@@ -64,7 +64,7 @@ pub fn name<'a>(reader: Reader<'a, '_>, at: u32) -> Result<Name<'a>, SyntaxRefus
 /// The tag at a place, kept in the arena (C11 6.2.3): a name or the name of a type.
 #[tactic(auto, using(crate::proofs::TokenLaws::tags))]
 pub fn tag<'a>(reader: Reader<'a, '_>, at: u32) -> Result<Name<'a>, SyntaxRefusal>
-    ensures gives { Gives (seen_name at) result (spec_tag (input reader.entry) (named reader.entry) at) }
+    ensures gives { Gives (seen_name at) result (tag_at (input reader.entry) (named reader.entry) at) }
     ensures inside { IfOk result (λ name. at < length reader.entry.tokens.now) }
 {
     match reader.sign(at) {

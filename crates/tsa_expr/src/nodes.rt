@@ -2,7 +2,7 @@
 ghost use Rattle.std.specs.Prelude.{◌≡◌, ◌+◌, ◌<◌, ◌++◌, ◌∷◌, [], length, IfOk, OnOk, OnErr, Err};
 ghost use Rattle.tsa_tree.specs.expressions.Syntax.{call as a_call, unary as a_unary, binary as a_binary, height as height_of};
 ghost use Rattle.tsa_tree.specs.expressions.Shapes.{name_shape, kind_shape, shape, shapes};
-ghost use Rattle.tsa_tree.specs.tokens.Signs.{span_at as spec_span, span_over as spec_over};
+ghost use Rattle.tsa_tree.specs.tokens.Signs.{span_at, span_over};
 
 use crate::reading::{ArgumentList, Reading};
 use crate::refusal::SyntaxRefusal;
@@ -19,8 +19,8 @@ impl<'a, 't> Reader<'a, 't> {
     /// The expression of one token, before one of a sign.
     pub fn leaf(self, at: u32, kind: ExprKind<'a>, ahead: Sign) -> Reading<'a>
         requires within { at < length self.tokens.now }
-        requires low { height_of (kind_shape kind (spec_span (input self) at)) ≡ 1 }
-        ensures is { shape result.tree ≡ kind_shape kind.entry (spec_span (input self.entry) at) }
+        requires low { height_of (kind_shape kind (span_at (input self) at)) ≡ 1 }
+        ensures is { shape result.tree ≡ kind_shape kind.entry (span_at (input self.entry) at) }
         ensures begins { result.start ≡ at }
         ensures ends { result.next ≡ at + 1 }
         ensures ahead { result.ahead ≡ ahead }
@@ -38,7 +38,7 @@ impl<'a, 't> Reader<'a, 't> {
     /// The call whose name stands at a token.
     pub fn call(self, at: u32, callee: Name<'a>, args: ArgumentList<'a>) -> Reading<'a>
         requires before { at < args.start }
-        ensures is { shape result.tree ≡ a_call (name_shape callee.entry) (shapes args.entry.items.now) (spec_over (input self.entry) at args.entry.next) }
+        ensures is { shape result.tree ≡ a_call (name_shape callee.entry) (shapes args.entry.items.now) (span_over (input self.entry) at args.entry.next) }
         ensures begins { result.start ≡ at }
         ensures ends { result.next ≡ args.entry.next }
         ensures ahead { result.ahead ≡ sign_at (input self.entry) (named self.entry) args.entry.next }
@@ -66,7 +66,7 @@ impl<'a, 't> Reader<'a, 't> {
     ) -> Result<Reading<'a>, SyntaxRefusal>
         requires before { at < inner.start }
         ensures memory { OnErr result (result ≡ Err SyntaxRefusal.NoMemory) }
-        ensures is { IfOk result (λ r. shape r.tree ≡ a_unary op (shape inner.entry.tree) (spec_over (input self.entry) at inner.entry.next)) }
+        ensures is { IfOk result (λ r. shape r.tree ≡ a_unary op (shape inner.entry.tree) (span_over (input self.entry) at inner.entry.next)) }
         ensures begins { IfOk result (λ r. r.start ≡ at) }
         ensures ends { IfOk result (λ r. r.next ≡ inner.entry.next) }
         ensures ahead { IfOk result (λ r. r.ahead ≡ inner.entry.ahead) }
@@ -95,7 +95,7 @@ impl<'a, 't> Reader<'a, 't> {
     ) -> Result<Reading<'a>, SyntaxRefusal>
         requires between { left.next < right.start }
         ensures memory { OnErr result (result ≡ Err SyntaxRefusal.NoMemory) }
-        ensures is { IfOk result (λ r. shape r.tree ≡ a_binary op (shape left.entry.tree) (shape right.entry.tree) (spec_over (input self.entry) left.entry.start right.entry.next)) }
+        ensures is { IfOk result (λ r. shape r.tree ≡ a_binary op (shape left.entry.tree) (shape right.entry.tree) (span_over (input self.entry) left.entry.start right.entry.next)) }
         ensures begins { IfOk result (λ r. r.start ≡ left.entry.start) }
         ensures ends { IfOk result (λ r. r.next ≡ right.entry.next) }
         ensures ahead { IfOk result (λ r. r.ahead ≡ right.entry.ahead) }

@@ -1,6 +1,6 @@
 //! Words that are no names and have a meaning, by their lengths.
 ghost use Rattle.std.specs.Prelude.{◌≡◌};
-ghost use Rattle.tsa_tree.specs.tokens.Signs.{listed as spec_listed, word_signs};
+ghost use Rattle.tsa_tree.specs.tokens.Signs.{listed, word_signs};
 
 use crate::table::look_up;
 use tsa_tree::attr::AttrKind;
@@ -97,7 +97,7 @@ const OF_TWENTY_FIVE: [([u8; 25], Sign); 1] = [(*b"NO_THREAD_SAFETY_ANALYSIS", S
 /// What a reserved word means, where it means anything.
 #[tactic(auto, using(crate::proofs::WordRows::of_two, crate::proofs::WordRows::of_three, crate::proofs::WordRows::of_four, crate::proofs::WordRows::of_five, crate::proofs::WordRows::of_six, crate::proofs::WordRows::of_seven, crate::proofs::WordRows::of_eight, crate::proofs::WordRows::of_ten, crate::proofs::WordRows::of_eleven, crate::proofs::WordRows::of_thirteen, crate::proofs::WordRows::of_fourteen, crate::proofs::WordRows::of_fifteen, crate::proofs::WordRows::of_seventeen, crate::proofs::WordRows::of_eighteen, crate::proofs::WordRows::of_twenty_four, crate::proofs::WordRows::of_twenty_five, crate::proofs::WordRows::of_no_length))]
 pub fn reserved_sign(text: &[u8]) -> Option<Sign>
-    ensures { result ≡ spec_listed word_signs text.now }
+    ensures { result ≡ listed word_signs text.now }
 {
     match text.len() {
         2 => look_up(text, &OF_TWO),

@@ -1,6 +1,6 @@
 //! The arguments of a call in the place of parameters, in a path of the callee (C11 6.5.2.2p4).
 ghost use Rattle.std.specs.Prelude.{◌≡◌, Some, IfOk, option_map, option_and_then};
-ghost use Rattle.tsa_path.specs.Substitution.{given as spec_given, constant as spec_constant, as_index as spec_as_index, as_pointer as spec_as_pointer, step_in as spec_step_in, steps_in as spec_steps_in, further as spec_further, substituted as spec_substituted};
+ghost use Rattle.tsa_path.specs.Substitution.{given as spec_given, constant as spec_constant, as_index as spec_as_index, as_pointer as spec_as_pointer, step_in as spec_step_in, steps_in, further as spec_further, substituted};
 
 use std::alloc::Global;
 use tsa_base::NoMemory;
@@ -74,7 +74,7 @@ fn further(
     args: &[Option<Path>],
     steps: &[PathStep],
 ) -> Result<Option<Path>, NoMemory>
-    ensures { IfOk result (λ after. after ≡ spec_further (Some path) (spec_steps_in args.now steps.now)) }
+    ensures { IfOk result (λ after. after ≡ spec_further (Some path) (steps_in args.now steps.now)) }
 {
     'each: for step in steps {
         let Some(found) = step_in(args, *step) else {
@@ -91,7 +91,7 @@ pub fn substitute(
     path: &Path,
     args: &[Option<Path>],
 ) -> Result<Option<Path>, NoMemory>
-    ensures { IfOk result (λ after. after ≡ spec_substituted args.now path.now) }
+    ensures { IfOk result (λ after. after ≡ substituted args.now path.now) }
 {
     match (path.root(), path.steps()) {
         (Root::Local(parameter), [PathStep::Follow, rest @ ..]) => {

@@ -1,6 +1,6 @@
 //! Where paths lead (C11 6.5.2, 6.5.3.2).
 ghost use Rattle.std.specs.Prelude.{◌≡◌};
-ghost use Rattle.tsa_place_model.specs.Calls.{place_in as spec_place_in};
+ghost use Rattle.tsa_place_model.specs.Calls.{place_in};
 
 use tsa_base::Value;
 
@@ -14,7 +14,7 @@ pub enum Spot {
 impl Spot {
     /// The place, where it is one.
     pub fn place(self) -> Option<u32>
-        ensures { result ≡ spec_place_in self }
+        ensures { result ≡ place_in self }
     {
         match self {
             Spot::Place(place) => Some(place),

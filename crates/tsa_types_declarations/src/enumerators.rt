@@ -3,7 +3,7 @@ ghost use Rattle.std.specs.Prelude.{◌≡◌, ◌++◌, ◌||◌, ◌∷◌, po
 ghost use Rattle.tsa_types_expressions.specs.Judgements.{Judges, forget};
 ghost use Rattle.tsa_tree.specs.declarations.Shapes.{enumerator_shape, enumerator_shapes};
 ghost use Rattle.tsa_tree.specs.expressions.Shapes.{name_shape};
-ghost use Rattle.tsa_tree.specs.types.Enums.{int_value as spec_int_value, as_int, next_after, enumerator_premises, behind_enumerators, value_verdict, enumerator_value, enumerator_entry as spec_entry, other_enum as spec_other_enum, is_enumerator as spec_is_enumerator, enum_premises, behind_enum};
+ghost use Rattle.tsa_tree.specs.types.Enums.{int_value as spec_int_value, as_int, next_after, enumerator_premises, behind_enumerators, value_verdict, enumerator_value, enumerator_entry as spec_entry, other_enum, is_enumerator as spec_is_enumerator, enum_premises, behind_enum};
 ghost use Rattle.tsa_tree.specs.types.Premises.{first};
 ghost use Rattle.tsa_tree.specs.types.Scopes.{context_of, tag_in, with_name, is_taken, is_named_taken};
 ghost use Rattle.tsa_tree.specs.types.Symbols.{names_in_given, names_in_enumerators};
@@ -149,7 +149,7 @@ fn declare_enumerators<'a>(
 
 /// Whether an earlier item has a tag, where the item of an enum stands at a place.
 fn is_other_enum(scope: &Scope<'_>, place: u32, tag: Option<Name<'_>>) -> bool
-    ensures { result ≡ spec_other_enum place (tag_in scope.now (option_map name_shape tag.entry)) }
+    ensures { result ≡ other_enum place (tag_in scope.now (option_map name_shape tag.entry)) }
 {
     match scope.tag(tag) {
         None => false,
@@ -183,7 +183,7 @@ fn is_taken_after(scope: &Scope<'_>, values: &[Enumerator<'_>], name: Option<Nam
 
 /// Whether the tag of an enum, or its name of a type after the enumerators, is declared by something else.
 fn is_declared_elsewhere(scope: &Scope<'_>, def: &EnumDef<'_>) -> bool
-    ensures { result ≡ (spec_other_enum def.now.span.from (tag_in scope.now (option_map name_shape def.now.tag)) || is_named_taken (option_map name_shape def.now.alias) (behind_enumerators scope.now (pos 0) (enumerator_shapes def.now.values.now))) }
+    ensures { result ≡ (other_enum def.now.span.from (tag_in scope.now (option_map name_shape def.now.tag)) || is_named_taken (option_map name_shape def.now.alias) (behind_enumerators scope.now (pos 0) (enumerator_shapes def.now.values.now))) }
 {
     is_other_enum(scope, def.span.from, def.tag) || is_taken_after(scope, def.values, def.alias)
 }

@@ -7,7 +7,7 @@ ghost use Rattle.tsa_tree.specs.expressions.Shapes.{name_shape};
 ghost use Rattle.tsa_tree.specs.types.Attributes.{attributes_premises, attributes_beside, stands_beside as spec_stands_beside};
 ghost use Rattle.tsa_tree.specs.types.Premises.{first};
 ghost use Rattle.tsa_tree.specs.types.Scopes.{context_of, tag_in, with_owned, is_named_taken};
-ghost use Rattle.tsa_tree.specs.types.Structs.{member_premises, with_member, members_premises, members_behind, first_place as spec_first_place, other_struct as spec_other_struct, inside_struct as spec_inside_struct, struct_premises, behind_struct};
+ghost use Rattle.tsa_tree.specs.types.Structs.{member_premises, with_member, members_premises, members_behind, first_place as spec_first_place, other_struct, inside_struct as spec_inside_struct, struct_premises, behind_struct};
 ghost use Rattle.tsa_tree.specs.types.Symbols.{names_in_attributes, names_in_member, names_in_members};
 
 use crate::aliases::a_type_name;
@@ -140,7 +140,7 @@ fn inside_struct<'a>(
 
 /// Whether an earlier item has a tag.
 fn is_other_struct(scope: &Scope<'_>, tag: Option<Name<'_>>) -> bool
-    ensures { result ≡ spec_other_struct (length scope.now.structs) (tag_in scope.now (option_map name_shape tag.entry)) }
+    ensures { result ≡ other_struct (length scope.now.structs) (tag_in scope.now (option_map name_shape tag.entry)) }
 {
     match scope.tag(tag) {
         None => false,
@@ -151,7 +151,7 @@ fn is_other_struct(scope: &Scope<'_>, tag: Option<Name<'_>>) -> bool
 
 /// Whether the tag of a struct, or its name of a type, is declared by something else.
 fn is_declared_elsewhere(scope: &Scope<'_>, def: &StructDef<'_>) -> bool
-    ensures { result ≡ (spec_other_struct (length scope.now.structs) (tag_in scope.now (option_map name_shape def.now.tag)) || is_named_taken (option_map name_shape def.now.alias) scope.now) }
+    ensures { result ≡ (other_struct (length scope.now.structs) (tag_in scope.now (option_map name_shape def.now.tag)) || is_named_taken (option_map name_shape def.now.alias) scope.now) }
 {
     is_other_struct(scope, def.tag) || scope.is_named_taken(def.alias)
 }

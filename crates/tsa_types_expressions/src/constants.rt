@@ -1,6 +1,6 @@
 //! What an expression is found to be: its type, and what it is worth where it is a constant (C11 6.5, 6.6).
 ghost use Rattle.std.specs.Prelude.{◌≡◌};
-ghost use Rattle.tsa_types_expressions.specs.Found.{found_number, found_null, found_entry, found_result, found_constant as spec_found_constant};
+ghost use Rattle.tsa_types_expressions.specs.Found.{found_number, found_null, found_entry, found_result, found_constant};
 ghost use Rattle.tsa_tree.specs.types.Constants.{number_value as spec_number_value};
 ghost use Rattle.tsa_tree.specs.types.Expressions.{entry_type as spec_entry_type, number_type as spec_number_type, result_type as spec_result_type};
 
@@ -34,7 +34,7 @@ pub struct Found {
 impl Found {
     /// What an integer constant is worth that has a value.
     pub fn value(self) -> Option<Number>
-        ensures { result ≡ spec_found_constant self }
+        ensures { result ≡ found_constant self }
     {
         match self.constant {
             Constant::Number(Ok(number)) => Some(number),

@@ -4,7 +4,7 @@ ghost use Rattle.tsa_tree.specs.points.Syntax.{point_of_test};
 ghost use Rattle.tsa_tree.specs.Reads.{read};
 ghost use Rattle.tsa_tree.specs.Rows.{a_statement, statement as statement_call};
 ghost use Rattle.tsa_tree.specs.expressions.Shapes.{shape};
-ghost use Rattle.tsa_tree.specs.tokens.Signs.{sign_at as spec_sign, span_at as spec_span};
+ghost use Rattle.tsa_tree.specs.tokens.Signs.{sign_at, span_at};
 ghost use Rattle.tsa_tree.specs.statements.Shapes.{point_shape};
 ghost use Rattle.tsa_expr.specs.Source.{input, named};
 ghost use Rattle.tsa_expr.specs.Gives.{Gives, Leads};
@@ -86,9 +86,9 @@ pub fn while_head<'a>(
     depth: u32,
     points: &mut Vec<Point<'a>>,
 ) -> Result<Headed<'a>, SyntaxRefusal>
-    requires there { spec_sign (input reader) (named reader) start ≡ Sign.Keyword Keyword.While }
+    requires there { sign_at (input reader) (named reader) start ≡ Sign.Keyword Keyword.While }
     ensures leads { Leads seen_head result (read (input reader.entry) a_statement (statement_call (named reader.entry) depth) start) (ended_at (input reader.entry) (named reader.entry) depth start) }
-    ensures opened { IfOk result (λ r. IsOpened (spec_span (input reader.entry) start) points.old.items points.new.items r.head) }
+    ensures opened { IfOk result (λ r. IsOpened (span_at (input reader.entry) start) points.old.items points.new.items r.head) }
     ensures ends { IfOk result (λ r. (start < r.next) × (r.next ≤ length reader.entry.tokens.now)) }
 {
     let tested = marked_test(reader, start + 1, depth, points)?;
@@ -110,9 +110,9 @@ pub fn switch_head<'a>(
     depth: u32,
     points: &mut Vec<Point<'a>>,
 ) -> Result<Headed<'a>, SyntaxRefusal>
-    requires there { spec_sign (input reader) (named reader) start ≡ Sign.Keyword Keyword.Switch }
+    requires there { sign_at (input reader) (named reader) start ≡ Sign.Keyword Keyword.Switch }
     ensures leads { Leads seen_head result (read (input reader.entry) a_statement (statement_call (named reader.entry) depth) start) (ended_at (input reader.entry) (named reader.entry) depth start) }
-    ensures opened { IfOk result (λ r. IsOpened (spec_span (input reader.entry) start) points.old.items points.new.items r.head) }
+    ensures opened { IfOk result (λ r. IsOpened (span_at (input reader.entry) start) points.old.items points.new.items r.head) }
     ensures ends { IfOk result (λ r. (start < r.next) × (r.next ≤ length reader.entry.tokens.now)) }
 {
     let value = test(reader, start + 1, depth)?;
@@ -136,9 +136,9 @@ impl<'a, 't> TextReader<'a, 't> {
         depth: u32,
         points: &mut Vec<Point<'a>>,
     ) -> Result<Headed<'a>, SyntaxRefusal>
-        requires there { spec_sign (input self.reader) (named self.reader) start ≡ Sign.Keyword Keyword.For }
+        requires there { sign_at (input self.reader) (named self.reader) start ≡ Sign.Keyword Keyword.For }
         ensures leads { Leads seen_head result (read (input self.entry.reader) a_statement (statement_call (named self.entry.reader) depth) start) (ended_at (input self.entry.reader) (named self.entry.reader) depth start) }
-        ensures opened { IfOk result (λ r. IsOpened (spec_span (input self.entry.reader) start) points.old.items points.new.items r.head) }
+        ensures opened { IfOk result (λ r. IsOpened (span_at (input self.entry.reader) start) points.old.items points.new.items r.head) }
         ensures ends { IfOk result (λ r. (start < r.next) × (r.next ≤ length self.entry.reader.tokens.now)) }
     {
         let inside = open(self.reader, start + 1, depth)?;
@@ -176,7 +176,7 @@ pub fn case_head<'a>(
     start: u32,
     depth: u32,
 ) -> Result<Headed<'a>, SyntaxRefusal>
-    requires there { spec_sign (input reader) (named reader) start ≡ Sign.Keyword Keyword.Case }
+    requires there { sign_at (input reader) (named reader) start ≡ Sign.Keyword Keyword.Case }
     ensures leads { Leads seen_head result (read (input reader.entry) a_statement (statement_call (named reader.entry) depth) start) (ended_at (input reader.entry) (named reader.entry) depth start) }
     ensures unpointed { IfOk result (λ r. IsUnpointed r.head) }
     ensures ends { IfOk result (λ r. (start < r.next) × (r.next ≤ length reader.entry.tokens.now)) }
@@ -194,7 +194,7 @@ pub fn default_head<'a>(
     start: u32,
     depth: u32,
 ) -> Result<Headed<'a>, SyntaxRefusal>
-    requires there { spec_sign (input reader) (named reader) start ≡ Sign.Keyword Keyword.Default }
+    requires there { sign_at (input reader) (named reader) start ≡ Sign.Keyword Keyword.Default }
     ensures leads { Leads seen_head result (read (input reader.entry) a_statement (statement_call (named reader.entry) depth) start) (ended_at (input reader.entry) (named reader.entry) depth start) }
     ensures unpointed { IfOk result (λ r. IsUnpointed r.head) }
     ensures ends { IfOk result (λ r. (start < r.next) × (r.next ≤ length reader.entry.tokens.now)) }

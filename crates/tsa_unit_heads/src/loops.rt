@@ -2,7 +2,7 @@
 ghost use Rattle.std.specs.Prelude.{◌≡◌, ◌++◌, ◌∷◌, [], length, map, option_map, Err, IfOk, OnOk, OnErr};
 ghost use Rattle.tsa_tree.specs.points.Syntax.{point_of_for};
 ghost use Rattle.tsa_tree.specs.expressions.Shapes.{shape};
-ghost use Rattle.tsa_tree.specs.tokens.Signs.{span_at as spec_span};
+ghost use Rattle.tsa_tree.specs.tokens.Signs.{span_at};
 ghost use Rattle.tsa_tree.specs.statements.Shapes.{point_shape};
 ghost use Rattle.tsa_expr.specs.Source.{input};
 
@@ -24,7 +24,7 @@ impl<'a, 't> TextReader<'a, 't> {
         points: &mut Vec<Point<'a>>,
     ) -> Result<u32, SyntaxRefusal>
         ensures number { IfOk result (λ number. number ≡ length points.old.items) }
-        ensures pointed { OnOk result (map point_shape points.new.items ≡ map point_shape points.old.items ++ point_of_for (spec_span (input self.entry.reader) start) (option_map shape test.entry) ∷ []) }
+        ensures pointed { OnOk result (map point_shape points.new.items ≡ map point_shape points.old.items ++ point_of_for (span_at (input self.entry.reader) start) (option_map shape test.entry) ∷ []) }
         ensures memory { OnErr result (result ≡ Err SyntaxRefusal.NoMemory) }
     {
         let Some(tree) = test else {

@@ -2,7 +2,7 @@
 ghost use Rattle.std.specs.Prelude.{◌≡◌, ◌≤◌, ◌<◌, length, true, IfOk};
 ghost use Rattle.tsa_tree.specs.Reads.{read};
 ghost use Rattle.tsa_tree.specs.Rows.{a_statement, statement as statement_call};
-ghost use Rattle.tsa_tree.specs.tokens.Signs.{sign_at as spec_sign, span_at as spec_span};
+ghost use Rattle.tsa_tree.specs.tokens.Signs.{sign_at, span_at};
 ghost use Rattle.tsa_expr.specs.Source.{input, named};
 ghost use Rattle.tsa_expr.specs.Gives.{Gives, Leads};
 ghost use Rattle.tsa_unit_heads.specs.Heads.{IsOpened, ended_at, seen_head};
@@ -27,10 +27,10 @@ impl<'a, 't> TextReader<'a, 't> {
         word: Keyword,
         points: &mut Vec<Point<'a>>,
     ) -> Result<Headed<'a>, SyntaxRefusal>
-        requires there { spec_sign (input self.reader) (named self.reader) at ≡ Sign.Keyword word }
+        requires there { sign_at (input self.reader) (named self.reader) at ≡ Sign.Keyword word }
         requires headed { ends_with_body word ≡ true }
         ensures leads { Leads seen_head result (read (input self.entry.reader) a_statement (statement_call (named self.entry.reader) depth) at) (ended_at (input self.entry.reader) (named self.entry.reader) depth at) }
-        ensures opened { IfOk result (λ r. IsOpened (spec_span (input self.entry.reader) at) points.old.items points.new.items r.head) }
+        ensures opened { IfOk result (λ r. IsOpened (span_at (input self.entry.reader) at) points.old.items points.new.items r.head) }
         ensures ends { IfOk result (λ r. (at < r.next) × (r.next ≤ length self.entry.reader.tokens.now)) }
     {
         match word {
@@ -52,7 +52,7 @@ pub fn leaf_statement<'a>(
     word: Keyword,
     points: &mut Vec<Point<'a>>,
 ) -> Result<Read<'a>, SyntaxRefusal>
-    requires there { spec_sign (input reader) (named reader) at ≡ Sign.Keyword word }
+    requires there { sign_at (input reader) (named reader) at ≡ Sign.Keyword word }
     requires bodiless { HoldsNoBody word }
     ensures gives { Gives seen_statement result (read (input reader.entry) a_statement (statement_call (named reader.entry) depth) at) }
     ensures pointed { IfOk result (λ r. IsPointed points.old.items points.new.items r.stmt) }

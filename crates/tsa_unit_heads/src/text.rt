@@ -2,7 +2,7 @@
 ghost use Rattle.std.specs.Prelude.{◌≡◌, ◌≤◌};
 ghost use Rattle.std.proofs.Props.{props};
 ghost use Rattle.tsa_base.specs.declared.limits.TheConstants.{INPUT_LIMIT};
-ghost use Rattle.tsa_tree.specs.tokens.Signs.{span_at as spec_span};
+ghost use Rattle.tsa_tree.specs.tokens.Signs.{span_at};
 ghost use Rattle.tsa_expr.specs.Source.{input};
 ghost use Rattle.tsa_unit_heads.specs.Near.{AreNear};
 
@@ -18,7 +18,7 @@ pub struct TextReader<'a, 't> {
 impl<'a, 't> TextReader<'a, 't> {
     /// Where the token at a place begins.
     pub fn begin(self, at: u32) -> u32
-        ensures is { result ≡ (spec_span (input self.entry.reader) at).from }
+        ensures is { result ≡ (span_at (input self.entry.reader) at).from }
         ensures near { result ≤ INPUT_LIMIT }
     {
         self.reader.span(at).from

@@ -1,7 +1,7 @@
 //! Statements that hold no other one are read (C11 6.8.3, 6.8.6).
 ghost use Rattle.std.specs.Prelude.{◌≡◌, ◌+◌, ◌≤◌, ◌<◌, length, Some, None, IfOk, OnErr, Err};
 ghost use Rattle.tsa_base.specs.declared.token.Span.{Span as span_type};
-ghost use Rattle.tsa_tree.specs.tokens.Signs.{sign_at as spec_sign};
+ghost use Rattle.tsa_tree.specs.tokens.Signs.{sign_at};
 ghost use Rattle.tsa_tree.specs.statements.Syntax.{simple as simple_statement_of, empty as nothing_done};
 ghost use Rattle.tsa_tree.specs.statements.Shapes.{stmt_shape};
 ghost use Rattle.tsa_expr.specs.Source.{input, named};
@@ -100,7 +100,7 @@ pub fn simple_statement<'a>(
     sign: Sign,
     points: &mut Vec<Point<'a>>,
 ) -> Result<Read<'a>, SyntaxRefusal>
-    requires there { sign ≡ spec_sign (input reader) (named reader) at }
+    requires there { sign ≡ sign_at (input reader) (named reader) at }
     ensures gives { Gives seen_statement result (simple_statement_at (input reader.entry) (named reader.entry) depth at) }
     ensures pointed { IfOk result (λ r. IsPointed points.old.items points.new.items r.stmt) }
     ensures ends { IfOk result (λ r. (at < r.next) × (r.next ≤ length reader.entry.tokens.now)) }

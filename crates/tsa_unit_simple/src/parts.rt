@@ -4,7 +4,7 @@ ghost use Rattle.tsa_tree.specs.declared.stmt.Point.{Point as point_type};
 ghost use Rattle.tsa_tree.specs.declarations.Shapes.{decl_shapes};
 ghost use Rattle.tsa_tree.specs.Reads.{read};
 ghost use Rattle.tsa_tree.specs.Rows.{a_for_init, some_statements, for_init as for_init_call, statements as statements_call};
-ghost use Rattle.tsa_tree.specs.tokens.Signs.{begins_type as spec_begins_type, sign_at as spec_sign};
+ghost use Rattle.tsa_tree.specs.tokens.Signs.{begins_type as spec_begins_type, sign_at};
 ghost use Rattle.tsa_tree.specs.statements.Syntax.{locals_before, none};
 ghost use Rattle.tsa_tree.specs.statements.Shapes.{stmt_shapes};
 ghost use Rattle.tsa_expr.specs.Source.{input, named};
@@ -49,7 +49,7 @@ fn simple_part<'a>(
     sign: Sign,
     points: &mut Vec<Point<'a>>,
 ) -> Result<Body<'a>, SyntaxRefusal>
-    requires there { sign ≡ spec_sign (input reader) (named reader) at }
+    requires there { sign ≡ sign_at (input reader) (named reader) at }
     ensures gives { Gives seen_body result (simply_at (input reader.entry) (named reader.entry) depth at) }
     ensures pointed { IfOk result (λ r. IsPointed points.old.items points.new.items r.stmt.now) }
     ensures ends { IfOk result (λ r. (at < r.next) × (r.next ≤ length reader.entry.tokens.now)) }
@@ -77,7 +77,7 @@ fn local_init<'a>(
     depth: u32,
     points: &mut Vec<Point<'a>>,
 ) -> Result<Part<'a>, SyntaxRefusal>
-    requires there { spec_begins_type (spec_sign (input reader) (named reader) at) ≡ true }
+    requires there { spec_begins_type (sign_at (input reader) (named reader) at) ≡ true }
     ensures gives { Gives seen_init result (read (input reader.entry) a_for_init (for_init_call (named reader.entry) depth) at) }
     ensures pointed { IfOk result (λ r. IsBegun points.old.items points.new.items r.stmt) }
     ensures ends { IfOk result (λ r. (at < r.next) × (r.next ≤ length reader.entry.tokens.now)) }
@@ -177,7 +177,7 @@ pub fn locals<'a>(
     points: &mut Vec<Point<'a>>,
     list: &mut Vec<Stmt<'a>>,
 ) -> Result<u32, SyntaxRefusal>
-    requires there { spec_begins_type (spec_sign (input reader) (named reader) at) ≡ true }
+    requires there { spec_begins_type (sign_at (input reader) (named reader) at) ≡ true }
     ensures leads { Leads passed result (statements_after (stmt_shapes list.old.items) (read (input reader.entry) some_statements (statements_call (named reader.entry) depth) at)) (λ u next. statements_after (stmt_shapes list.new.items) (read (input reader.entry) some_statements (statements_call (named reader.entry) depth) next)) }
     ensures pointed { IfOk result (λ next. (start : List point_type) → ArePointed start points.old.items list.old.items → ArePointed start points.new.items list.new.items) }
     ensures ends { IfOk result (λ next. (at < next) × (next ≤ length reader.entry.tokens.now)) }

@@ -3,7 +3,7 @@ ghost use Rattle.std.specs.Prelude.{◌≡◌, ◌≤◌, ◌<◌, length, None,
 ghost use Rattle.tsa_tree.specs.Reads.{read};
 ghost use Rattle.tsa_tree.specs.Rows.{an_expression, operand};
 ghost use Rattle.tsa_tree.specs.expressions.Shapes.{shape};
-ghost use Rattle.tsa_tree.specs.tokens.Signs.{sign_at as spec_sign, span_over as spec_over};
+ghost use Rattle.tsa_tree.specs.tokens.Signs.{sign_at, span_over};
 ghost use Rattle.tsa_tree.specs.statements.Spelling.{one_at};
 ghost use Rattle.tsa_expr.specs.Gives.{Gives};
 ghost use Rattle.tsa_expr.specs.Source.{input, named};
@@ -52,7 +52,7 @@ fn one<'a>(reader: Reader<'_, '_>, at: u32) -> Expr<'a>
 /// The simple statement of a kind from a token up to before `next`.
 fn spanned<'a>(reader: Reader<'_, '_>, start: u32, kind: SimpleKind<'a>, next: u32) -> Simple<'a>
     requires { 0 < next }
-    ensures is { simple_shape result ≡ kind_shape kind.entry (spec_over (input reader.entry) start next) }
+    ensures is { simple_shape result ≡ kind_shape kind.entry (span_over (input reader.entry) start next) }
     ensures next_is { result.next ≡ next }
 {
     Simple {
@@ -70,7 +70,7 @@ pub fn read_simple<'a>(
     depth: u32,
     sign: Sign,
 ) -> Result<Simple<'a>, SyntaxRefusal>
-    requires there { sign ≡ spec_sign (input reader) (named reader) at }
+    requires there { sign ≡ sign_at (input reader) (named reader) at }
     ensures gives { Gives seen_simple result (simple_at (input reader.entry) (named reader.entry) depth at) }
     ensures ends { IfOk result (λ r. (at < r.next) × (r.next ≤ length reader.entry.tokens.now)) }
 {
@@ -98,9 +98,9 @@ fn behind_operand<'a>(
     depth: u32,
     left: Reading<'a>,
 ) -> Result<Simple<'a>, SyntaxRefusal>
-    requires unstepped { step_in (spec_sign (input reader) (named reader) left.start) ≡ None }
+    requires unstepped { step_in (sign_at (input reader) (named reader) left.start) ≡ None }
     requires begun { read (input reader) an_expression (operand (named reader) depth) left.start ≡ Ok (shape left.tree, left.next) }
-    requires ahead { left.ahead ≡ spec_sign (input reader) (named reader) left.next }
+    requires ahead { left.ahead ≡ sign_at (input reader) (named reader) left.next }
     ensures gives { Gives seen_simple result (simple_at (input reader.entry) (named reader.entry) depth left.entry.start) }
     ensures ends { IfOk result (λ r. (left.entry.start < r.next) × (r.next ≤ length reader.entry.tokens.now)) }
 {

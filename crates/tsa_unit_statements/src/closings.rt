@@ -2,12 +2,12 @@
 ghost use Rattle.std.specs.Prelude.{◌≡◌, ◌≤◌, ◌<◌, List, length, IfOk};
 ghost use Rattle.tsa_tree.specs.declared.stmt.Point.{Point as point_type};
 ghost use Rattle.tsa_tree.specs.expressions.Shapes.{shape};
-ghost use Rattle.tsa_tree.specs.tokens.Signs.{span_at as spec_span, span_over as spec_over};
+ghost use Rattle.tsa_tree.specs.tokens.Signs.{span_at, span_over};
 ghost use Rattle.tsa_tree.specs.statements.Syntax.{block};
 ghost use Rattle.tsa_tree.specs.statements.Shapes.{stmt_shape, stmt_shapes};
 ghost use Rattle.tsa_expr.specs.Source.{input, named};
 ghost use Rattle.tsa_expr.specs.Gives.{Gives};
-ghost use Rattle.tsa_unit_heads.specs.Heads.{IsMarked, IsOpened, ended as spec_ended};
+ghost use Rattle.tsa_unit_heads.specs.Heads.{IsMarked, IsOpened, ended};
 ghost use Rattle.tsa_unit_statements.specs.Closings.{do_end_at, ended_with as spec_with, if_with};
 ghost use Rattle.tsa_unit_simple.specs.PointNumbers.{ArePointed, IsPointed, ArmsPointed};
 ghost use Rattle.tsa_unit_simple.specs.Readings.{seen_statement};
@@ -83,9 +83,9 @@ pub fn headed_with_body<'a>(
     body: Body<'a>,
 ) -> Read<'a>
     requires { 0 < body.next }
-    ensures is { seen_statement result ≡ (spec_ended head.entry (stmt_shape body.entry.stmt.now.kind body.entry.stmt.now.span) (spec_over (input reader.entry) start body.entry.next), body.entry.next) }
+    ensures is { seen_statement result ≡ (ended head.entry (stmt_shape body.entry.stmt.now.kind body.entry.stmt.now.span) (span_over (input reader.entry) start body.entry.next), body.entry.next) }
     ensures next_is { result.next ≡ body.entry.next }
-    ensures pointed { (first middle last : List point_type) → IsOpened (spec_span (input reader.entry) start) first middle head.entry → IsPointed middle last body.entry.stmt.now → IsPointed first last result.stmt }
+    ensures pointed { (first middle last : List point_type) → IsOpened (span_at (input reader.entry) start) first middle head.entry → IsPointed middle last body.entry.stmt.now → IsPointed first last result.stmt }
 {
     let span = reader.over(start, body.next);
     Read {
@@ -103,7 +103,7 @@ pub fn if_with_arms<'a>(
     arms: Arms<'a>,
 ) -> Read<'a>
     requires { 0 < arms.next }
-    ensures is { seen_statement result ≡ (if_with (shape marked.entry.test) arms.entry.yes.now arms.entry.no (spec_over (input reader.entry) start arms.entry.next), arms.entry.next) }
+    ensures is { seen_statement result ≡ (if_with (shape marked.entry.test) arms.entry.yes.now arms.entry.no (span_over (input reader.entry) start arms.entry.next), arms.entry.next) }
     ensures next_is { result.next ≡ arms.entry.next }
     ensures pointed { (first middle between last : List point_type) → IsMarked first middle marked.entry → IsPointed middle between arms.entry.yes.now → ArmsPointed between last arms.entry.no → IsPointed first last result.stmt }
 {
@@ -163,7 +163,7 @@ pub fn block_of<'a>(
     next: u32,
 ) -> Read<'a>
     requires { 0 < next }
-    ensures is { seen_statement result ≡ (block (stmt_shapes items.entry.now) (spec_over (input reader.entry) start next), next) }
+    ensures is { seen_statement result ≡ (block (stmt_shapes items.entry.now) (span_over (input reader.entry) start next), next) }
     ensures next_is { result.next ≡ next }
     ensures pointed { (first last : List point_type) → ArePointed first last items.entry.now → IsPointed first last result.stmt }
 {

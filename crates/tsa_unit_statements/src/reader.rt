@@ -5,7 +5,7 @@ ghost use Rattle.tsa_base.specs.declared.limits.TheConstants.{NESTING_LIMIT};
 ghost use Rattle.tsa_tree.specs.declared.stmt.Point.{Point as point_type};
 ghost use Rattle.tsa_tree.specs.Reads.{read};
 ghost use Rattle.tsa_tree.specs.Rows.{a_statement, some_statements, statement as statement_call, statements as statements_call};
-ghost use Rattle.tsa_tree.specs.tokens.Signs.{sign_at as spec_sign, span_at as spec_span};
+ghost use Rattle.tsa_tree.specs.tokens.Signs.{sign_at, span_at};
 ghost use Rattle.tsa_tree.specs.expressions.Shapes.{shape};
 ghost use Rattle.tsa_tree.specs.statements.Shapes.{stmt_shapes};
 ghost use Rattle.tsa_expr.specs.Source.{input, named};
@@ -73,7 +73,7 @@ fn statement<'a>(
     sign: Sign,
     points: &mut Vec<Point<'a>>,
 ) -> Result<Read<'a>, SyntaxRefusal>
-    requires there { sign ≡ spec_sign (input source.reader) (named source.reader) at }
+    requires there { sign ≡ sign_at (input source.reader) (named source.reader) at }
     ensures gives { Gives seen_statement result (read (input source.entry.reader) a_statement (statement_call (named source.entry.reader) depth) at) }
     ensures pointed { IfOk result (λ r. IsPointed points.old.items points.new.items r.stmt) }
     ensures ends { IfOk result (λ r. (at < r.next) × (r.next ≤ length source.entry.reader.tokens.now)) }
@@ -96,7 +96,7 @@ fn keyword_statement<'a>(
     word: Keyword,
     points: &mut Vec<Point<'a>>,
 ) -> Result<Read<'a>, SyntaxRefusal>
-    requires there { spec_sign (input source.reader) (named source.reader) at ≡ Sign.Keyword word }
+    requires there { sign_at (input source.reader) (named source.reader) at ≡ Sign.Keyword word }
     ensures gives { Gives seen_statement result (read (input source.entry.reader) a_statement (statement_call (named source.entry.reader) depth) at) }
     ensures pointed { IfOk result (λ r. IsPointed points.old.items points.new.items r.stmt) }
     ensures ends { IfOk result (λ r. (at < r.next) × (r.next ≤ length source.entry.reader.tokens.now)) }
@@ -119,7 +119,7 @@ fn name_statement<'a>(
     depth: u32,
     points: &mut Vec<Point<'a>>,
 ) -> Result<Read<'a>, SyntaxRefusal>
-    requires there { spec_sign (input source.reader) (named source.reader) at ≡ Sign.Name }
+    requires there { sign_at (input source.reader) (named source.reader) at ≡ Sign.Name }
     ensures gives { Gives seen_statement result (read (input source.entry.reader) a_statement (statement_call (named source.entry.reader) depth) at) }
     ensures pointed { IfOk result (λ r. IsPointed points.old.items points.new.items r.stmt) }
     ensures ends { IfOk result (λ r. (at < r.next) × (r.next ≤ length source.entry.reader.tokens.now)) }
@@ -143,7 +143,7 @@ fn headed_statement<'a>(
     word: Keyword,
     points: &mut Vec<Point<'a>>,
 ) -> Result<Read<'a>, SyntaxRefusal>
-    requires there { spec_sign (input source.reader) (named source.reader) at ≡ Sign.Keyword word }
+    requires there { sign_at (input source.reader) (named source.reader) at ≡ Sign.Keyword word }
     requires headed { ends_with_body word ≡ true }
     ensures gives { Gives seen_statement result (read (input source.entry.reader) a_statement (statement_call (named source.entry.reader) depth) at) }
     ensures pointed { IfOk result (λ r. IsPointed points.old.items points.new.items r.stmt) }
@@ -188,7 +188,7 @@ fn ending<'a>(
     points: &mut Vec<Point<'a>>,
 ) -> Result<Read<'a>, SyntaxRefusal>
     ensures gives { Gives seen_statement result (ended_at (input source.entry.reader) (named source.entry.reader) depth start headed.entry.head headed.entry.next) }
-    ensures pointed { IfOk result (λ r. (first : List point_type) → IsOpened (spec_span (input source.entry.reader) start) first points.old.items headed.entry.head → IsPointed first points.new.items r.stmt) }
+    ensures pointed { IfOk result (λ r. (first : List point_type) → IsOpened (span_at (input source.entry.reader) start) first points.old.items headed.entry.head → IsPointed first points.new.items r.stmt) }
     ensures ends { IfOk result (λ r. (headed.entry.next < r.next) × (r.next ≤ length source.entry.reader.tokens.now)) }
 {
     match body(source, headed.next, depth, points) {
@@ -206,7 +206,7 @@ fn if_statement<'a>(
     depth: u32,
     points: &mut Vec<Point<'a>>,
 ) -> Result<Read<'a>, SyntaxRefusal>
-    requires there { spec_sign (input source.reader) (named source.reader) start ≡ Sign.Keyword Keyword.If }
+    requires there { sign_at (input source.reader) (named source.reader) start ≡ Sign.Keyword Keyword.If }
     ensures gives { Gives seen_statement result (read (input source.entry.reader) a_statement (statement_call (named source.entry.reader) depth) start) }
     ensures pointed { IfOk result (λ r. IsPointed points.old.items points.new.items r.stmt) }
     ensures ends { IfOk result (λ r. (start < r.next) × (r.next ≤ length source.entry.reader.tokens.now)) }
@@ -255,7 +255,7 @@ fn do_loop<'a>(
     depth: u32,
     points: &mut Vec<Point<'a>>,
 ) -> Result<Read<'a>, SyntaxRefusal>
-    requires there { spec_sign (input source.reader) (named source.reader) start ≡ Sign.Keyword Keyword.Do }
+    requires there { sign_at (input source.reader) (named source.reader) start ≡ Sign.Keyword Keyword.Do }
     ensures gives { Gives seen_statement result (read (input source.entry.reader) a_statement (statement_call (named source.entry.reader) depth) start) }
     ensures pointed { IfOk result (λ r. IsPointed points.old.items points.new.items r.stmt) }
     ensures ends { IfOk result (λ r. (start < r.next) × (r.next ≤ length source.entry.reader.tokens.now)) }
@@ -273,7 +273,7 @@ fn block<'a>(
     depth: u32,
     points: &mut Vec<Point<'a>>,
 ) -> Result<Read<'a>, SyntaxRefusal>
-    requires there { spec_sign (input source.reader) (named source.reader) start ≡ Sign.OpenBrace }
+    requires there { sign_at (input source.reader) (named source.reader) start ≡ Sign.OpenBrace }
     ensures gives { Gives seen_statement result (read (input source.entry.reader) a_statement (statement_call (named source.entry.reader) depth) start) }
     ensures pointed { IfOk result (λ r. IsPointed points.old.items points.new.items r.stmt) }
     ensures ends { IfOk result (λ r. (start < r.next) × (r.next ≤ length source.entry.reader.tokens.now)) }
