@@ -148,9 +148,9 @@ pub fn put_told(out: &mut Vec<u8>, flow: Option<&FunctionFlow<'_>>) -> Result<()
     }
 }
 
-// A loop that takes a lock and doesn't give it back, what another lock guards, and a point behind its return.
-// Free is 1 and owned alone is 4, so both are 5; no walk comes behind the return. Edges disagree at the test (TS10), the lock is taken again (TS06), the other
-// one isn't owned where it guards what is written (TS02), and the return may own the first one (TS09).
+// A loop that takes a lock and doesn't give it back, what another lock guards, and a point behind its return. Free is 1 and owned alone is
+// 4, so both are 5; no walk comes behind the return. Edges disagree at the test (TS10), the lock is taken again (TS06), the other one isn't
+// owned where it guards what is written (TS02), and the return may own the first one (TS09).
 const UNITS: [Row; 1] = [(
     b"struct CAPABILITY(\"m\") m { int s; };
 struct m a;

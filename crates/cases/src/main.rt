@@ -8,7 +8,8 @@
 //! - `@` the name of a front, whose lines stand here
 //! - `|` a line of the unit; lines are joined by line ends, and none stands after the last one
 //! - `*` a last line of a unit; with several of them each makes a unit of its own after the lines before
-//! - `=` the status; with the word `twice` the answer, given as a unit, is its own answer too; or the word `judged`, where the unit is accepted or warned of
+//! - `=` the status; with the word `twice` the answer, given as a unit, is its own answer too; or the word `judged`, where the unit is
+//! accepted or warned of
 //! - `>` a line of the answer, with a line end after it
 //!
 //! A block that begins with `:` and a name says a front: its `@` and `|` lines, for all blocks and all files after it.

@@ -1,5 +1,6 @@
 -- An attribute, from its name or macro word to its parenthesis.
-use Rattle.std.proofs.Common.{ℕ, ◌+◌, ◌<◌, ◌≤◌, ◌≡◌, ◌≢◌, ◌∙◌, ap, sym, subst, refl, Bool, true, false, List, [], ◌∷◌, ◌++◌, Some, None, Result, Ok, Err, IfOk, OnErr, nat_eq}
+use Rattle.std.proofs.Common.{ℕ, ◌+◌, ◌<◌, ◌≤◌, ◌≡◌, ◌≢◌, ◌∙◌, ap, sym, subst, refl, Bool, true, false, List, [], ◌∷◌, ◌++◌, Some, None}
+use Rattle.std.proofs.Common.{Result, Ok, Err, IfOk, OnErr, nat_eq}
 use Rattle.tsa_base.specs.declared.token.Span.{Span}
 use Rattle.tsa_base.specs.Tokens.{Lexeme}
 use Rattle.tsa_grammar.proofs.Cases.{chosen, other, goes}
@@ -14,7 +15,8 @@ use Rattle.tsa_tree.specs.attributes.Syntax.{Attribute, Taking, taking, unquoted
 use Rattle.tsa_tree.specs.attributes.Spelling.{attribute, attribute_of}
 use Rattle.tsa_tree.specs.expressions.Syntax.{Expression, Arguments, none, more}
 use Rattle.tsa_tree.specs.Reads.{read}
-use Rattle.tsa_tree.specs.Rows.{an_expression, some_arguments, some_attributes, expression, series, Row, a_close, a_comma, a_text, is_given, mark, sees, lacking_at, arguments_row}
+use Rattle.tsa_tree.specs.Rows.{an_expression, some_arguments, some_attributes, expression, series, Row, a_close, a_comma, a_text, is_given}
+use Rattle.tsa_tree.specs.Rows.{mark, sees, lacking_at, arguments_row}
 use Rattle.tsa_tree.specs.tokens.Signs.{Aliases, sign_at, identifier_at, span_over}
 use Rattle.tsa_expr.specs.declared.refusal.SyntaxRefusal.{SyntaxRefusal}
 use Rattle.tsa_expr.specs.declared.refusal.SyntaxRefusal.TheVariants.{NoMemory}

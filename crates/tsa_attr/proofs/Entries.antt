@@ -1,5 +1,6 @@
 -- Entries of a list of attributes, one by one.
-use Rattle.std.proofs.Common.{ℕ, ◌+◌, ◌<◌, ◌≤◌, subst, length, ◌≡◌, ◌≢◌, ◌∙◌, ap, sym, refl, Bool, true, false, ◌&&◌, List, [], ◌∷◌, ◌++◌, Option, Some, None, Result, Ok, Err, nat_eq}
+use Rattle.std.proofs.Common.{ℕ, ◌+◌, ◌<◌, ◌≤◌, subst, length, ◌≡◌, ◌≢◌, ◌∙◌, ap, sym, refl, Bool, true, false, ◌&&◌, List, [], ◌∷◌, ◌++◌}
+use Rattle.std.proofs.Common.{Option, Some, None, Result, Ok, Err, nat_eq}
 use Rattle.std.proofs.lemmas.List.{length-map}
 use Rattle.std.proofs.lemmas.Option.{slice_get_within}
 use Rattle.std.specs.List.{slice_get}
@@ -18,7 +19,8 @@ use Rattle.tsa_tree.specs.expressions.Answers.{below_limit}
 use Rattle.tsa_tree.specs.attributes.Refusals.{left_out, lacking}
 use Rattle.tsa_tree.specs.attributes.Syntax.{Attribute, taking, attr_shapes}
 use Rattle.tsa_tree.specs.Reads.{read}
-use Rattle.tsa_tree.specs.Rows.{a_skip, some_attributes, Row, entries, balanced, closing_parenthesis, an_open, mark, sees, lacks, arguments_row, entry_row, entries_end}
+use Rattle.tsa_tree.specs.Rows.{a_skip, some_attributes, Row, entries, balanced, closing_parenthesis, an_open, mark, sees, lacks}
+use Rattle.tsa_tree.specs.Rows.{arguments_row, entry_row, entries_end}
 use Rattle.tsa_tree.specs.tokens.Signs.{Aliases, lexemes, sign_at, is_word, kind_in, is_word_at, entry_meaning}
 use Rattle.tsa_expr.specs.declared.refusal.SyntaxRefusal.{SyntaxRefusal}
 use Rattle.tsa_expr.specs.Gives.{Fails, Gives}

@@ -12,7 +12,8 @@ use Rattle.tsa_tree.specs.declared.sign.Sign.TheVariants as sign
 use Rattle.tsa_tree.specs.attributes.Refusals.{left_out, lacking}
 use Rattle.tsa_tree.specs.attributes.Syntax.{Attribute, taking, attr_shapes}
 use Rattle.tsa_tree.specs.Reads.{read}
-use Rattle.tsa_tree.specs.Rows.{some_attributes, attributes, group, entries, Row, a_close, mark, sees, lacks, opens, arguments_row, group_row, is_attribute_sign}
+use Rattle.tsa_tree.specs.Rows.{some_attributes, attributes, group, entries, Row, a_close, mark, sees, lacks, opens, arguments_row}
+use Rattle.tsa_tree.specs.Rows.{group_row, is_attribute_sign}
 use Rattle.tsa_tree.specs.tokens.Signs.{Aliases, sign_at}
 use Rattle.tsa_expr.specs.declared.refusal.SyntaxRefusal.{SyntaxRefusal}
 use Rattle.tsa_expr.specs.Gives.{Fails, Gives}

@@ -8,7 +8,8 @@ use Rattle.tsa_tree.specs.expressions.Answers.{below_limit}
 use Rattle.tsa_tree.specs.attributes.Refusals.{left_out, lacking}
 use Rattle.tsa_tree.specs.attributes.Syntax.{Attribute, Taking, taking}
 use Rattle.tsa_tree.specs.Reads.{read}
-use Rattle.tsa_tree.specs.Rows.{some_attributes, a_skip, balanced, Kind, an_open, closing_parenthesis, sees, lacks, arguments_row, entries_end}
+use Rattle.tsa_tree.specs.Rows.{some_attributes, a_skip, balanced, Kind, an_open, closing_parenthesis, sees, lacks, arguments_row}
+use Rattle.tsa_tree.specs.Rows.{entries_end}
 use Rattle.tsa_tree.specs.tokens.Signs.{Aliases, is_word_at, entry_meaning}
 use Rattle.tsa_expr.specs.declared.refusal.SyntaxRefusal.{SyntaxRefusal}
 use Rattle.tsa_expr.specs.declared.refusal.SyntaxRefusal.TheVariants.{At, NoMemory}

@@ -27,7 +27,8 @@ pub fn entries<'a>(
     depth: u32,
     list: &mut Vec<Attr<'a>, &'a Bump>,
 ) -> Result<u32, SyntaxRefusal>
-    ensures gives { Gives (λ next. (attr_shapes list.new.items, next)) result (after (attr_shapes list.old.items) (read (input reader.entry) some_attributes (entries_call (named reader.entry) depth) at)) }
+    ensures gives { Gives (λ next. (attr_shapes list.new.items, next)) result
+        (after (attr_shapes list.old.items) (read (input reader.entry) some_attributes (entries_call (named reader.entry) depth) at)) }
     ensures ends { IfOk result (IsBehind reader.entry at) }
 {
     let mut next = at;
@@ -49,7 +50,8 @@ fn entry<'a>(
     depth: u32,
     list: &mut Vec<Attr<'a>, &'a Bump>,
 ) -> Result<u32, SyntaxRefusal>
-    ensures gives { Gives (λ next. (attr_shapes list.new.items, next)) result (after (attr_shapes list.old.items) (entry_at (input reader.entry) (named reader.entry) depth at)) }
+    ensures gives { Gives (λ next. (attr_shapes list.new.items, next)) result
+        (after (attr_shapes list.old.items) (entry_at (input reader.entry) (named reader.entry) depth at)) }
     ensures ends { IfOk result (IsBehind reader.entry at) }
 {
     if !reader.is_word(at) {

@@ -1,7 +1,8 @@
 //! The nodes of attributes are made.
 ghost use Rattle.std.specs.Prelude.{◌≡◌, ◌++◌, ◌∷◌, [], Some, None, IfOk, OnOk, OnErr, Err};
 ghost use Rattle.std.specs.Option.{option_map};
-ghost use Rattle.tsa_tree.specs.attributes.Syntax.{attr_shape, attr_shapes, unquoted, without_not as spec_without, without_nots as spec_withouts, negative as spec_negative};
+ghost use Rattle.tsa_tree.specs.attributes.Syntax.{attr_shape, attr_shapes, unquoted, without_not as spec_without};
+ghost use Rattle.tsa_tree.specs.attributes.Syntax.{without_nots as spec_withouts, negative as spec_negative};
 ghost use Rattle.tsa_tree.specs.attributes.Spelling.{attribute, attribute_of};
 ghost use Rattle.tsa_tree.specs.expressions.Syntax.{none, more};
 ghost use Rattle.tsa_tree.specs.expressions.Shapes.{shape, shapes};
@@ -56,7 +57,8 @@ pub fn of_list<'a>(
     success: Option<bool>,
     args: ArgumentList<'a>,
 ) -> Reading<'a>
-    ensures is { attr_shape result.attr ≡ attribute (input reader.entry) name.kind None success (shapes args.entry.items.now) name.at args.entry.next }
+    ensures is { attr_shape result.attr ≡ attribute (input reader.entry) name.kind None success (shapes args.entry.items.now) name.at
+        args.entry.next }
     ensures ends { result.next ≡ args.entry.next }
 {
     let span = reader.over(name.at, args.next);
@@ -73,7 +75,8 @@ pub fn of_expressions<'a>(
     name: AttributeName,
     args: ArgumentList<'a>,
 ) -> Result<Reading<'a>, SyntaxRefusal>
-    ensures is { IfOk result (λ r. attr_shape r.attr ≡ attribute_of (input reader.entry) name.kind (shapes args.entry.items.now) name.at args.entry.next) }
+    ensures is { IfOk result (λ r. attr_shape r.attr ≡ attribute_of (input reader.entry) name.kind (shapes args.entry.items.now) name.at
+        args.entry.next) }
     ensures ends { IfOk result (λ r. r.next ≡ args.entry.next) }
     ensures memory { OnErr result (result ≡ Err SyntaxRefusal.NoMemory) }
 {

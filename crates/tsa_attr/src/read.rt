@@ -31,10 +31,14 @@ pub fn read_attributes<'a>(
     requires room { length tokens.now ≤ INPUT_LIMIT }
     requires within { at ≤ length tokens.now }
     ensures found { IfOk result (λ found. IsLongest (lexemes tokens.now) [] depth at (attr_shapes found.0.now) found.1) }
-    ensures broken { (token : ℕ) → IsErrOf result (SyntaxRefusal.At SyntaxCode.SY1 token) → IsBroken (lexemes tokens.now) [] depth at token }
-    ensures left_out { (token : ℕ) → IsErrOf result (SyntaxRefusal.At SyntaxCode.AT1 token) → IsRefused (lexemes tokens.now) [] depth at reason.left_out token }
-    ensures lacking { (token : ℕ) → IsErrOf result (SyntaxRefusal.At SyntaxCode.AT2 token) → IsRefused (lexemes tokens.now) [] depth at reason.lacking token }
-    ensures too_deep { (token : ℕ) → IsErrOf result (SyntaxRefusal.At SyntaxCode.LM2 token) → IsTooDeep (lexemes tokens.now) [] depth at token }
+    ensures broken { (token : ℕ) → IsErrOf result (SyntaxRefusal.At SyntaxCode.SY1 token)
+        → IsBroken (lexemes tokens.now) [] depth at token }
+    ensures left_out { (token : ℕ) → IsErrOf result (SyntaxRefusal.At SyntaxCode.AT1 token)
+        → IsRefused (lexemes tokens.now) [] depth at reason.left_out token }
+    ensures lacking { (token : ℕ) → IsErrOf result (SyntaxRefusal.At SyntaxCode.AT2 token)
+        → IsRefused (lexemes tokens.now) [] depth at reason.lacking token }
+    ensures too_deep { (token : ℕ) → IsErrOf result (SyntaxRefusal.At SyntaxCode.LM2 token)
+        → IsTooDeep (lexemes tokens.now) [] depth at token }
     ensures no_other { (refusal : _) → IsErrOf result refusal → IsOfAttributes refusal }
     ensures next { IfOk result (λ found. (at ≤ found.1) × (found.1 ≤ length tokens.now)) }
 {
@@ -54,7 +58,8 @@ pub fn read_groups<'a>(
     depth: u32,
 ) -> Result<(&'a [Attr<'a>], u32), SyntaxRefusal>
     requires within { at ≤ length reader.tokens.now }
-    ensures gives { Gives (λ found. (attr_shapes found.0.now, found.1)) result (read_any (input reader.entry) (named reader.entry) depth at) }
+    ensures gives { Gives (λ found. (attr_shapes found.0.now, found.1)) result (read_any (input reader.entry) (named reader.entry) depth at)
+        }
     ensures ends { IfOk result (λ found. (at ≤ found.1) × (found.1 ≤ length reader.entry.tokens.now)) }
 {
     if !begins_group(reader.sign(at)) {
@@ -73,7 +78,8 @@ pub fn read_more<'a>(
     list: Vec<Attr<'a>, &'a Bump>,
 ) -> Result<(Vec<Attr<'a>, &'a Bump>, u32), SyntaxRefusal>
     requires within { at ≤ length reader.tokens.now }
-    ensures gives { Gives (λ found. (attr_shapes found.0.items, found.1)) result (after (attr_shapes list.entry.items) (read_any (input reader.entry) (named reader.entry) depth at)) }
+    ensures gives { Gives (λ found. (attr_shapes found.0.items, found.1)) result
+        (after (attr_shapes list.entry.items) (read_any (input reader.entry) (named reader.entry) depth at)) }
     ensures ends { IfOk result (λ found. (at ≤ found.1) × (found.1 ≤ length reader.entry.tokens.now)) }
 {
     let mut list = list;

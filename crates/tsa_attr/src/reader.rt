@@ -27,7 +27,8 @@ pub fn groups<'a>(
     depth: u32,
     list: &mut Vec<Attr<'a>, &'a Bump>,
 ) -> Result<u32, SyntaxRefusal>
-    ensures gives { Gives (λ next. (attr_shapes list.new.items, next)) result (after (attr_shapes list.old.items) (read_any (input reader.entry) (named reader.entry) depth at)) }
+    ensures gives { Gives (λ next. (attr_shapes list.new.items, next)) result
+        (after (attr_shapes list.old.items) (read_any (input reader.entry) (named reader.entry) depth at)) }
     ensures ends { IfOk result (λ next. (at ≤ next) × (next ≤ max at (length reader.entry.tokens.now))) }
 {
     let mut next = at;
@@ -52,7 +53,8 @@ fn attribute_list<'a>(
     list: &mut Vec<Attr<'a>, &'a Bump>,
 ) -> Result<u32, SyntaxRefusal>
     requires there { sign_at (input reader) (named reader) at ≡ Sign.Attribute }
-    ensures gives { Gives (λ next. (attr_shapes list.new.items, next)) result (after (attr_shapes list.old.items) (read (input reader.entry) some_attributes (group_call (named reader.entry) depth) at)) }
+    ensures gives { Gives (λ next. (attr_shapes list.new.items, next)) result
+        (after (attr_shapes list.old.items) (read (input reader.entry) some_attributes (group_call (named reader.entry) depth) at)) }
     ensures ends { IfOk result (IsBehind reader.entry at) }
 {
     let outer = open(reader, at + 1, depth)?;

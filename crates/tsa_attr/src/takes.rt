@@ -24,7 +24,8 @@ pub fn append_attribute<'a>(
     depth: u32,
     list: &mut Vec<Attr<'a>, &'a Bump>,
 ) -> Result<u32, SyntaxRefusal>
-    ensures gives { Gives (λ next. (attr_shapes list.new.items, next)) result (after (attr_shapes list.old.items) (attribute_at (input reader.entry) (named reader.entry) depth name.kind name.at)) }
+    ensures gives { Gives (λ next. (attr_shapes list.new.items, next)) result
+        (after (attr_shapes list.old.items) (attribute_at (input reader.entry) (named reader.entry) depth name.kind name.at)) }
     ensures ends { IfOk result (IsBehind reader.entry name.at) }
 {
     let reading = attribute(reader, name, depth)?;
@@ -90,7 +91,8 @@ fn expression<'a>(
     name: AttributeName,
     depth: u32,
 ) -> Result<Reading<'a>, SyntaxRefusal>
-    ensures gives { Gives seen result (arguments_at (input reader.entry) (named reader.entry) depth name.kind name.at takes.one_expression) }
+    ensures gives { Gives seen result (arguments_at (input reader.entry) (named reader.entry) depth name.kind name.at takes.one_expression)
+        }
     ensures ends { IfOk result (λ r. IsBehind reader.entry name.at r.next) }
 {
     let inner = reader.expression(name.at + 1 + 1, depth, 0)?;

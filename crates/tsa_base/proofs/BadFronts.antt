@@ -1,5 +1,6 @@
 -- Where a rest is bad for a reason, the front that is computed has its code.
-use Rattle.std.proofs.Common.{◌≡◌, ℕ, suc, ◌<◌, Bool, true, false, ◌==◌, List, [], ◌∷◌, ◌++◌, length, take, Option, None, Some, Err, refl, subst, arith}
+use Rattle.std.proofs.Common.{◌≡◌, ℕ, suc, ◌<◌, Bool, true, false, ◌==◌, List, [], ◌∷◌, ◌++◌, length, take, Option, None, Some, Err, refl}
+use Rattle.std.proofs.Common.{subst, arith}
 use Rattle.std.proofs.lemmas.Bool.{and_left, eqb-true}
 use Rattle.std.proofs.lemmas.List.{take_at}
 use Rattle.tsa_base.specs.declared.token.LexCode.{LexCode}

@@ -1,5 +1,6 @@
 -- A text falls into its pieces, or into pieces up to its first bad byte.
-use Rattle.std.proofs.Common.{◌≡◌, ℕ, zero, suc, ◌<◌, ◌≤◌, List, [], ◌∷◌, ◌++◌, length, take, Result, Ok, Err, refl, sym, subst, ap, ◌∙◌, append_assoc, length-append, arith}
+use Rattle.std.proofs.Common.{◌≡◌, ℕ, zero, suc, ◌<◌, ◌≤◌, List, [], ◌∷◌, ◌++◌, length, take, Result, Ok, Err, refl, sym, subst, ap, ◌∙◌}
+use Rattle.std.proofs.Common.{append_assoc, length-append, arith}
 use Rattle.std.proofs.lemmas.List.{take_at}
 use Rattle.tsa_base.specs.declared.token.LexCode.{LexCode}
 use Rattle.tsa_base.specs.Tokens.{PieceKind, Piece, BadByte, front_of, opens_line, pieces_at, pieces_of, after}

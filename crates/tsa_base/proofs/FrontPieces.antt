@@ -1,5 +1,6 @@
 -- The front that is computed is a piece, or the rest is bad for the reason that its code gives.
-use Rattle.std.proofs.Common.{◌≡◌, inl, inr, ℕ, zero, suc, ◌+◌, Bool, true, false, ◌==◌, ◌&&◌, ◌||◌, cond, List, [], ◌∷◌, ◌++◌, length, take, drop, Option, None, Some, Result, Ok, Err, refl, sym, ap, ◌∙◌, append_assoc, length-append, arith}
+use Rattle.std.proofs.Common.{◌≡◌, inl, inr, ℕ, zero, suc, ◌+◌, Bool, true, false, ◌==◌, ◌&&◌, ◌||◌, cond, List, [], ◌∷◌, ◌++◌, length}
+use Rattle.std.proofs.Common.{take, drop, Option, None, Some, Result, Ok, Err, refl, sym, ap, ◌∙◌, append_assoc, length-append, arith}
 use Rattle.std.proofs.lemmas.Bool.{and_parts, or_from, and_left, eqb-true}
 use Rattle.std.proofs.lemmas.List.{take-append-drop, length-take-le}
 use Rattle.std.proofs.lemmas.List.Sums.{prefix_len-le-length}
@@ -7,7 +8,8 @@ use Rattle.tsa_base.specs.declared.token.TokenKind.{TokenKind}
 use Rattle.tsa_base.specs.declared.token.LexCode.{LexCode}
 use Rattle.tsa_base.specs.declared.token.LexCode.TheVariants.{LX4}
 use Rattle.tsa_base.specs.Bytes.{is_blank, is_line_byte}
-use Rattle.tsa_base.specs.Tokens.{PieceKind, comment, skipped_line, front_of, slash_front, token_front, block_front, block_end, no_token, of_kind, kind_of, longest, opens_line, line_len, line_word, is_skipped}
+use Rattle.tsa_base.specs.Tokens.{PieceKind, comment, skipped_line, front_of, slash_front, token_front, block_front, block_end, no_token}
+use Rattle.tsa_base.specs.Tokens.{of_kind, kind_of, longest, opens_line, line_len, line_word, is_skipped}
 use Rattle.tsa_base.specs.PieceLaws.{IsPiece, IsBad, IsDirective, begins_comment, BeginsNoToken}
 use Rattle.tsa_base.proofs.LongestFronts.{longest-next, longest-none, longest-within}
 use Rattle.tsa_base.proofs.LineEnds.{line-reaches, line_word-append}

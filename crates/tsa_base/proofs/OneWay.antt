@@ -1,5 +1,6 @@
 -- A text falls into pieces, or into pieces up to a bad byte, in one way only.
-use Rattle.std.proofs.Common.{◌≡◌, ℕ, ◌<◌, List, [], ◌∷◌, ◌++◌, length, take, Result, Ok, Err, refl, sym, ap, ◌∙◌, append_assoc, length-append, arith}
+use Rattle.std.proofs.Common.{◌≡◌, ℕ, ◌<◌, List, [], ◌∷◌, ◌++◌, length, take, Result, Ok, Err, refl, sym, ap, ◌∙◌, append_assoc}
+use Rattle.std.proofs.Common.{length-append, arith}
 use Rattle.std.proofs.lemmas.List.{take_at, append-nil, append_cancel_right}
 use Rattle.tsa_base.specs.declared.token.Span.{Span}
 use Rattle.tsa_base.specs.declared.token.LexCode.{LexCode}

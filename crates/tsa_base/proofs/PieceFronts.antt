@@ -1,10 +1,12 @@
 -- Where a piece begins a rest, it is the front that is computed.
-use Rattle.std.proofs.Common.{◌≡◌, inl, inr, ℕ, suc, ◌+◌, ◌<◌, Bool, true, false, ◌==◌, ◌&&◌, ◌||◌, List, [], ◌∷◌, ◌++◌, length, take, Some, Ok, refl, ap, append_assoc, length-append, arith}
+use Rattle.std.proofs.Common.{◌≡◌, inl, inr, ℕ, suc, ◌+◌, ◌<◌, Bool, true, false, ◌==◌, ◌&&◌, ◌||◌, List, [], ◌∷◌, ◌++◌, length, take, Some}
+use Rattle.std.proofs.Common.{Ok, refl, ap, append_assoc, length-append, arith}
 use Rattle.std.proofs.lemmas.Bool.{and_left, or_parts}
 use Rattle.std.proofs.lemmas.List.{take_at}
 use Rattle.tsa_base.specs.declared.token.TokenKind.{TokenKind}
 use Rattle.tsa_base.specs.Bytes.{is_blank}
-use Rattle.tsa_base.specs.Tokens.{PieceKind, blank, comment, skipped_line, token, front_of, slash_front, token_front, kind_of, is_token, longest, opens_line, line_len}
+use Rattle.tsa_base.specs.Tokens.{PieceKind, blank, comment, skipped_line, token, front_of, slash_front, token_front, kind_of, is_token}
+use Rattle.tsa_base.specs.Tokens.{longest, opens_line, line_len}
 use Rattle.tsa_base.specs.PieceLaws.{IsPiece, IsBlank, IsBlock, IsLineComment, IsDirective, IsNextToken, begins_comment}
 use Rattle.tsa_base.proofs.LongestFronts.{next-longest, token-begins}
 use Rattle.tsa_base.proofs.LineEnds.{reaches-length, line_word-append}

@@ -1,5 +1,6 @@
 -- One piece of a text, and then what the rest after it is.
-use Rattle.std.proofs.Common.{◌≡◌, ℕ, zero, suc, ◌+◌, ◌-◌, List, [], ◌∷◌, ◌++◌, length, take, drop, Ok, Err, refl, sym, ap, ◌∙◌, append_assoc, length-append, arith}
+use Rattle.std.proofs.Common.{◌≡◌, ℕ, zero, suc, ◌+◌, ◌-◌, List, [], ◌∷◌, ◌++◌, length, take, drop, Ok, Err, refl, sym, ap, ◌∙◌}
+use Rattle.std.proofs.Common.{append_assoc, length-append, arith}
 use Rattle.std.proofs.lemmas.List.{take_at, drop_at}
 use Rattle.tsa_base.specs.declared.token.LexCode.{LexCode}
 use Rattle.tsa_base.specs.Tokens.{PieceKind, Piece, front_of, opens_line, pieces_at, begun, after}

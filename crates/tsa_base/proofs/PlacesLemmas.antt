@@ -1,5 +1,7 @@
 -- How the line and the column of a byte go on, and what a table of line starts tells of them.
-use Rattle.std.proofs.Common.{◌≡◌, ℕ, zero, suc, ◌+◌, ◌-◌, ◌<◌, ◌≤◌, min, Bool, true, false, not, ◌==◌, List, [], ◌∷◌, ◌++◌, length, take, get_or, refl, sym, ap, ◌∙◌, take-take, length-append, arith, count_by, cond, add-zero, zero-le, le_refl, eq-eqb, ne_eqb, ⊎_elim, subst, eq-or-lt_of_le, eq-zero-or-pos}
+use Rattle.std.proofs.Common.{◌≡◌, ℕ, zero, suc, ◌+◌, ◌-◌, ◌<◌, ◌≤◌, min, Bool, true, false, not, ◌==◌, List, [], ◌∷◌, ◌++◌, length, take}
+use Rattle.std.proofs.Common.{get_or, refl, sym, ap, ◌∙◌, take-take, length-append, arith, count_by, cond, add-zero, zero-le, le_refl}
+use Rattle.std.proofs.Common.{eq-eqb, ne_eqb, ⊎_elim, subst, eq-or-lt_of_le, eq-zero-or-pos}
 use Rattle.std.specs.List.{suffix_len}
 use Rattle.std.specs.List.Sorted.{IsNonDecreasing, IsPartitionPoint}
 use Rattle.std.proofs.lemmas.List.{take_min, get_or_append_left, get_or_push}

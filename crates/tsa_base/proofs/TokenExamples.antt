@@ -1,7 +1,8 @@
 -- The tokens of texts of each form, worked out.
 use Rattle.std.proofs.Common.{refl}
 use Rattle.tsa_base.specs.TokenLaws.{TokensAreAsWritten}
-use Rattle.tsa_base.specs.Tokens.{punctuators, is_punctuator, is_token, longest_up_to, kind_of, block_end, opens_line, line_word, is_skipped, front_of, pieces_at}
+use Rattle.tsa_base.specs.Tokens.{punctuators, is_punctuator, is_token, longest_up_to, kind_of, block_end, opens_line, line_word}
+use Rattle.tsa_base.specs.Tokens.{is_skipped, front_of, pieces_at}
 use Rattle.tsa_base.specs.Numbers.{number_of}
 
 pub tokens_are_as_written : TokensAreAsWritten

@@ -1,10 +1,12 @@
 -- The tokens of a text stand in it one after the other, each with its bytes.
-use Rattle.std.proofs.Common.{◌≡◌, ◌⊎◌, inl, inr, ℕ, ◌+◌, ◌-◌, ◌<◌, ◌≤◌, List, [], ◌∷◌, ◌++◌, length, take, drop, None, Some, Result, Ok, Err, refl, sym, ap, ◌∙◌, append_assoc, length-append, arith}
+use Rattle.std.proofs.Common.{◌≡◌, ◌⊎◌, inl, inr, ℕ, ◌+◌, ◌-◌, ◌<◌, ◌≤◌, List, [], ◌∷◌, ◌++◌, length, take, drop, None, Some, Result, Ok}
+use Rattle.std.proofs.Common.{Err, refl, sym, ap, ◌∙◌, append_assoc, length-append, arith}
 use Rattle.std.proofs.lemmas.List.{take_at, drop_at}
 use Rattle.std.specs.List.{filter_map}
 use Rattle.tsa_base.specs.declared.token.Span.{Span}
 use Rattle.tsa_base.specs.declared.token.TokenKind.{TokenKind}
-use Rattle.tsa_base.specs.Tokens.{PieceKind, blank, comment, skipped_line, token, Piece, BadByte, Lexeme, lexeme_of, pieces_of, tokens_of, tokens_among}
+use Rattle.tsa_base.specs.Tokens.{PieceKind, blank, comment, skipped_line, token, Piece, BadByte, Lexeme, lexeme_of, pieces_of, tokens_of}
+use Rattle.tsa_base.specs.Tokens.{tokens_among}
 use Rattle.tsa_base.specs.PieceLaws.{Falls, Stands, InOrder, TextsFallIntoPieces}
 use Rattle.tsa_base.proofs.PieceFronts.{piece-some}
 use Rattle.tsa_base.proofs.Falling.{whole, up_to_bad}

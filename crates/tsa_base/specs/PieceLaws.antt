@@ -1,12 +1,14 @@
 -- What it is, in the standard's words, that a text falls into pieces, and that it has a first bad byte (C11 6.4).
-use Rattle.std.specs.Prelude.{◌≡◌, ◌⊎◌, ℕ, ◌+◌, ◌-◌, ◌<◌, ◌≤◌, Bool, true, false, ◌||◌, ◌&&◌, List, [], ◌∷◌, ◌++◌, length, take, drop, Some, None, Ok, Err, ◌==◌}
+use Rattle.std.specs.Prelude.{◌≡◌, ◌⊎◌, ℕ, ◌+◌, ◌-◌, ◌<◌, ◌≤◌, Bool, true, false, ◌||◌, ◌&&◌, List, [], ◌∷◌, ◌++◌, length, take, drop, Some}
+use Rattle.std.specs.Prelude.{None, Ok, Err, ◌==◌}
 use Rattle.std.specs.List.{list_all, filter_map}
 use Rattle.tsa_base.specs.declared.token.Span.{Span}
 use Rattle.tsa_base.specs.declared.token.TokenKind.{TokenKind}
 use Rattle.tsa_base.specs.declared.token.LexCode.{LexCode}
 use Rattle.tsa_base.specs.declared.token.LexCode.TheVariants.{LX1, LX2, LX3, LX4, LX5}
 use Rattle.tsa_base.specs.Bytes.{is_blank, is_line_byte}
-use Rattle.tsa_base.specs.Tokens.{PieceKind, blank, comment, skipped_line, token, Piece, BadByte, Lexeme, lexeme_of, tokens_of, pieces_of, is_token, kind_of, opens_line, line_len, line_word, is_skipped}
+use Rattle.tsa_base.specs.Tokens.{PieceKind, blank, comment, skipped_line, token, Piece, BadByte, Lexeme, lexeme_of, tokens_of, pieces_of}
+use Rattle.tsa_base.specs.Tokens.{is_token, kind_of, opens_line, line_len, line_word, is_skipped}
 
 -- What a piece of each kind is, given the bytes before it and those after it.
 

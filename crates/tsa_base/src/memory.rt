@@ -1,5 +1,6 @@
 //! A source and a sink in memory, whose faults are listed beforehand.
-ghost use Rattle.std.specs.Prelude.{◌≡◌, ◌≤◌, ◌↔◌, ◌<◌, ◌+◌, ◌++◌, [], min, take, IfOk, OnErr, IsErr, IsErrOf, IsTrue, Contains, drop, length, vec_len, Some};
+ghost use Rattle.std.specs.Prelude.{◌≡◌, ◌≤◌, ◌↔◌, ◌<◌, ◌+◌, ◌++◌, [], min, take, IfOk, OnErr, IsErr, IsErrOf, IsTrue, Contains, drop};
+ghost use Rattle.std.specs.Prelude.{length, vec_len, Some};
 ghost use Rattle.std.specs.Io.{ReadsAtMost, WritesAtMost};
 ghost use Rattle.std.specs.Io.KnownBytes.{ReadConsumes, WriteAppends};
 ghost use Rattle.tsa_base.specs.Causes.{Rose};

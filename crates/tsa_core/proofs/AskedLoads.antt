@@ -1,5 +1,6 @@
 -- What is loaded at a point is loaded by the arguments of its call or by its action: where it has a call, its action asks for the answer.
-use Rattle.std.proofs.Common.{◌≡◌, ◌∙◌, arith, Bool, true, false, not, ◌&&◌, ◌||◌, List, [], ◌∷◌, ◌++◌, Option, Some, None, is_some, if◌then◌else◌, refl, sym, ap, subst, ◌⊎◌, inl, inr}
+use Rattle.std.proofs.Common.{◌≡◌, ◌∙◌, arith, Bool, true, false, not, ◌&&◌, ◌||◌, List, [], ◌∷◌, ◌++◌, Option, Some, None, is_some}
+use Rattle.std.proofs.Common.{if◌then◌else◌, refl, sym, ap, subst, ◌⊎◌, inl, inr}
 use Rattle.std.proofs.lemmas.List.Elements.{Contains-append_left, Contains-append_right, Contains-append_cases}
 use Rattle.std.specs.List.{Contains}
 use Rattle.tsa_base.specs.declared.token.Span.{Span}
@@ -15,7 +16,8 @@ use Rattle.tsa_tree.specs.declared.meaning.Entry.{Entry}
 use Rattle.tsa_tree.specs.expressions.Syntax.{Identifier, Expression, Arguments, number, null, named, call, unary, binary, field, index}
 use Rattle.tsa_tree.specs.types.Constants.{constant_of}
 use Rattle.tsa_tree.specs.types.Expressions.{type_of, types_of, unless, both}
-use Rattle.tsa_tree.specs.types.Operands.{integer_kind, pointer_kind, unsigned_kind, is_scalar, comparable, goes_to, breaks_prefix, breaks_binary, breaks_comparison, prefix_type, binary_type}
+use Rattle.tsa_tree.specs.types.Operands.{integer_kind, pointer_kind, unsigned_kind, is_scalar, comparable, goes_to, breaks_prefix}
+use Rattle.tsa_tree.specs.types.Operands.{breaks_binary, breaks_comparison, prefix_type, binary_type}
 use Rattle.tsa_tree.specs.types.Runnable.{has_call, is_free, is_whole, is_call, is_compared, is_comparison, is_condition}
 use Rattle.tsa_tree.specs.types.Scopes.{Scope, context_of, known_in}
 use Rattle.tsa_core.proofs.CallsHold.{call_called, call_whole}
@@ -27,7 +29,8 @@ use Rattle.tsa_core.proofs.ZeroConstants.{one_is_zero, other_is_zero, goes_zero}
 use Rattle.tsa_core.specs.Loads.{loads, loads_with}
 use Rattle.tsa_core.specs.Meanings.{Call, is_int, loaded, null_pointer, of_call, beside, as_kind, meaning, or_call, call_in}
 use Rattle.tsa_core.specs.PointLoads.{call_loads}
-use Rattle.tsa_core.specs.Terms.{Term, constant, variable, answer, global, member, element, target, load, address, converted, prefixed, joined, Sense}
+use Rattle.tsa_core.specs.Terms.{Term, constant, variable, answer, global, member, element, target, load, address, converted, prefixed}
+use Rattle.tsa_core.specs.Terms.{joined, Sense}
 
 -- whether a term asks for the answer
 abbrev pub asks : Term → Bool

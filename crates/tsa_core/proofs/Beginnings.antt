@@ -1,5 +1,6 @@
 -- Where a body begins, the locals that are known are its parameters.
-use Rattle.std.proofs.Common.{◌≡◌, ℕ, ℤ, suc, ◌+◌, ◌+ℤ◌, pos, ◌≤◌, arith, Bool, true, false, List, [], ◌∷◌, length, slice_get, Option, Some, None, refl, subst}
+use Rattle.std.proofs.Common.{◌≡◌, ℕ, ℤ, suc, ◌+◌, ◌+ℤ◌, pos, ◌≤◌, arith, Bool, true, false, List, [], ◌∷◌, length, slice_get, Option, Some}
+use Rattle.std.proofs.Common.{None, refl, subst}
 use Rattle.std.proofs.lemmas.List.Elements.{All-append, All-nil}
 use Rattle.std.specs.Str.{bytes_eq}
 use Rattle.tsa_tree.specs.declarations.Syntax.{EnumConstant, Parameter, Head}
@@ -10,7 +11,8 @@ use Rattle.tsa_tree.specs.expressions.Syntax.{Identifier}
 use Rattle.tsa_tree.specs.types.DeclaredTypes.{thing_type}
 use Rattle.tsa_tree.specs.types.Enums.{enumerator_entry, enumerator_value, behind_enumerators}
 use Rattle.tsa_tree.specs.types.Globals.{global_entry}
-use Rattle.tsa_tree.specs.types.Heads.{function_entry, bodied, again, behind_known, behind_head, local_entry, with_param, inside_params, inside}
+use Rattle.tsa_tree.specs.types.Heads.{function_entry, bodied, again, behind_known, behind_head, local_entry, with_param, inside_params}
+use Rattle.tsa_tree.specs.types.Heads.{inside}
 use Rattle.tsa_tree.specs.types.Scopes.{Scope, FunctionEntry, found, with_name, with_named, with_struct, a_type_name}
 use Rattle.tsa_tree.specs.types.Structs.{members_behind}
 use Rattle.tsa_tree.specs.declared.kind.Kind.TheVariants as type

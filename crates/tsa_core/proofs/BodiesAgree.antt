@@ -1,5 +1,7 @@
 -- A body has the kinds of parameters and of result of the function that is first declared by its name.
-use Rattle.std.proofs.Common.{◌≡◌, ◌∙◌, ℕ, ℤ, zero, suc, ◌+ℤ◌, nat_eq, pos, Bool, true, false, ◌&&◌, List, [], ◌∷◌, ◌++◌, IfSome, length, map, Option, Some, None, is_some, option_map, slice_get, if◌then◌else◌, refl, sym, ap, ap₂, subst, append_assoc, eqb-true}
+use Rattle.std.proofs.Common.{◌≡◌, ◌∙◌, ℕ, ℤ, zero, suc, ◌+ℤ◌, nat_eq, pos, Bool, true, false, ◌&&◌, List, [], ◌∷◌, ◌++◌, IfSome, length}
+use Rattle.std.proofs.Common.{map, Option, Some, None, is_some, option_map, slice_get, if◌then◌else◌, refl, sym, ap, ap₂, subst}
+use Rattle.std.proofs.Common.{append_assoc, eqb-true}
 use Rattle.std.proofs.lemmas.List.{append-nil}
 use Rattle.std.proofs.lemmas.List.Elements.{All-nil}
 use Rattle.std.proofs.lemmas.Map.Entries.{All-lookup}
@@ -23,12 +25,15 @@ use Rattle.tsa_tree.specs.declared.premise.Bearer.TheVariants as on
 use Rattle.tsa_tree.specs.declared.premise.TypeCode.TheVariants.{TY2, TY3}
 use Rattle.tsa_tree.specs.expressions.Syntax.{Identifier}
 use Rattle.tsa_tree.specs.types.Attributes.{attributes_premises}
-use Rattle.tsa_tree.specs.types.DeclaredTypes.{is_refused, resolve, length_of, with_length, thing_type, type_premise, unknown_tag, typed_premises, length_premises, declared_premises}
+use Rattle.tsa_tree.specs.types.DeclaredTypes.{is_refused, resolve, length_of, with_length, thing_type, type_premise, unknown_tag}
+use Rattle.tsa_tree.specs.types.DeclaredTypes.{typed_premises, length_premises, declared_premises}
 use Rattle.tsa_tree.specs.types.Enums.{enumerator_entry, enumerator_value, behind_enumerators}
 use Rattle.tsa_tree.specs.types.Globals.{global_entry}
-use Rattle.tsa_tree.specs.types.Heads.{params_of, same_kind, agrees, agree, has_some, differs, by_meaning, is_another, function_entry, bodied, again, behind_known, behind_head, with_param, params_premises, inside, head_premises}
+use Rattle.tsa_tree.specs.types.Heads.{params_of, same_kind, agrees, agree, has_some, differs, by_meaning, is_another, function_entry}
+use Rattle.tsa_tree.specs.types.Heads.{bodied, again, behind_known, behind_head, with_param, params_premises, inside, head_premises}
 use Rattle.tsa_tree.specs.types.Premises.{first}
-use Rattle.tsa_tree.specs.types.Scopes.{Scope, FunctionEntry, found, context_of, with_name, with_named, with_struct, a_type_name, is_named_taken}
+use Rattle.tsa_tree.specs.types.Scopes.{Scope, FunctionEntry, found, context_of, with_name, with_named, with_struct, a_type_name}
+use Rattle.tsa_tree.specs.types.Scopes.{is_named_taken}
 use Rattle.tsa_tree.specs.types.Statements.{statements_premises}
 use Rattle.tsa_tree.specs.types.Structs.{members_behind}
 use Rattle.tsa_tree.specs.types.Types.{single}

@@ -1,5 +1,6 @@
 -- Where a body of a typed unit begins, what is known belongs to the layout of the unit and to the kinds of the body's locals.
-use Rattle.std.proofs.Common.{◌≡◌, ◌∙◌, ℕ, zero, suc, ◌+◌, arith, Bool, true, false, not, ◌&&◌, List, [], ◌∷◌, length, Option, Some, None, is_some, slice_get, Result, Ok, if◌then◌else◌, refl, sym, ap, ap₂, subst}
+use Rattle.std.proofs.Common.{◌≡◌, ◌∙◌, ℕ, zero, suc, ◌+◌, arith, Bool, true, false, not, ◌&&◌, List, [], ◌∷◌, length, Option, Some, None}
+use Rattle.std.proofs.Common.{is_some, slice_get, Result, Ok, if◌then◌else◌, refl, sym, ap, ap₂, subst}
 use Rattle.std.proofs.lemmas.List.Elements.{All-nil}
 use Rattle.std.specs.Str.{bytes_eq}
 use Rattle.tsa_base.specs.declared.token.Span.{Span}
@@ -13,11 +14,14 @@ use Rattle.tsa_tree.specs.declared.meaning.Meaning.{Meaning}
 use Rattle.tsa_tree.specs.declared.meaning.Meaning.TheVariants as meant
 use Rattle.tsa_tree.specs.expressions.Syntax.{Identifier, Expression}
 use Rattle.tsa_tree.specs.statements.Syntax.{Statements}
-use Rattle.tsa_tree.specs.types.DeclaredTypes.{of_struct, of_enum, of_alias, base_of, qualified, declared_as, resolve, value_in, length_in, length_of, with_length, thing_type}
-use Rattle.tsa_tree.specs.types.Heads.{function_entry, bodied, again, behind_known, behind_head, head_premises, local_entry, with_param, inside_params, inside}
+use Rattle.tsa_tree.specs.types.DeclaredTypes.{of_struct, of_enum, of_alias, base_of, qualified, declared_as, resolve, value_in, length_in}
+use Rattle.tsa_tree.specs.types.DeclaredTypes.{length_of, with_length, thing_type}
+use Rattle.tsa_tree.specs.types.Heads.{function_entry, bodied, again, behind_known, behind_head, head_premises, local_entry, with_param}
+use Rattle.tsa_tree.specs.types.Heads.{inside_params, inside}
 use Rattle.tsa_tree.specs.types.Known.{Context}
 use Rattle.tsa_tree.specs.types.Premises.{first}
-use Rattle.tsa_tree.specs.types.Runnable.{is_scalar_kind, is_small, statements_run, params_run, head_runs, are_free, item_runs, items_run, Runnable}
+use Rattle.tsa_tree.specs.types.Runnable.{is_scalar_kind, is_small, statements_run, params_run, head_runs, are_free, item_runs, items_run}
+use Rattle.tsa_tree.specs.types.Runnable.{Runnable}
 use Rattle.tsa_tree.specs.types.Scopes.{Scope, FunctionEntry, found, context_of, with_name, with_named}
 use Rattle.tsa_tree.specs.types.Statements.{Around, statements_premises}
 use Rattle.tsa_tree.specs.types.Units.{outset, around_body, body_premises, item_premises, behind_item, items_premises}
@@ -35,7 +39,8 @@ use Rattle.tsa_core.proofs.KindTests.{both_true}
 use Rattle.tsa_core.proofs.NoFailure.{none_of_both}
 use Rattle.tsa_core.proofs.ScopesAlike.{Alike}
 use Rattle.tsa_core.proofs.TypedTerms.{some_same}
-use Rattle.tsa_core.proofs.LaidScopes.{NamesFit, MembersFit, Fits, IsLaidOut, Grows, grows_same, grows_more, item_grows, names_more, members_more, named_fits, laid_head, item_laid}
+use Rattle.tsa_core.proofs.LaidScopes.{NamesFit, MembersFit, Fits, IsLaidOut, Grows, grows_same, grows_more, item_grows, names_more}
+use Rattle.tsa_core.proofs.LaidScopes.{members_more, named_fits, laid_head, item_laid}
 use Rattle.tsa_core.proofs.UnitScopes.{or_other, found_append, item_alike, head_alike}
 
 -- Scopes in which the same types are written: they differ by names that are none of types.

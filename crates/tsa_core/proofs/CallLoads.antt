@@ -1,5 +1,6 @@
 -- Where a call stands in an expression, its answer stands for what its arguments load.
-use Rattle.std.proofs.Common.{◌≡◌, ◌∙◌, nat_eq, true, false, not, ◌&&◌, ◌||◌, List, [], ◌∷◌, ◌++◌, length, Option, Some, None, is_some, refl, sym, ap, subst}
+use Rattle.std.proofs.Common.{◌≡◌, ◌∙◌, nat_eq, true, false, not, ◌&&◌, ◌||◌, List, [], ◌∷◌, ◌++◌, length, Option, Some, None, is_some}
+use Rattle.std.proofs.Common.{refl, sym, ap, subst}
 use Rattle.std.specs.List.{flat_map}
 use Rattle.tsa_base.specs.declared.token.Span.{Span}
 use Rattle.tsa_base.proofs.Truths.{never}
@@ -8,7 +9,8 @@ use Rattle.tsa_tree.specs.declared.expr.BinaryOp.TheVariants as op
 use Rattle.tsa_tree.specs.declared.expr.UnaryOp.TheVariants as prefix
 use Rattle.tsa_tree.specs.declared.kind.ExpressionType.{ExpressionType}
 use Rattle.tsa_tree.specs.declared.kind.ThingType.{ThingType}
-use Rattle.tsa_tree.specs.expressions.Syntax.{Identifier, Expression, Arguments, number, null, named, call, unary, binary, field, index, none, more}
+use Rattle.tsa_tree.specs.expressions.Syntax.{Identifier, Expression, Arguments, number, null, named, call, unary, binary, field, index}
+use Rattle.tsa_tree.specs.expressions.Syntax.{none, more}
 use Rattle.tsa_tree.specs.types.Constants.{constant_of}
 use Rattle.tsa_tree.specs.types.Expressions.{type_of, types_of, unless, both, arguments_break, all_typed}
 use Rattle.tsa_tree.specs.types.Operands.{goes_to, lacks, breaks_prefix, breaks_binary, prefix_type, binary_type}

@@ -1,5 +1,6 @@
 -- The arguments of a point's call serve its parameters, and what the call gives is what the point's terms use.
-use Rattle.std.proofs.Common.{◌≡◌, ◌∙◌, ℕ, suc, arith, nat_eq, Bool, true, false, not, ◌&&◌, ◌||◌, List, [], ◌∷◌, length, map, Option, Some, None, is_some, option_map, refl, sym, ap, ap₂, subst, eqb-true, eq-eqb}
+use Rattle.std.proofs.Common.{◌≡◌, ◌∙◌, ℕ, suc, arith, nat_eq, Bool, true, false, not, ◌&&◌, ◌||◌, List, [], ◌∷◌, length, map, Option, Some}
+use Rattle.std.proofs.Common.{None, is_some, option_map, refl, sym, ap, ap₂, subst, eqb-true, eq-eqb}
 use Rattle.tsa_base.specs.declared.token.Span.{Span}
 use Rattle.tsa_base.proofs.Truths.{never}
 use Rattle.tsa_tree.specs.declared.expr.BinaryOp.{BinaryOp}
@@ -12,12 +13,16 @@ use Rattle.tsa_tree.specs.declared.meaning.Entry.{Entry}
 use Rattle.tsa_tree.specs.declared.meaning.Meaning.{Meaning}
 use Rattle.tsa_tree.specs.declared.meaning.Meaning.TheVariants as meant
 use Rattle.tsa_tree.specs.expressions.Sound.{is_sound, are_sound}
-use Rattle.tsa_tree.specs.expressions.Syntax.{Identifier, Expression, Arguments, number, null, named, call, unary, binary, field, index, none, more}
+use Rattle.tsa_tree.specs.expressions.Syntax.{Identifier, Expression, Arguments, number, null, named, call, unary, binary, field, index}
+use Rattle.tsa_tree.specs.expressions.Syntax.{none, more}
 use Rattle.tsa_tree.specs.tokens.Signs.{Aliases}
 use Rattle.tsa_tree.specs.types.Constants.{constant_of}
-use Rattle.tsa_tree.specs.types.Expressions.{type_of, types_of, unless, both, known_and, breaks_call, miscounts, arguments_break, all_typed, result_type}
-use Rattle.tsa_tree.specs.types.Operands.{is_scalar, goes_to, lacks, breaks_prefix, breaks_binary, breaks_comparison, comparable, prefix_type, binary_type}
-use Rattle.tsa_tree.specs.types.Runnable.{has_call, have_call, is_free, is_whole, is_call, is_compared, is_comparison, is_condition, is_small}
+use Rattle.tsa_tree.specs.types.Expressions.{type_of, types_of, unless, both, known_and, breaks_call, miscounts, arguments_break, all_typed}
+use Rattle.tsa_tree.specs.types.Expressions.{result_type}
+use Rattle.tsa_tree.specs.types.Operands.{is_scalar, goes_to, lacks, breaks_prefix, breaks_binary, breaks_comparison, comparable}
+use Rattle.tsa_tree.specs.types.Operands.{prefix_type, binary_type}
+use Rattle.tsa_tree.specs.types.Runnable.{has_call, have_call, is_free, is_whole, is_call, is_compared, is_comparison, is_condition}
+use Rattle.tsa_tree.specs.types.Runnable.{is_small}
 use Rattle.tsa_tree.specs.types.Scopes.{Scope, context_of, known_in}
 use Rattle.tsa_tree.specs.types.Lookups.{params_in}
 use Rattle.tsa_place_model.specs.Calls.{Layout}

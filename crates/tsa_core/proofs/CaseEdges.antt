@@ -1,5 +1,6 @@
 -- The edges of a typed body choose each value of a switch once.
-use Rattle.std.proofs.Common.{◌≡◌, ℕ, ℤ, pos, negsuc, int_le, zero, suc, ◌+◌, ◌<◌, ◌≤◌, arith, Bool, true, false, ◌&&◌, nat_eq, List, [], ◌∷◌, ◌++◌, All, length, slice_index_or, Option, Some, None, if◌then◌else◌, refl, sym, ap}
+use Rattle.std.proofs.Common.{◌≡◌, ℕ, ℤ, pos, negsuc, int_le, zero, suc, ◌+◌, ◌<◌, ◌≤◌, arith, Bool, true, false, ◌&&◌, nat_eq, List, []}
+use Rattle.std.proofs.Common.{◌∷◌, ◌++◌, All, length, slice_index_or, Option, Some, None, if◌then◌else◌, refl, sym, ap}
 use Rattle.std.proofs.lemmas.Bool.Decides.{nat_tests}
 use Rattle.std.proofs.lemmas.List.Elements.{All-append, All-cons, All-nil, All-tail}
 use Rattle.tsa_tree.specs.declared.number.Number.{Number}
@@ -7,7 +8,8 @@ use Rattle.tsa_tree.specs.declared.premise.TypeCode.TheVariants.{TY3}
 use Rattle.tsa_tree.specs.expressions.Syntax.{Expression}
 use Rattle.tsa_tree.specs.points.Syntax.{points_of_init, points_of_step}
 use Rattle.tsa_tree.specs.statements.Sound.{SoundStatement, SoundStatements}
-use Rattle.tsa_tree.specs.statements.Syntax.{Statement, block, empty, local, simple, if_alone, if_else, while_loop, do_loop, for_loop, switch, case, otherwise, label, break, continue, goto, return, Statements, none, more}
+use Rattle.tsa_tree.specs.statements.Syntax.{Statement, block, empty, local, simple, if_alone, if_else, while_loop, do_loop, for_loop}
+use Rattle.tsa_tree.specs.statements.Syntax.{switch, case, otherwise, label, break, continue, goto, return, Statements, none, more}
 use Rattle.tsa_tree.specs.tokens.Signs.{Aliases}
 use Rattle.tsa_tree.specs.types.Arithmetic.{is_nonzero}
 use Rattle.tsa_tree.specs.types.DeclaredTypes.{value_in}
@@ -17,7 +19,8 @@ use Rattle.tsa_tree.specs.types.Premises.{premise}
 use Rattle.tsa_tree.specs.types.Premises as told
 use Rattle.tsa_tree.specs.types.Scopes.{Scope, context_of, further}
 use Rattle.tsa_tree.specs.types.Simple.{tested_premises}
-use Rattle.tsa_tree.specs.types.Statements.{Around, in_a_loop, in_a_switch, for_premises, case_premises, default_premises, label_premises, statement_premises, statements_premises, behind, behind_init}
+use Rattle.tsa_tree.specs.types.Statements.{Around, in_a_loop, in_a_switch, for_premises, case_premises, default_premises, label_premises}
+use Rattle.tsa_tree.specs.types.Statements.{statement_premises, statements_premises, behind, behind_init}
 use Rattle.tsa_tree.specs.types.Targets.{declared_in}
 use Rattle.tsa_core.proofs.CaseLists.{Every}
 use Rattle.tsa_core.proofs.Counts.{count_if, count_do, count_for, count_more}
@@ -25,7 +28,9 @@ use Rattle.tsa_core.proofs.EdgeTargets.{Between, between_both, differ, test_foll
 use Rattle.tsa_core.proofs.NoFailure.{none_of_both, none_of_first}
 use Rattle.tsa_core.proofs.SwitchCases.{choices, AllApart, switch_apart}
 use Rattle.tsa_core.specs.CaseLaws.{is_same_choice, ChoicesDiffer, CasesStandApart, AllStandApart}
-use Rattle.tsa_core.specs.Control.{Outcome, Next, Yes, No, Rest, Chosen, Edge, edge, count, count_all, first, first_all, test_at, step_at, inner_at, again_at, Cases, cases, Targets, in_loop, in_switch, label_at, test_edges, tested_edges, for_edges, step_edges, case_edges, has_default, rest_edges, switch_edges, edges, edges_all}
+use Rattle.tsa_core.specs.Control.{Outcome, Next, Yes, No, Rest, Chosen, Edge, edge, count, count_all, first, first_all, test_at, step_at}
+use Rattle.tsa_core.specs.Control.{inner_at, again_at, Cases, cases, Targets, in_loop, in_switch, label_at, test_edges, tested_edges}
+use Rattle.tsa_core.specs.Control.{for_edges, step_edges, case_edges, has_default, rest_edges, switch_edges, edges, edges_all}
 use Rattle.tsa_core.specs.Laws.{is_chosen}
 use Rattle.tsa_base.proofs.Truths.{never}
 

@@ -1,5 +1,7 @@
 -- The values of cases: constants are in the range of their types, and there two that are the same `int` are the same modulo 2^32.
-use Rattle.std.proofs.Common.{◌≡◌, ◌∙◌, ℕ, zero, suc, ◌+◌, ◌-◌, ◌*◌, ◌/◌, ◌%◌, ◌^◌, ◌<◌, ◌≤◌, ℤ, pos, negsuc, neg_ℤ, ◌+ℤ◌, ◌-ℤ◌, ◌*ℤ◌, int_div, int_rem, arith, nat_lt, nat_le, Bool, true, false, Option, Some, None, Result, Ok, Err, if◌then◌else◌, refl, sym, ap, subst}
+use Rattle.std.proofs.Common.{◌≡◌, ◌∙◌, ℕ, zero, suc, ◌+◌, ◌-◌, ◌*◌, ◌/◌, ◌%◌, ◌^◌, ◌<◌, ◌≤◌, ℤ, pos, negsuc, neg_ℤ, ◌+ℤ◌, ◌-ℤ◌, ◌*ℤ◌}
+use Rattle.std.proofs.Common.{int_div, int_rem, arith, nat_lt, nat_le, Bool, true, false, Option, Some, None, Result, Ok, Err}
+use Rattle.std.proofs.Common.{if◌then◌else◌, refl, sym, ap, subst}
 use Rattle.std.proofs.lemmas.Bool.Decides.{nat_tests}
 use Rattle.std.proofs.lemmas.Nat.{or_of_32, xor_of_32, and_le_l, mod_below}
 use Rattle.tsa_tree.specs.declared.expr.BinaryOp.{BinaryOp}
@@ -14,8 +16,10 @@ use Rattle.tsa_tree.specs.declared.number.Trap.TheVariants.{Overflow}
 use Rattle.tsa_tree.specs.expressions.Sound.{is_sound, is_value}
 use Rattle.tsa_tree.specs.expressions.Syntax.{Expression, number, null, named, call, unary, binary, field, index}
 use Rattle.tsa_tree.specs.tokens.Signs.{Aliases}
-use Rattle.tsa_tree.specs.types.Arithmetic.{exactly, truth, unsigned_of, int_of, is_nonzero, is_int, on_int, on_unsigned, operate, operate_prefix, divided}
-use Rattle.tsa_tree.specs.types.Constants.{enumerator, number_value, named_value, go_on, as_truth, worked, worked_binary, without_trap, is_made_of_constants, constant_of}
+use Rattle.tsa_tree.specs.types.Arithmetic.{exactly, truth, unsigned_of, int_of, is_nonzero, is_int, on_int, on_unsigned, operate}
+use Rattle.tsa_tree.specs.types.Arithmetic.{operate_prefix, divided}
+use Rattle.tsa_tree.specs.types.Constants.{enumerator, number_value, named_value, go_on, as_truth, worked, worked_binary, without_trap}
+use Rattle.tsa_tree.specs.types.Constants.{is_made_of_constants, constant_of}
 use Rattle.tsa_tree.specs.types.DeclaredTypes.{typed_value, value_in}
 use Rattle.tsa_tree.specs.types.Expressions.{type_of}
 use Rattle.tsa_tree.specs.types.Known.{Context}

@@ -1,14 +1,21 @@
 -- The cases of each switch in a text stand at places of their own.
-use Rattle.std.proofs.Common.{ℕ, ◌+◌, ◌<◌, ◌≤◌, ◌≡◌, ap₂, sym, refl, subst, List, [], ◌∷◌, ◌++◌, length, map, Bool, true, false, ◌||◌, nat_eq, Option, Some, None, slice_get, arith}
+use Rattle.std.proofs.Common.{ℕ, ◌+◌, ◌<◌, ◌≤◌, ◌≡◌, ap₂, sym, refl, subst, List, [], ◌∷◌, ◌++◌, length, map, Bool, true, false, ◌||◌}
+use Rattle.std.proofs.Common.{nat_eq, Option, Some, None, slice_get, arith}
 use Rattle.std.proofs.lemmas.Bool.{ne_eqb}
 use Rattle.std.proofs.lemmas.Option.{slice_get_within}
 use Rattle.std.specs.List.{list_any}
 use Rattle.std.specs.Str.{bytes_eq}
 use Rattle.tsa_base.specs.Tokens.{Lexeme}
-use Rattle.tsa_tree.specs.declarations.ItemSpelling.{IsItem, of_structure, of_tag_alone, of_structure_alias, of_enumeration, of_enumeration_alias, of_alias_item, of_globals, of_function, of_body_item}
+use Rattle.tsa_tree.specs.declarations.ItemSpelling.{IsItem, of_structure, of_tag_alone, of_structure_alias, of_enumeration}
+use Rattle.tsa_tree.specs.declarations.ItemSpelling.{of_enumeration_alias, of_alias_item, of_globals, of_function, of_body_item}
 use Rattle.tsa_tree.specs.declarations.Syntax.{Declaration}
 use Rattle.tsa_tree.specs.expressions.Syntax.{Expression}
-use Rattle.tsa_tree.specs.statements.Spelling.{IsSimple, of_evaluation, of_assignment, of_step_behind, of_step_before, IsOptional, no_expression, an_expression, IsTest, of_test, IsForInit, of_no_init, of_simple_init, of_local_init, IsForStep, of_no_step, of_step, IsStatement, of_block, of_empty, of_simple, of_if, of_if_else, of_while, of_do, of_for, of_switch, of_case, of_default, of_label, of_break, of_continue, of_goto, of_return, IsBody, of_body, IsStatements, no_statement, of_locals_first, of_statement_first}
+use Rattle.tsa_tree.specs.statements.Spelling.{IsSimple, of_evaluation, of_assignment, of_step_behind, of_step_before, IsOptional}
+use Rattle.tsa_tree.specs.statements.Spelling.{no_expression, an_expression, IsTest, of_test, IsForInit, of_no_init, of_simple_init}
+use Rattle.tsa_tree.specs.statements.Spelling.{of_local_init, IsForStep, of_no_step, of_step, IsStatement, of_block, of_empty, of_simple}
+use Rattle.tsa_tree.specs.statements.Spelling.{of_if, of_if_else, of_while, of_do, of_for, of_switch, of_case, of_default, of_label}
+use Rattle.tsa_tree.specs.statements.Spelling.{of_break, of_continue, of_goto, of_return, IsBody, of_body, IsStatements, no_statement}
+use Rattle.tsa_tree.specs.statements.Spelling.{of_locals_first, of_statement_first}
 use Rattle.tsa_tree.specs.statements.Syntax.{Simple, ForInit, Statement, Statements, locals_before}
 use Rattle.tsa_tree.specs.declared.sign.Sign.TheVariants as sign
 use Rattle.tsa_tree.specs.tokens.Signs.{Aliases, sign_in, sign_at, span_at, span_over}
@@ -26,7 +33,8 @@ use Rattle.tsa_tree.proofs.units.Read.{well_read_sound}
 use Rattle.tsa_core.proofs.CasesDiffer.{cases_differ}
 use Rattle.tsa_core.proofs.MappedLists.{map_append}
 use Rattle.tsa_core.proofs.TypedTerms.{some_same}
-use Rattle.tsa_core.specs.CaseLaws.{Case, cases_in, cases_in_all, Differ, CasesStandApart, AllStandApart, ReadCasesStandApart, ReadCasesDiffer}
+use Rattle.tsa_core.specs.CaseLaws.{Case, cases_in, cases_in_all, Differ, CasesStandApart, AllStandApart, ReadCasesStandApart}
+use Rattle.tsa_core.specs.CaseLaws.{ReadCasesDiffer}
 use Rattle.tsa_core.specs.Programs.{Bodied, bodied_by, bodied_function}
 use Rattle.tsa_core.specs.Programs as program
 

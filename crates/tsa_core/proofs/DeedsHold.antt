@@ -24,7 +24,8 @@ use Rattle.tsa_tree.specs.types.Expressions.{type_of, premises_of}
 use Rattle.tsa_tree.specs.types.Locals.{init_breaks, names_in, names_in_init, local_premises}
 use Rattle.tsa_tree.specs.types.Operands.{integer_kind, pointer_kind, is_integer, is_scalar, lacks, goes_to, breaks_binary}
 use Rattle.tsa_tree.specs.types.Premises.{first}
-use Rattle.tsa_tree.specs.types.Runnable.{is_whole, is_free, is_condition, is_small, is_whole_init, is_whole_given, has_call, local_runs, is_scalar_kind}
+use Rattle.tsa_tree.specs.types.Runnable.{is_whole, is_free, is_condition, is_small, is_whole_init, is_whole_given, has_call, local_runs}
+use Rattle.tsa_tree.specs.types.Runnable.{is_scalar_kind}
 use Rattle.tsa_tree.specs.types.Scopes.{Scope, context_of, known_in}
 use Rattle.tsa_tree.specs.types.Simple.{assignment_breaks, is_written_to, assignment_premises, is_void, return_breaks, parts_of}
 use Rattle.tsa_place_model.specs.Calls.{Layout}

@@ -1,5 +1,6 @@
 -- An edge's outcome is one that its point may have.
-use Rattle.std.proofs.Common.{◌≡◌, ℕ, ℤ, suc, ◌+◌, arith, Bool, true, false, List, [], ◌∷◌, ◌++◌, All, length, map, slice_get, slice_index_or, Option, Some, None, option_map, if◌then◌else◌, refl, sym, ap, subst, inl, inr, ◌⊎◌}
+use Rattle.std.proofs.Common.{◌≡◌, ℕ, ℤ, suc, ◌+◌, arith, Bool, true, false, List, [], ◌∷◌, ◌++◌, All, length, map, slice_get}
+use Rattle.std.proofs.Common.{slice_index_or, Option, Some, None, option_map, if◌then◌else◌, refl, sym, ap, subst, inl, inr, ◌⊎◌}
 use Rattle.std.proofs.lemmas.List.Elements.{All-append, All-cons, All-nil}
 use Rattle.std.proofs.lemmas.Option.{slice_get-map}
 use Rattle.tsa_tree.specs.declarations.Syntax.{Declaration, Initialiser, value, list}
@@ -7,18 +8,26 @@ use Rattle.tsa_tree.specs.declared.expr.BinaryOp.{BinaryOp}
 use Rattle.tsa_tree.specs.declared.kind.Kind.{Kind}
 use Rattle.tsa_tree.specs.declared.number.Number.{Number}
 use Rattle.tsa_tree.specs.expressions.Syntax.{Expression}
-use Rattle.tsa_tree.specs.points.Syntax.{Deed, declares, evaluates, assigns, tests, switches, jumps, idles, returns, ends, points_of_init, points_of_step}
-use Rattle.tsa_tree.specs.statements.Syntax.{Simple, evaluation, assignment, ForInit, no_init, simple_init, local_init, Statement, block, empty, local, simple, if_alone, if_else, while_loop, do_loop, for_loop, switch, case, otherwise, label, break, continue, goto, return, Statements, none, more}
+use Rattle.tsa_tree.specs.points.Syntax.{Deed, declares, evaluates, assigns, tests, switches, jumps, idles, returns, ends, points_of_init}
+use Rattle.tsa_tree.specs.points.Syntax.{points_of_step}
+use Rattle.tsa_tree.specs.statements.Syntax.{Simple, evaluation, assignment, ForInit, no_init, simple_init, local_init, Statement, block}
+use Rattle.tsa_tree.specs.statements.Syntax.{empty, local, simple, if_alone, if_else, while_loop, do_loop, for_loop, switch, case}
+use Rattle.tsa_tree.specs.statements.Syntax.{otherwise, label, break, continue, goto, return, Statements, none, more}
 use Rattle.tsa_tree.specs.types.Arithmetic.{is_nonzero}
 use Rattle.tsa_tree.specs.types.DeclaredTypes.{thing_type}
 use Rattle.tsa_tree.specs.types.Scopes.{Scope, further}
 use Rattle.tsa_tree.specs.types.Statements.{behind, behind_init}
 use Rattle.tsa_tree.specs.types.Targets.{declared_in}
-use Rattle.tsa_core.specs.Bodies.{Known, knows, known_init, known_step, known, known_all, known_in_body, declared, set_to, point_of, can_have}
-use Rattle.tsa_core.specs.Control.{Outcome, Next, Yes, No, Rest, Chosen, Edge, edge, count, first, first_all, test_at, step_at, inner_at, again_at, Cases, cases, Targets, in_loop, in_switch, label_at, test_edges, tested_edges, for_edges, step_edges, case_edge, case_edges, has_default, rest_edges, switch_edges, edges, edges_all, count_all, body_targets, body_edges}
+use Rattle.tsa_core.specs.Bodies.{Known, knows, known_init, known_step, known, known_all, known_in_body, declared, set_to, point_of}
+use Rattle.tsa_core.specs.Bodies.{can_have}
+use Rattle.tsa_core.specs.Control.{Outcome, Next, Yes, No, Rest, Chosen, Edge, edge, count, first, first_all, test_at, step_at, inner_at}
+use Rattle.tsa_core.specs.Control.{again_at, Cases, cases, Targets, in_loop, in_switch, label_at, test_edges, tested_edges, for_edges}
+use Rattle.tsa_core.specs.Control.{step_edges, case_edge, case_edges, has_default, rest_edges, switch_edges, edges, edges_all, count_all}
+use Rattle.tsa_core.specs.Control.{body_targets, body_edges}
 use Rattle.tsa_core.specs.Laws.{is_next, is_told, test_value, goes, OutcomesAreOfTheActions, OutcomesAreOfThePoints}
 use Rattle.tsa_core.specs.Meanings.{meaning}
-use Rattle.tsa_core.specs.Terms.{Term, constant, variable, answer, global, member, element, target, load, address, converted, prefixed, joined}
+use Rattle.tsa_core.specs.Terms.{Term, constant, variable, answer, global, member, element, target, load, address, converted, prefixed}
+use Rattle.tsa_core.specs.Terms.{joined}
 use Rattle.tsa_core.proofs.TextPoints.{known_count}
 use Rattle.tsa_core.proofs.TypedTerms.{some_same}
 

@@ -1,17 +1,22 @@
 -- The point that an edge leads to is the next one for its outcome: the parts of a statement have points of their own.
-use Rattle.std.proofs.Common.{◌≡◌, ◌∙◌, ℕ, ℤ, zero, suc, ◌+◌, ◌<◌, ◌≤◌, arith, Bool, true, false, nat_eq, List, [], ◌∷◌, ◌++◌, All, find, length, slice_index_or, Option, Some, None, option_map, if◌then◌else◌, refl}
+use Rattle.std.proofs.Common.{◌≡◌, ◌∙◌, ℕ, ℤ, zero, suc, ◌+◌, ◌<◌, ◌≤◌, arith, Bool, true, false, nat_eq, List, [], ◌∷◌, ◌++◌, All, find}
+use Rattle.std.proofs.Common.{length, slice_index_or, Option, Some, None, option_map, if◌then◌else◌, refl}
 use Rattle.std.proofs.lemmas.Bool.Decides.{nat_tests}
 use Rattle.std.proofs.lemmas.List.Elements.{All-append, All-cons, All-head, All-nil, All-tail}
 use Rattle.tsa_tree.specs.declared.number.Number.{Number}
 use Rattle.tsa_tree.specs.expressions.Syntax.{Expression}
 use Rattle.tsa_tree.specs.points.Syntax.{points_of_init, points_of_step}
-use Rattle.tsa_tree.specs.statements.Syntax.{Statement, block, empty, local, simple, if_alone, if_else, while_loop, do_loop, for_loop, switch, case, otherwise, label, break, continue, goto, return, Statements, none, more}
+use Rattle.tsa_tree.specs.statements.Syntax.{Statement, block, empty, local, simple, if_alone, if_else, while_loop, do_loop, for_loop}
+use Rattle.tsa_tree.specs.statements.Syntax.{switch, case, otherwise, label, break, continue, goto, return, Statements, none, more}
 use Rattle.tsa_tree.specs.types.Arithmetic.{is_nonzero}
 use Rattle.tsa_tree.specs.types.DeclaredTypes.{value_in}
 use Rattle.tsa_tree.specs.types.Scopes.{Scope, context_of, further}
 use Rattle.tsa_tree.specs.types.Statements.{behind, behind_init}
 use Rattle.tsa_tree.specs.types.Targets.{declared_in}
-use Rattle.tsa_core.specs.Control.{Outcome, Next, Yes, No, Rest, Edge, edge, count, count_all, first, first_all, test_at, step_at, inner_at, again_at, Cases, cases, Targets, in_loop, in_switch, label_at, test_edges, tested_edges, for_edges, step_edges, case_edge, case_edges, has_default, rest_edges, switch_edges, edges, edges_all, body_targets, leaves_by, same_outcome, next_point}
+use Rattle.tsa_core.specs.Control.{Outcome, Next, Yes, No, Rest, Edge, edge, count, count_all, first, first_all, test_at, step_at, inner_at}
+use Rattle.tsa_core.specs.Control.{again_at, Cases, cases, Targets, in_loop, in_switch, label_at, test_edges, tested_edges, for_edges}
+use Rattle.tsa_core.specs.Control.{step_edges, case_edge, case_edges, has_default, rest_edges, switch_edges, edges, edges_all, body_targets}
+use Rattle.tsa_core.specs.Control.{leaves_by, same_outcome, next_point}
 use Rattle.tsa_core.specs.Laws.{is_choice, EdgesAreFollowed}
 use Rattle.tsa_core.proofs.Counts.{count_if, count_do, count_for, count_more}
 use Rattle.tsa_base.proofs.Numbers.{itself}

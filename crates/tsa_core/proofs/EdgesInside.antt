@@ -1,5 +1,6 @@
 -- Edges go from points of a body that aren't its end, to points of it.
-use Rattle.std.proofs.Common.{ℕ, ℤ, zero, suc, ◌+◌, ◌<◌, ◌≤◌, arith, Bool, true, false, List, [], ◌∷◌, All, length, Option, Some, None, IfSome, if◌then◌else◌}
+use Rattle.std.proofs.Common.{ℕ, ℤ, zero, suc, ◌+◌, ◌<◌, ◌≤◌, arith, Bool, true, false, List, [], ◌∷◌, All, length, Option, Some, None}
+use Rattle.std.proofs.Common.{IfSome, if◌then◌else◌}
 use Rattle.std.proofs.lemmas.List.Elements.{All-append, All-cons, All-head, All-nil, All-tail}
 use Rattle.std.proofs.lemmas.Map.Entries.{All-lookup}
 use Rattle.std.specs.Map.{lookup}
@@ -7,13 +8,17 @@ use Rattle.std.specs.Str.{bytes_eq}
 use Rattle.tsa_tree.specs.declared.number.Number.{Number}
 use Rattle.tsa_tree.specs.expressions.Syntax.{Expression}
 use Rattle.tsa_tree.specs.points.Syntax.{points_of_init, points_of_step}
-use Rattle.tsa_tree.specs.statements.Syntax.{Statement, block, empty, local, simple, if_alone, if_else, while_loop, do_loop, for_loop, switch, case, otherwise, label, break, continue, goto, return, Statements, none, more}
+use Rattle.tsa_tree.specs.statements.Syntax.{Statement, block, empty, local, simple, if_alone, if_else, while_loop, do_loop, for_loop}
+use Rattle.tsa_tree.specs.statements.Syntax.{switch, case, otherwise, label, break, continue, goto, return, Statements, none, more}
 use Rattle.tsa_tree.specs.types.Arithmetic.{is_nonzero}
 use Rattle.tsa_tree.specs.types.DeclaredTypes.{value_in}
 use Rattle.tsa_tree.specs.types.Scopes.{Scope, context_of, further}
 use Rattle.tsa_tree.specs.types.Statements.{behind, behind_init}
 use Rattle.tsa_tree.specs.types.Targets.{declared_in}
-use Rattle.tsa_core.specs.Control.{Outcome, Next, Yes, No, Rest, Edge, edge, count, count_all, or_follow, first, first_all, test_at, step_at, inner_at, again_at, labels, labels_all, Cases, a_case, cases, cases_all, Targets, in_loop, in_switch, or_else, label_at, test_edges, tested_edges, for_edges, step_edges, case_edge, case_edges, has_default, rest_edges, switch_edges, edges, edges_all, body_targets}
+use Rattle.tsa_core.specs.Control.{Outcome, Next, Yes, No, Rest, Edge, edge, count, count_all, or_follow, first, first_all, test_at}
+use Rattle.tsa_core.specs.Control.{step_at, inner_at, again_at, labels, labels_all, Cases, a_case, cases, cases_all, Targets, in_loop}
+use Rattle.tsa_core.specs.Control.{in_switch, or_else, label_at, test_edges, tested_edges, for_edges, step_edges, case_edge, case_edges}
+use Rattle.tsa_core.specs.Control.{has_default, rest_edges, switch_edges, edges, edges_all, body_targets}
 use Rattle.tsa_core.specs.Laws.{IsInside, EdgesStayInside}
 use Rattle.tsa_core.proofs.Counts.{count_if, count_do, count_for, count_more}
 

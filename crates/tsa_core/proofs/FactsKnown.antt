@@ -11,17 +11,22 @@ use Rattle.tsa_tree.specs.expressions.Sound.{SoundExpression, SoundOptional}
 use Rattle.tsa_tree.specs.expressions.Syntax.{Expression}
 use Rattle.tsa_tree.specs.points.Syntax.{tests, switches, simple_deed}
 use Rattle.tsa_tree.specs.statements.Sound.{SoundSimple, SoundForInit, SoundForStep, SoundStatement, SoundStatements}
-use Rattle.tsa_tree.specs.statements.Syntax.{Simple, evaluation, assignment, ForInit, no_init, simple_init, local_init, Statement, block, empty, local, simple, if_alone, if_else, while_loop, do_loop, for_loop, switch, case, otherwise, label, break, continue, goto, return, Statements, none, more}
+use Rattle.tsa_tree.specs.statements.Syntax.{Simple, evaluation, assignment, ForInit, no_init, simple_init, local_init, Statement, block}
+use Rattle.tsa_tree.specs.statements.Syntax.{empty, local, simple, if_alone, if_else, while_loop, do_loop, for_loop, switch, case}
+use Rattle.tsa_tree.specs.statements.Syntax.{otherwise, label, break, continue, goto, return, Statements, none, more}
 use Rattle.tsa_tree.specs.tokens.Signs.{Aliases}
 use Rattle.tsa_tree.specs.types.DeclaredTypes.{type_premise, parts_premises, thing_type, resolve}
 use Rattle.tsa_tree.specs.types.Expressions.{type_of, premises_of}
 use Rattle.tsa_tree.specs.types.Locals.{has_type, init_breaks, names_in, local_premises}
 use Rattle.tsa_tree.specs.types.Operands.{is_scalar, is_integer, lacks}
 use Rattle.tsa_tree.specs.types.Premises.{premise, first}
-use Rattle.tsa_tree.specs.types.Runnable.{is_condition, is_condition_given, is_free, simple_runs, init_runs, step_runs, statement_runs, statements_run}
+use Rattle.tsa_tree.specs.types.Runnable.{is_condition, is_condition_given, is_free, simple_runs, init_runs, step_runs, statement_runs}
+use Rattle.tsa_tree.specs.types.Runnable.{statements_run}
 use Rattle.tsa_tree.specs.types.Scopes.{Scope, context_of, further, is_taken}
 use Rattle.tsa_tree.specs.types.Simple.{tested_premises, return_premises, return_breaks, parts_of}
-use Rattle.tsa_tree.specs.types.Statements.{Around, in_a_loop, in_a_switch, simple_premises, init_premises, behind_init, for_test, test_premises, step_premises, is_again, unless_again, for_premises, case_premises, default_premises, label_premises, statement_premises, statements_premises, behind}
+use Rattle.tsa_tree.specs.types.Statements.{Around, in_a_loop, in_a_switch, simple_premises, init_premises, behind_init, for_test}
+use Rattle.tsa_tree.specs.types.Statements.{test_premises, step_premises, is_again, unless_again, for_premises, case_premises}
+use Rattle.tsa_tree.specs.types.Statements.{default_premises, label_premises, statement_premises, statements_premises, behind}
 use Rattle.tsa_tree.specs.types.Targets.{declared_in}
 use Rattle.tsa_core.specs.Bodies.{Known, knows, known_init, known_step, known, known_all}
 use Rattle.tsa_core.proofs.DeedsHold.{Facts}

@@ -1,5 +1,7 @@
 -- A name that means a function is the name of the function that has the number.
-use Rattle.std.proofs.Common.{◌≡◌, ◌∙◌, ℕ, ℤ, zero, suc, ◌+◌, ◌+ℤ◌, pos, arith, Bool, true, false, List, [], ◌∷◌, ◌++◌, All, length, slice_get, slice_index_or, Option, Some, None, is_some, append_assoc, append-nil, if◌then◌else◌, refl, sym, subst}
+use Rattle.std.proofs.Common.{◌≡◌, ◌∙◌, ℕ, ℤ, zero, suc, ◌+◌, ◌+ℤ◌, pos, arith, Bool, true, false, List, [], ◌∷◌, ◌++◌, All, length}
+use Rattle.std.proofs.Common.{slice_get, slice_index_or, Option, Some, None, is_some, append_assoc, append-nil, if◌then◌else◌, refl, sym}
+use Rattle.std.proofs.Common.{subst}
 use Rattle.std.proofs.lemmas.List.{length-append, length-map, length-set}
 use Rattle.std.proofs.lemmas.List.Elements.{All-append, All-cons, All-head, All-nil, All-tail}
 use Rattle.std.proofs.lemmas.Slice.Eq.{bytes_eq-Decides}
@@ -14,7 +16,8 @@ use Rattle.tsa_tree.specs.expressions.Syntax.{Identifier}
 use Rattle.tsa_tree.specs.types.DeclaredTypes.{thing_type}
 use Rattle.tsa_tree.specs.types.Enums.{enumerator_entry, enumerator_value, behind_enumerators}
 use Rattle.tsa_tree.specs.types.Globals.{global_entry}
-use Rattle.tsa_tree.specs.types.Heads.{declares_function, function_entry, or_body, bodied, again, behind_known, behind_head, local_entry, with_param, inside_params, inside}
+use Rattle.tsa_tree.specs.types.Heads.{declares_function, function_entry, or_body, bodied, again, behind_known, behind_head, local_entry}
+use Rattle.tsa_tree.specs.types.Heads.{with_param, inside_params, inside}
 use Rattle.tsa_tree.specs.types.Scopes.{Scope, FunctionEntry, found, further, is_taken, with_name, with_named, with_struct, a_type_name}
 use Rattle.tsa_tree.specs.types.Locals as locals
 use Rattle.tsa_tree.specs.types.Locals.{unless_taken}
@@ -27,7 +30,8 @@ use Rattle.tsa_core.specs.Bodies.{Known, known_in_body, point_of}
 use Rattle.tsa_core.specs.Laws.{HasName, KnowsNumbers, FunctionsAreNumbered, UsesStandBesidePoints}
 use Rattle.tsa_core.specs.Uses.{uses_of}
 use Rattle.tsa_core.proofs.EachScope.{each_point}
-use Rattle.tsa_core.specs.Programs.{Declared, unless_known, first_head, declared_by, declared_functions, Bodied, body_in, bodied_by, bodied_function}
+use Rattle.tsa_core.specs.Programs.{Declared, unless_known, first_head, declared_by, declared_functions, Bodied, body_in, bodied_by}
+use Rattle.tsa_core.specs.Programs.{bodied_function}
 use Rattle.tsa_core.specs.Programs as program
 use Rattle.tsa_core.proofs.TypedTerms.{some_same}
 

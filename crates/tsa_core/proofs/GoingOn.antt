@@ -1,17 +1,23 @@
 -- Every point goes on for each outcome that it may have, but for the values that a switch doesn't name.
-use Rattle.std.proofs.Common.{◌≡◌, ◌∙◌, ℕ, zero, suc, ◌+◌, arith, Bool, true, false, ◌||◌, List, [], ◌∷◌, ◌++◌, find, length, slice_get, Option, Some, None, option_map, is_some, if◌then◌else◌, refl, ap, subst}
+use Rattle.std.proofs.Common.{◌≡◌, ◌∙◌, ℕ, zero, suc, ◌+◌, arith, Bool, true, false, ◌||◌, List, [], ◌∷◌, ◌++◌, find, length, slice_get}
+use Rattle.std.proofs.Common.{Option, Some, None, option_map, is_some, if◌then◌else◌, refl, ap, subst}
 use Rattle.std.proofs.lemmas.List.Folds.{list_any-append}
 use Rattle.std.specs.List.{list_any}
 use Rattle.tsa_tree.specs.declared.number.Number.{Number}
 use Rattle.tsa_tree.specs.expressions.Syntax.{Expression}
-use Rattle.tsa_tree.specs.points.Syntax.{declares, evaluates, assigns, tests, switches, jumps, idles, returns, ends, points_of_init, points_of_step}
-use Rattle.tsa_tree.specs.statements.Syntax.{Simple, evaluation, assignment, ForInit, no_init, simple_init, local_init, Statement, block, empty, local, simple, if_alone, if_else, while_loop, do_loop, for_loop, switch, case, otherwise, label, break, continue, goto, return, Statements, none, more}
+use Rattle.tsa_tree.specs.points.Syntax.{declares, evaluates, assigns, tests, switches, jumps, idles, returns, ends, points_of_init}
+use Rattle.tsa_tree.specs.points.Syntax.{points_of_step}
+use Rattle.tsa_tree.specs.statements.Syntax.{Simple, evaluation, assignment, ForInit, no_init, simple_init, local_init, Statement, block}
+use Rattle.tsa_tree.specs.statements.Syntax.{empty, local, simple, if_alone, if_else, while_loop, do_loop, for_loop, switch, case}
+use Rattle.tsa_tree.specs.statements.Syntax.{otherwise, label, break, continue, goto, return, Statements, none, more}
 use Rattle.tsa_tree.specs.types.Arithmetic.{is_nonzero}
 use Rattle.tsa_tree.specs.types.Scopes.{Scope, further}
 use Rattle.tsa_tree.specs.types.Statements.{behind, behind_init}
 use Rattle.tsa_tree.specs.types.Targets.{declared_in}
 use Rattle.tsa_core.specs.Bodies.{Known, knows, known_init, known_step, known, known_all}
-use Rattle.tsa_core.specs.Control.{Outcome, Next, Yes, No, Rest, Chosen, Edge, edge, count, first, first_all, test_at, step_at, inner_at, again_at, Cases, cases, Targets, in_loop, in_switch, label_at, test_edges, tested_edges, for_edges, step_edges, case_edges, switch_edges, edges, edges_all, count_all, body_targets, body_edges, leaves_by}
+use Rattle.tsa_core.specs.Control.{Outcome, Next, Yes, No, Rest, Chosen, Edge, edge, count, first, first_all, test_at, step_at, inner_at}
+use Rattle.tsa_core.specs.Control.{again_at, Cases, cases, Targets, in_loop, in_switch, label_at, test_edges, tested_edges, for_edges}
+use Rattle.tsa_core.specs.Control.{step_edges, case_edges, switch_edges, edges, edges_all, count_all, body_targets, body_edges, leaves_by}
 use Rattle.tsa_core.specs.Laws.{is_told, test_value, goes, is_next, is_chosen, PointsGoOn}
 use Rattle.tsa_core.proofs.EdgeOutcomes.{init_count, step_count}
 use Rattle.tsa_core.proofs.TextPoints.{known_count}

@@ -1,5 +1,6 @@
 -- The range of `int`, and the remainders of what is in it.
-use Rattle.std.proofs.Common.{◌≡◌, ℕ, zero, suc, ◌%◌, ◌^◌, ◌<◌, ◌≤◌, ℤ, pos, negsuc, neg_ℤ, int_rem, int_lt, int_le, unsigned_abs, arith, true, refl}
+use Rattle.std.proofs.Common.{◌≡◌, ℕ, zero, suc, ◌%◌, ◌^◌, ◌<◌, ◌≤◌, ℤ, pos, negsuc, neg_ℤ, int_rem, int_lt, int_le, unsigned_abs, arith}
+use Rattle.std.proofs.Common.{true, refl}
 use Rattle.std.proofs.lemmas.Bool.Decides.{nat_tests}
 use Rattle.tsa_base.proofs.Numbers.{small_remainder}
 use Rattle.tsa_tree.specs.types.Arithmetic.{is_int}

@@ -17,18 +17,21 @@ use Rattle.tsa_tree.specs.types.Premises.{first}
 use Rattle.tsa_tree.specs.types.Runnable.{is_whole, is_small, is_whole_init}
 use Rattle.tsa_tree.specs.types.Scopes.{Scope, context_of}
 use Rattle.tsa_tree.specs.types.Simple.{is_void}
-use Rattle.tsa_core.proofs.AskedLoads.{asks, nothing_there, loads_kept, loads_parted, loads_asked, Calls, whole_asks, goes_asks, condition_asks}
+use Rattle.tsa_core.proofs.AskedLoads.{asks, nothing_there, loads_kept, loads_parted, loads_asked, Calls, whole_asks, goes_asks}
+use Rattle.tsa_core.proofs.AskedLoads.{condition_asks}
 use Rattle.tsa_core.proofs.DeedsHold.{Facts}
 use Rattle.tsa_core.proofs.DeedsTold.{init_told, set_told}
 use Rattle.tsa_core.proofs.KindTests.{both_true, neither}
 use Rattle.tsa_core.proofs.KindsOfTerms.{typed}
 use Rattle.tsa_core.proofs.NoFailure.{keeps_typed}
 use Rattle.tsa_core.proofs.SetsHold.{passes_typed}
-use Rattle.tsa_core.specs.Bodies.{Action, evaluate, set_local, set_cell, declare, test, branch, go_on, give, Known, knows, right_side, set_to, declared, point_by, point_of}
+use Rattle.tsa_core.specs.Bodies.{Action, evaluate, set_local, set_cell, declare, test, branch, go_on, give, Known, knows, right_side}
+use Rattle.tsa_core.specs.Bodies.{set_to, declared, point_by, point_of}
 use Rattle.tsa_core.specs.Loads.{loads_with, places}
 use Rattle.tsa_core.specs.Meanings.{as_kind, meaning}
 use Rattle.tsa_core.specs.PointLoads.{call_loads, loads_right, right_cells, LoadsAgree, LoadedAt}
-use Rattle.tsa_core.specs.Terms.{Term, constant, variable, answer, global, member, element, target, load, address, converted, prefixed, joined}
+use Rattle.tsa_core.specs.Terms.{Term, constant, variable, answer, global, member, element, target, load, address, converted, prefixed}
+use Rattle.tsa_core.specs.Terms.{joined}
 
 -- what is worked out on the right
 abbrev right_value : Action → Term

@@ -1,5 +1,6 @@
 -- Operators on values, `&` and `*`, and comparisons have the kinds that their types say.
-use Rattle.std.proofs.Common.{◌≡◌, ◌∙◌, ℕ, Bool, true, false, ◌&&◌, ◌||◌, not, Option, Some, None, is_some, option_and_then, if◌then◌else◌, refl, sym, ap, ap₂, subst}
+use Rattle.std.proofs.Common.{◌≡◌, ◌∙◌, ℕ, Bool, true, false, ◌&&◌, ◌||◌, not, Option, Some, None, is_some, option_and_then, if◌then◌else◌}
+use Rattle.std.proofs.Common.{refl, sym, ap, ap₂, subst}
 use Rattle.tsa_tree.specs.declared.expr.BinaryOp.{BinaryOp}
 use Rattle.tsa_tree.specs.declared.expr.BinaryOp.TheVariants as op
 use Rattle.tsa_tree.specs.declared.expr.UnaryOp.{UnaryOp}
@@ -8,15 +9,21 @@ use Rattle.tsa_tree.specs.declared.kind.ExpressionType.{ExpressionType}
 use Rattle.tsa_tree.specs.declared.kind.Kind.{Kind}
 use Rattle.tsa_tree.specs.declared.kind.Kind.TheVariants as type
 use Rattle.tsa_tree.specs.declared.kind.ThingType.{ThingType}
-use Rattle.tsa_tree.specs.types.Operands.{integer_kind, pointer_kind, unsigned_kind, is_single, is_integer, is_unsigned, is_pointer, is_scalar, is_array, is_struct_place, target_of, structure_of, only, struct_of, same_target, null_beside, comparable, lacks, breaks_prefix, breaks_binary, breaks_index, breaks_integers, breaks_bits, breaks_comparison, either_unsigned, prefix_type, binary_type, element_type, common}
+use Rattle.tsa_tree.specs.types.Operands.{integer_kind, pointer_kind, unsigned_kind, is_single, is_integer, is_unsigned, is_pointer}
+use Rattle.tsa_tree.specs.types.Operands.{is_scalar, is_array, is_struct_place, target_of, structure_of, only, struct_of, same_target}
+use Rattle.tsa_tree.specs.types.Operands.{null_beside, comparable, lacks, breaks_prefix, breaks_binary, breaks_index, breaks_integers}
+use Rattle.tsa_tree.specs.types.Operands.{breaks_bits, breaks_comparison, either_unsigned, prefix_type, binary_type, element_type, common}
 use Rattle.tsa_tree.specs.types.Operands as operand
 use Rattle.tsa_tree.specs.types.Runnable.{is_small, is_scalar_kind}
 use Rattle.tsa_tree.specs.types.Types.{single, value}
-use Rattle.tsa_core.specs.Kinds.{Setting, scalar_kind, cell_kind, target_thing, pointer_kind_to, prefix_kind, both_integers, binary_kind, of_both, place_type, value_kind, is_value_kind}
+use Rattle.tsa_core.specs.Kinds.{Setting, scalar_kind, cell_kind, target_thing, pointer_kind_to, prefix_kind, both_integers, binary_kind}
+use Rattle.tsa_core.specs.Kinds.{of_both, place_type, value_kind, is_value_kind}
 use Rattle.tsa_core.specs.Meanings.{is_place, is_structure, is_cell, loaded, null_pointer, beside, prefix_term, operands}
 use Rattle.tsa_core.specs.Terms.{Term, target, load, address, prefixed, joined, Sense}
 use Rattle.tsa_core.proofs.TypedTerms.{some_same}
-use Rattle.tsa_core.proofs.KindTests.{both_true, neither, not_false, not_true, one_of, or_left, and_true, single_length, pointer_plain, integer_plain, scalar_plain, unsigned_integer, common_integer, scalar_small, so, integer_is, pointer_is, scalar_is}
+use Rattle.tsa_core.proofs.KindTests.{both_true, neither, not_false, not_true, one_of, or_left, and_true, single_length, pointer_plain}
+use Rattle.tsa_core.proofs.KindTests.{integer_plain, scalar_plain, unsigned_integer, common_integer, scalar_small, so, integer_is}
+use Rattle.tsa_core.proofs.KindTests.{pointer_is, scalar_is}
 use Rattle.tsa_base.proofs.Truths.{never, or_right}
 
 module _ (k : Setting) where

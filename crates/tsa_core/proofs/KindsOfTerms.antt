@@ -1,5 +1,6 @@
 -- What an expression means has the kind that its type says.
-use Rattle.std.proofs.Common.{◌≡◌, ◌∙◌, ℕ, zero, suc, ◌+◌, arith, nat_le, nat_lt, pos, Bool, true, false, ◌||◌, List, [], ◌∷◌, Option, Some, None, is_some, option_map, option_and_then, slice_get, if◌then◌else◌, refl, sym, ap, ap₂, subst}
+use Rattle.std.proofs.Common.{◌≡◌, ◌∙◌, ℕ, zero, suc, ◌+◌, arith, nat_le, nat_lt, pos, Bool, true, false, ◌||◌, List, [], ◌∷◌, Option, Some}
+use Rattle.std.proofs.Common.{None, is_some, option_map, option_and_then, slice_get, if◌then◌else◌, refl, sym, ap, ap₂, subst}
 use Rattle.std.proofs.lemmas.Bool.Decides.{nat_tests}
 use Rattle.std.specs.Str.{bytes_eq}
 use Rattle.tsa_tree.specs.declared.kind.ExpressionType.{ExpressionType}
@@ -14,19 +15,24 @@ use Rattle.tsa_tree.specs.expressions.Sound.{SoundExpression, is_sound, is_value
 use Rattle.tsa_tree.specs.expressions.Syntax.{Expression, number, null, named, call, unary, binary, field, index}
 use Rattle.tsa_tree.specs.tokens.Signs.{Aliases}
 use Rattle.tsa_tree.specs.types.Constants.{number_value}
-use Rattle.tsa_tree.specs.types.Expressions.{type_of, types_of, unless, both, entry_type, const_base, member_type, member_of, number_type, owner}
-use Rattle.tsa_tree.specs.types.Operands.{integer_kind, is_integer, is_array, lacks, breaks_prefix, breaks_binary, breaks_index, prefix_type, binary_type, element_type}
+use Rattle.tsa_tree.specs.types.Expressions.{type_of, types_of, unless, both, entry_type, const_base, member_type, member_of, number_type}
+use Rattle.tsa_tree.specs.types.Expressions.{owner}
+use Rattle.tsa_tree.specs.types.Operands.{integer_kind, is_integer, is_array, lacks, breaks_prefix, breaks_binary, breaks_index}
+use Rattle.tsa_tree.specs.types.Operands.{prefix_type, binary_type, element_type}
 use Rattle.tsa_tree.specs.types.Runnable.{is_small, is_scalar_kind}
 use Rattle.tsa_tree.specs.types.Scopes.{Scope, Members, context_of, known_in}
 use Rattle.tsa_tree.specs.types.Types.{single, value, place}
 use Rattle.tsa_tree.specs.types.Lookups.{members_at, numbered}
 use Rattle.tsa_place_model.specs.Layouts.{Part, structure_at}
 use Rattle.tsa_core.proofs.MappedLists.{map_at}
-use Rattle.tsa_core.specs.Kinds.{Setting, struct_in, within, member_thing, by_index, place_type, is_value_kind, AgreesBy, Agrees, Belongs, GivesAnswer, GiveAnswer, TermsHaveTheirKinds}
-use Rattle.tsa_core.specs.Meanings.{is_place, loaded, of_number, name_term, of_name, of_call, null_pointer, base_of, to_member, of_field, meaning}
+use Rattle.tsa_core.specs.Kinds.{Setting, struct_in, within, member_thing, by_index, place_type, is_value_kind, AgreesBy, Agrees, Belongs}
+use Rattle.tsa_core.specs.Kinds.{GivesAnswer, GiveAnswer, TermsHaveTheirKinds}
+use Rattle.tsa_core.specs.Meanings.{is_place, loaded, of_number, name_term, of_name, of_call, null_pointer, base_of, to_member, of_field}
+use Rattle.tsa_core.specs.Meanings.{meaning}
 use Rattle.tsa_core.specs.Terms.{Term, constant, global, member, element, target, Sense}
 use Rattle.tsa_core.proofs.KindTests.{both_true, neither, not_false, not_true, no_length, single_length, integer_is}
-use Rattle.tsa_core.proofs.KindsOfOperators.{Holds, a_value, a_place, integer_loaded, object_is, array_not_small, struct_told, target_told, followed_place, struct_place, prefix_holds, operands_hold}
+use Rattle.tsa_core.proofs.KindsOfOperators.{Holds, a_value, a_place, integer_loaded, object_is, array_not_small, struct_told, target_told}
+use Rattle.tsa_core.proofs.KindsOfOperators.{followed_place, struct_place, prefix_holds, operands_hold}
 use Rattle.tsa_core.proofs.TypedTerms.{some_same, terms_have_types, member_numbered}
 use Rattle.tsa_base.proofs.Truths.{never}
 

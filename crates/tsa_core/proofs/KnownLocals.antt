@@ -1,5 +1,6 @@
 -- No point speaks of a local that isn't known there.
-use Rattle.std.proofs.Common.{◌≡◌, ℕ, ◌+◌, ◌≤◌, arith, Bool, true, false, ◌&&◌, List, [], ◌∷◌, All, IfSome, slice_index_or, Option, Some, None, if◌then◌else◌, refl}
+use Rattle.std.proofs.Common.{◌≡◌, ℕ, ◌+◌, ◌≤◌, arith, Bool, true, false, ◌&&◌, List, [], ◌∷◌, All, IfSome, slice_index_or, Option, Some}
+use Rattle.std.proofs.Common.{None, if◌then◌else◌, refl}
 use Rattle.std.proofs.lemmas.List.Elements.{All-append, All-cons, All-nil}
 use Rattle.std.proofs.lemmas.Map.Entries.{All-lookup}
 use Rattle.std.specs.Str.{bytes_eq}
@@ -24,8 +25,10 @@ use Rattle.tsa_tree.specs.types.Scopes.{Scope, found, further, is_taken, known_i
 use Rattle.tsa_tree.specs.types.Lookups.{params_in}
 use Rattle.tsa_core.specs.Bodies.{known_in_body, knows, declared, right_side, set_to}
 use Rattle.tsa_core.specs.Laws.{SpeaksBelow, CallsBelow, ActsBelow, IsBelow, KnowsBelow, PointBelow, PointsSpeakOfKnown}
-use Rattle.tsa_core.specs.Meanings.{Call, is_place, is_cell, loaded, name_term, of_name, of_call, prefix_term, beside, operands, base_of, to_member, meaning, is_int, as_kind, arguments, call_by, call_of, call_in, or_call}
-use Rattle.tsa_core.specs.Terms.{Term, constant, variable, answer, global, member, element, target, load, address, converted, prefixed, joined, Sense}
+use Rattle.tsa_core.specs.Meanings.{Call, is_place, is_cell, loaded, name_term, of_name, of_call, prefix_term, beside, operands, base_of}
+use Rattle.tsa_core.specs.Meanings.{to_member, meaning, is_int, as_kind, arguments, call_by, call_of, call_in, or_call}
+use Rattle.tsa_core.specs.Terms.{Term, constant, variable, answer, global, member, element, target, load, address, converted, prefixed}
+use Rattle.tsa_core.specs.Terms.{joined, Sense}
 use Rattle.tsa_core.proofs.EachScope.{each_point}
 
 -- Terms made of terms.

@@ -1,5 +1,7 @@
 -- What is known behind each item of a typed unit belongs to the layout so far.
-use Rattle.std.proofs.Common.{◌≡◌, ◌∙◌, ℕ, ℤ, zero, suc, ◌<◌, ◌≤◌, arith, pos, ◌+ℤ◌, Bool, true, false, List, [], ◌∷◌, ◌++◌, All, slice_index_or, length, map, Option, Some, None, option_map, slice_get, if◌then◌else◌, refl, ap, eq-eqb, IfSome}
+use Rattle.std.proofs.Common.{◌≡◌, ◌∙◌, ℕ, ℤ, zero, suc, ◌<◌, ◌≤◌, arith, pos, ◌+ℤ◌, Bool, true, false, List, [], ◌∷◌, ◌++◌, All}
+use Rattle.std.proofs.Common.{slice_index_or, length, map, Option, Some, None, option_map, slice_get, if◌then◌else◌, refl, ap, eq-eqb}
+use Rattle.std.proofs.Common.{IfSome}
 use Rattle.std.proofs.lemmas.List.{length-append}
 use Rattle.std.proofs.lemmas.List.Elements.{All-append, All-cons, All-nil}
 use Rattle.std.proofs.lemmas.Map.Entries.{All-lookup}
@@ -19,7 +21,8 @@ use Rattle.tsa_tree.specs.declared.meaning.Entry.{Entry}
 use Rattle.tsa_tree.specs.declared.meaning.Meaning.{Meaning}
 use Rattle.tsa_tree.specs.declared.meaning.Meaning.TheVariants as meant
 use Rattle.tsa_tree.specs.expressions.Syntax.{Identifier}
-use Rattle.tsa_tree.specs.types.DeclaredTypes.{is_refused, resolve, thing_type, of_struct, of_enum, of_alias, base_of, qualified, declared_as, length_of, with_length}
+use Rattle.tsa_tree.specs.types.DeclaredTypes.{is_refused, resolve, thing_type, of_struct, of_enum, of_alias, base_of, qualified}
+use Rattle.tsa_tree.specs.types.DeclaredTypes.{declared_as, length_of, with_length}
 use Rattle.tsa_tree.specs.types.Enums.{enumerator_entry, enumerator_value, behind_enumerators}
 use Rattle.tsa_tree.specs.types.Globals.{global_entry}
 use Rattle.tsa_tree.specs.types.Heads.{function_entry, bodied, again, behind_known, behind_head}

@@ -1,5 +1,6 @@
 -- The loads of what an expression means are the cells that are read.
-use Rattle.std.proofs.Common.{◌≡◌, ◌∙◌, ℕ, Bool, true, false, not, ◌&&◌, ◌||◌, List, [], ◌∷◌, ◌++◌, Option, Some, None, is_some, option_map, option_and_then, if◌then◌else◌, refl, sym, ap, ap₂, subst}
+use Rattle.std.proofs.Common.{◌≡◌, ◌∙◌, ℕ, Bool, true, false, not, ◌&&◌, ◌||◌, List, [], ◌∷◌, ◌++◌, Option, Some, None, is_some, option_map}
+use Rattle.std.proofs.Common.{option_and_then, if◌then◌else◌, refl, sym, ap, ap₂, subst}
 use Rattle.tsa_tree.specs.declared.expr.BinaryOp.{BinaryOp}
 use Rattle.tsa_tree.specs.declared.expr.BinaryOp.TheVariants as op
 use Rattle.tsa_tree.specs.declared.expr.UnaryOp.{UnaryOp}
@@ -13,7 +14,8 @@ use Rattle.tsa_tree.specs.declared.meaning.Meaning.{Meaning}
 use Rattle.tsa_tree.specs.declared.meaning.Meaning.TheVariants as meant
 use Rattle.tsa_tree.specs.expressions.Syntax.{Expression, number, null, named, call, unary, binary, field, index}
 use Rattle.tsa_tree.specs.types.Expressions.{type_of, types_of, unless, result_type, member_type, member_of, owner}
-use Rattle.tsa_tree.specs.types.Operands.{integer_kind, pointer_kind, unsigned_kind, is_scalar, comparable, goes_to, lacks, breaks_prefix, breaks_binary, breaks_comparison, breaks_index, prefix_type, binary_type, element_type}
+use Rattle.tsa_tree.specs.types.Operands.{integer_kind, pointer_kind, unsigned_kind, is_scalar, comparable, goes_to, lacks, breaks_prefix}
+use Rattle.tsa_tree.specs.types.Operands.{breaks_binary, breaks_comparison, breaks_index, prefix_type, binary_type, element_type}
 use Rattle.tsa_tree.specs.types.Runnable.{has_call}
 use Rattle.tsa_tree.specs.types.Scopes.{Scope, context_of, known_in}
 use Rattle.tsa_tree.specs.types.Lookups.{members_at, numbered}
@@ -24,7 +26,8 @@ use Rattle.tsa_core.proofs.TypedTerms.{terms_have_types, member_numbered}
 use Rattle.tsa_core.proofs.ZeroConstants.{zero_alone, one_is_zero, other_is_zero, goes_zero}
 use Rattle.tsa_core.specs.Cells.{inner_cells, argument_cells, cells_read}
 use Rattle.tsa_core.specs.Loads.{loads_with, places, LoadsAreCells, ConversionsKeepLoads}
-use Rattle.tsa_core.specs.Meanings.{is_loaded, is_int, loaded, null_pointer, name_term, of_name, of_call, of_field, to_member, beside, operands, as_kind, meaning}
+use Rattle.tsa_core.specs.Meanings.{is_loaded, is_int, loaded, null_pointer, name_term, of_name, of_call, of_field, to_member, beside}
+use Rattle.tsa_core.specs.Meanings.{operands, as_kind, meaning}
 use Rattle.tsa_core.specs.Terms.{Term, load, converted, Sense}
 use Rattle.tsa_base.proofs.Truths.{never}
 

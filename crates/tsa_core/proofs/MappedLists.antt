@@ -1,5 +1,6 @@
 -- Lists whose parts are mapped.
-use Rattle.std.proofs.Common.{◌≡◌, ◌∙◌, ℕ, zero, suc, List, [], ◌∷◌, ◌++◌, length, map, Some, option_map, slice_get, slice_set, refl, sym, ap}
+use Rattle.std.proofs.Common.{◌≡◌, ◌∙◌, ℕ, zero, suc, List, [], ◌∷◌, ◌++◌, length, map, Some, option_map, slice_get, slice_set, refl, sym}
+use Rattle.std.proofs.Common.{ap}
 use Rattle.tsa_core.proofs.TypedTerms.{some_same}
 
 pub map_append : {A B : Type 0} (f : A → B) (xs ys : List A) → map f (xs ++ ys) ≡ map f xs ++ map f ys

@@ -1,5 +1,6 @@
 -- Where no premise fails, each holds, and an expression has a type.
-use Rattle.std.proofs.Common.{◌≡◌, ◌∙◌, ℕ, Bool, true, false, ◌&&◌, ◌||◌, not, List, [], ◌∷◌, ◌++◌, Option, Some, None, is_some, is_none, option_map, option_and_then, refl, sym, ap, ap₂}
+use Rattle.std.proofs.Common.{◌≡◌, ◌∙◌, ℕ, Bool, true, false, ◌&&◌, ◌||◌, not, List, [], ◌∷◌, ◌++◌, Option, Some, None, is_some, is_none}
+use Rattle.std.proofs.Common.{option_map, option_and_then, refl, sym, ap, ap₂}
 use Rattle.tsa_base.specs.declared.token.Span.{Span}
 use Rattle.tsa_base.proofs.Truths.{never}
 use Rattle.tsa_tree.specs.declared.kind.ExpressionType.{ExpressionType}
@@ -12,7 +13,8 @@ use Rattle.tsa_tree.specs.declared.number.Number.{Number}
 use Rattle.tsa_tree.specs.points.Syntax.{expression_span}
 use Rattle.tsa_tree.specs.types.Constants.{constant_of}
 use Rattle.tsa_tree.specs.types.DeclaredTypes.{constant_premises}
-use Rattle.tsa_tree.specs.types.Expressions.{type_of, types_of, premises_of, premises_of_all, known_and, breaks_call, miscounts, all_typed, unless, both, entry_type, result_type, member_type, member_of, number_type, owner}
+use Rattle.tsa_tree.specs.types.Expressions.{type_of, types_of, premises_of, premises_of_all, known_and, breaks_call, miscounts, all_typed}
+use Rattle.tsa_tree.specs.types.Expressions.{unless, both, entry_type, result_type, member_type, member_of, number_type, owner}
 use Rattle.tsa_tree.specs.types.Known.{Context}
 use Rattle.tsa_tree.specs.types.Operands.{lacks, breaks_prefix, breaks_binary, breaks_index, prefix_type, binary_type, element_type}
 use Rattle.tsa_tree.specs.types.Premises.{Premise, premise, or_else, failure_of, first}

@@ -1,5 +1,6 @@
 -- The cells that a point reads and writes are the ones that its terms load and set.
-use Rattle.std.proofs.Common.{◌≡◌, ◌∙◌, ℕ, true, false, not, ◌&&◌, List, [], ◌∷◌, Option, Some, None, is_some, is_none, if◌then◌else◌, refl, sym, ap, ap₂, subst, ◌⊎◌, inl, inr}
+use Rattle.std.proofs.Common.{◌≡◌, ◌∙◌, ℕ, true, false, not, ◌&&◌, List, [], ◌∷◌, Option, Some, None, is_some, is_none, if◌then◌else◌, refl}
+use Rattle.std.proofs.Common.{sym, ap, ap₂, subst, ◌⊎◌, inl, inr}
 use Rattle.tsa_tree.specs.declarations.Syntax.{Declaration, Initialiser, value, list}
 use Rattle.tsa_tree.specs.declared.expr.BinaryOp.{BinaryOp}
 use Rattle.tsa_tree.specs.declared.kind.ExpressionType.{ExpressionType}
@@ -33,7 +34,8 @@ use Rattle.tsa_core.specs.Cells.{own_cell, inner_cells, cells_read, read_before}
 use Rattle.tsa_core.specs.Loads.{loads, loads_with, places}
 use Rattle.tsa_core.specs.Meanings.{is_place, is_cell, is_structure, loaded, as_kind, meaning, call_in}
 use Rattle.tsa_core.specs.PointLoads.{init_cells, call_loads, loads_right, cell_set, loads_inside, old_value, LoadsAgree}
-use Rattle.tsa_core.specs.Terms.{Term, constant, variable, answer, global, member, element, target, load, address, converted, prefixed, joined}
+use Rattle.tsa_core.specs.Terms.{Term, constant, variable, answer, global, member, element, target, load, address, converted, prefixed}
+use Rattle.tsa_core.specs.Terms.{joined}
 use Rattle.tsa_base.proofs.Truths.{never}
 
 -- An assignment goes to a local, or to a cell.

@@ -11,7 +11,8 @@ use Rattle.tsa_core.proofs.MappedLists.{map_at}
 use Rattle.tsa_core.specs.Bodies.{Body}
 use Rattle.tsa_core.specs.KindLaws.{signatures, param_kinds, kinds_of, function_locals, ProgramsAreWellKinded}
 use Rattle.tsa_core.specs.PointKinds.{Signatures, PointHolds}
-use Rattle.tsa_core.specs.Programs.{Function, program_of, layout_or_none, function_in, Declared, declared_functions, Bodied, bodied_function, body_in}
+use Rattle.tsa_core.specs.Programs.{Function, program_of, layout_or_none, function_in, Declared, declared_functions, Bodied}
+use Rattle.tsa_core.specs.Programs.{bodied_function, body_in}
 use Rattle.tsa_core.proofs.BodiesAgree.{bodies_agree}
 use Rattle.tsa_core.proofs.PointsHold.{points_have_kinds}
 use Rattle.tsa_core.proofs.SignaturesFit.{result_kind, own_params}

@@ -1,10 +1,12 @@
 -- Constants are worked out alike where the same enumerators are known.
-use Rattle.std.proofs.Common.{◌≡◌, ◌∙◌, ℕ, Bool, true, false, ◌&&◌, List, Option, Some, None, Ok, option_map, if◌then◌else◌, refl, sym, ap, ap₂}
+use Rattle.std.proofs.Common.{◌≡◌, ◌∙◌, ℕ, Bool, true, false, ◌&&◌, List, Option, Some, None, Ok, option_map, if◌then◌else◌, refl, sym, ap}
+use Rattle.std.proofs.Common.{ap₂}
 use Rattle.tsa_tree.specs.declared.kind.ExpressionType.{ExpressionType}
 use Rattle.tsa_tree.specs.declared.number.Number.{Number}
 use Rattle.tsa_tree.specs.expressions.Syntax.{Expression, number, null, named, call, unary, binary, field, index}
 use Rattle.tsa_tree.specs.types.Arithmetic.{operate_prefix}
-use Rattle.tsa_tree.specs.types.Constants.{enumerator, is_known_enumerator, takes_integers, is_made_of_constants, named_value, go_on, worked, worked_binary, without_trap, constant_of}
+use Rattle.tsa_tree.specs.types.Constants.{enumerator, is_known_enumerator, takes_integers, is_made_of_constants, named_value, go_on}
+use Rattle.tsa_tree.specs.types.Constants.{worked, worked_binary, without_trap, constant_of}
 use Rattle.tsa_tree.specs.types.DeclaredTypes.{typed_value, value_in}
 use Rattle.tsa_tree.specs.types.Expressions.{type_of, types_of, unless, both, entry_type}
 use Rattle.tsa_tree.specs.types.Known.{Context}

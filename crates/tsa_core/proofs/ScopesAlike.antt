@@ -10,7 +10,8 @@ use Rattle.tsa_tree.specs.declared.meaning.Meaning.{Meaning}
 use Rattle.tsa_tree.specs.declared.meaning.Meaning.TheVariants as meant
 use Rattle.tsa_tree.specs.expressions.Syntax.{Expression}
 use Rattle.tsa_tree.specs.types.Constants.{enumerator, is_known_enumerator, constant_of}
-use Rattle.tsa_tree.specs.types.DeclaredTypes.{of_struct, of_enum, of_alias, base_of, qualified, declared_as, resolve, value_in, length_of, with_length, thing_type}
+use Rattle.tsa_tree.specs.types.DeclaredTypes.{of_struct, of_enum, of_alias, base_of, qualified, declared_as, resolve, value_in, length_of}
+use Rattle.tsa_tree.specs.types.DeclaredTypes.{with_length, thing_type}
 use Rattle.tsa_tree.specs.types.Expressions.{is_function}
 use Rattle.tsa_tree.specs.types.Scopes.{Scope, found, context_of, known_in}
 use Rattle.tsa_core.proofs.SameConstants.{SameConstants, same_constant, same_value}

@@ -1,5 +1,6 @@
 -- At each point of a body of a typed unit what is known belongs to the layout of the unit and to the kinds of the body's locals.
-use Rattle.std.proofs.Common.{◌≡◌, ◌∙◌, ℕ, ◌+◌, Bool, true, false, ◌&&◌, List, [], ◌∷◌, ◌++◌, All, IfSome, length, Option, Some, None, slice_get, refl, sym, ap, subst, append_assoc}
+use Rattle.std.proofs.Common.{◌≡◌, ◌∙◌, ℕ, ◌+◌, Bool, true, false, ◌&&◌, List, [], ◌∷◌, ◌++◌, All, IfSome, length, Option, Some, None}
+use Rattle.std.proofs.Common.{slice_get, refl, sym, ap, subst, append_assoc}
 use Rattle.std.proofs.lemmas.List.{length-append}
 use Rattle.std.proofs.lemmas.List.Elements.{All-append, All-cons, All-nil}
 use Rattle.std.proofs.lemmas.Map.Entries.{All-lookup}
@@ -8,10 +9,13 @@ use Rattle.tsa_tree.specs.declarations.Syntax.{Declaration}
 use Rattle.tsa_tree.specs.declared.kind.Kind.{Kind}
 use Rattle.tsa_tree.specs.declared.meaning.Entry.{Entry}
 use Rattle.tsa_tree.specs.points.Syntax.{Deed, declares, evaluates, assigns, tests, switches, jumps, idles, returns, ends, simple_deed}
-use Rattle.tsa_tree.specs.statements.Syntax.{Simple, ForInit, no_init, simple_init, local_init, Statement, block, empty, local, simple, if_alone, if_else, while_loop, do_loop, for_loop, switch, case, otherwise, label, break, continue, goto, return, Statements, none, more}
+use Rattle.tsa_tree.specs.statements.Syntax.{Simple, ForInit, no_init, simple_init, local_init, Statement, block, empty, local, simple}
+use Rattle.tsa_tree.specs.statements.Syntax.{if_alone, if_else, while_loop, do_loop, for_loop, switch, case, otherwise, label, break}
+use Rattle.tsa_tree.specs.statements.Syntax.{continue, goto, return, Statements, none, more}
 use Rattle.tsa_tree.specs.types.DeclaredTypes.{thing_type}
 use Rattle.tsa_tree.specs.types.Locals.{local_entry, unless_taken, behind_local}
-use Rattle.tsa_tree.specs.types.Runnable.{is_small, is_whole_init, is_condition, is_condition_given, is_free, local_runs, init_runs, step_runs, statement_runs, statements_run}
+use Rattle.tsa_tree.specs.types.Runnable.{is_small, is_whole_init, is_condition, is_condition_given, is_free, local_runs, init_runs}
+use Rattle.tsa_tree.specs.types.Runnable.{step_runs, statement_runs, statements_run}
 use Rattle.tsa_tree.specs.types.Scopes.{Scope, found, context_of, further, is_taken, known_in, with_name}
 use Rattle.tsa_tree.specs.types.Statements.{behind, behind_init}
 use Rattle.tsa_tree.specs.types.Targets.{declared_in}

@@ -1,5 +1,6 @@
 -- Left sides are locals or places, and what is set to them has their kinds.
-use Rattle.std.proofs.Common.{◌≡◌, ◌∙◌, ℕ, Bool, true, false, not, ◌&&◌, ◌||◌, Option, Some, None, is_some, option_and_then, if◌then◌else◌, refl, sym, ap, subst}
+use Rattle.std.proofs.Common.{◌≡◌, ◌∙◌, ℕ, Bool, true, false, not, ◌&&◌, ◌||◌, Option, Some, None, is_some, option_and_then, if◌then◌else◌}
+use Rattle.std.proofs.Common.{refl, sym, ap, subst}
 use Rattle.tsa_tree.specs.declared.expr.BinaryOp.{BinaryOp}
 use Rattle.tsa_tree.specs.declared.expr.BinaryOp.TheVariants as op
 use Rattle.tsa_tree.specs.declared.kind.ExpressionType.{ExpressionType}
@@ -9,14 +10,17 @@ use Rattle.tsa_tree.specs.declared.kind.ThingType.{ThingType}
 use Rattle.tsa_tree.specs.declared.meaning.Meaning.{Meaning}
 use Rattle.tsa_tree.specs.declared.meaning.Meaning.TheVariants as meant
 use Rattle.tsa_tree.specs.statements.Sound.{is_assigning}
-use Rattle.tsa_tree.specs.types.Operands.{integer_kind, unsigned_kind, is_single, is_integer, lacks, breaks_integers, breaks_bits, breaks_binary, either_unsigned, binary_type, common}
+use Rattle.tsa_tree.specs.types.Operands.{integer_kind, unsigned_kind, is_single, is_integer, lacks, breaks_integers, breaks_bits}
+use Rattle.tsa_tree.specs.types.Operands.{breaks_binary, either_unsigned, binary_type, common}
 use Rattle.tsa_tree.specs.types.Simple.{is_written_to, written_type}
 use Rattle.tsa_core.specs.Bodies.{zero_term, set_to}
 use Rattle.tsa_core.specs.Kinds.{Setting, scalar_kind, if_so, both_integers, binary_kind, cell_kind, place_type, value_kind}
 use Rattle.tsa_core.specs.Meanings.{is_place, is_cell, is_structure, loaded, name_term, of_name, to_member}
 use Rattle.tsa_core.specs.PointKinds.{ServesScalar, is_number, Joins, Sets, IsCellOf, ActionHolds}
-use Rattle.tsa_core.specs.Terms.{Term, constant, variable, answer, global, member, element, target, load, address, converted, prefixed, joined, Sense}
-use Rattle.tsa_core.proofs.KindTests.{both_true, neither, not_false, not_true, one_of, or_left, and_true, single_length, common_integer, scalar_plain, so, integer_is}
+use Rattle.tsa_core.specs.Terms.{Term, constant, variable, answer, global, member, element, target, load, address, converted, prefixed}
+use Rattle.tsa_core.specs.Terms.{joined, Sense}
+use Rattle.tsa_core.proofs.KindTests.{both_true, neither, not_false, not_true, one_of, or_left, and_true, single_length, common_integer}
+use Rattle.tsa_core.proofs.KindTests.{scalar_plain, so, integer_is}
 use Rattle.tsa_core.proofs.KindsOfOperators.{Holds, integer_loaded}
 use Rattle.tsa_base.proofs.Truths.{never, or_right}
 

@@ -1,5 +1,7 @@
--- Where a body begins, functions that are known by name have the results and the parameters of the program's functions; and a body's text is sound.
-use Rattle.std.proofs.Common.{◌≡◌, ◌∙◌, ℕ, ℤ, suc, ◌+ℤ◌, pos, Bool, true, false, List, [], ◌∷◌, ◌++◌, All, slice_index_or, length, map, Option, Some, None, is_some, option_map, slice_get, refl, sym, ap, subst, append_assoc}
+-- Where a body begins, functions that are known by name have the results and the parameters of the program's functions; and a body's text
+-- is sound.
+use Rattle.std.proofs.Common.{◌≡◌, ◌∙◌, ℕ, ℤ, suc, ◌+ℤ◌, pos, Bool, true, false, List, [], ◌∷◌, ◌++◌, All, slice_index_or, length, map}
+use Rattle.std.proofs.Common.{Option, Some, None, is_some, option_map, slice_get, refl, sym, ap, subst, append_assoc}
 use Rattle.std.proofs.lemmas.List.{append-nil}
 use Rattle.std.proofs.lemmas.List.Elements.{All-append, All-cons, All-nil}
 use Rattle.std.specs.Str.{bytes_eq}
@@ -16,13 +18,15 @@ use Rattle.tsa_tree.specs.tokens.Signs.{Aliases}
 use Rattle.tsa_tree.specs.types.DeclaredTypes.{thing_type}
 use Rattle.tsa_tree.specs.types.Enums.{enumerator_entry, enumerator_value, behind_enumerators}
 use Rattle.tsa_tree.specs.types.Globals.{global_entry}
-use Rattle.tsa_tree.specs.types.Heads.{params_of, declares_function, function_entry, or_body, bodied, again, behind_known, behind_head, local_entry, with_param, inside_params, inside}
+use Rattle.tsa_tree.specs.types.Heads.{params_of, declares_function, function_entry, or_body, bodied, again, behind_known, behind_head}
+use Rattle.tsa_tree.specs.types.Heads.{local_entry, with_param, inside_params, inside}
 use Rattle.tsa_tree.specs.types.Scopes.{Scope, FunctionEntry, found, with_name, with_named, with_struct, a_type_name}
 use Rattle.tsa_tree.specs.types.Structs.{members_behind}
 use Rattle.tsa_tree.specs.types.Types.{single}
 use Rattle.tsa_tree.specs.types.Units.{outset, behind_item}
 use Rattle.tsa_tree.specs.units.Sound.{SoundItem, SoundItems}
-use Rattle.tsa_tree.specs.units.Syntax.{UnitItem, structure_item, alias_item, enumeration_item, global_item, function_item, body_item, names_of_item}
+use Rattle.tsa_tree.specs.units.Syntax.{UnitItem, structure_item, alias_item, enumeration_item, global_item, function_item, body_item}
+use Rattle.tsa_tree.specs.units.Syntax.{names_of_item}
 use Rattle.tsa_tree.specs.types.Lookups.{params_in}
 use Rattle.tsa_place_model.proofs.GlobalsInRow.{front_at, last_at}
 use Rattle.tsa_core.proofs.MappedLists.{map_append, map_length, map_set, map_at}

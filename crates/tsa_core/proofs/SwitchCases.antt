@@ -1,5 +1,6 @@
 -- The cases of a switch in a typed body have values of their own.
-use Rattle.std.proofs.Common.{◌≡◌, ◌∙◌, ℕ, ℤ, suc, ◌+◌, Bool, true, false, not, ◌&&◌, List, [], ◌∷◌, ◌++◌, map, Option, Some, None, is_some, if◌then◌else◌, refl, sym, ap, ap₂, subst, eq-eqb, append_assoc}
+use Rattle.std.proofs.Common.{◌≡◌, ◌∙◌, ℕ, ℤ, suc, ◌+◌, Bool, true, false, not, ◌&&◌, List, [], ◌∷◌, ◌++◌, map, Option, Some, None, is_some}
+use Rattle.std.proofs.Common.{if◌then◌else◌, refl, sym, ap, ap₂, subst, eq-eqb, append_assoc}
 use Rattle.std.specs.Str.{bytes_eq}
 use Rattle.tsa_base.specs.declared.token.Span.{Span}
 use Rattle.tsa_base.proofs.Truths.{never}
@@ -13,7 +14,8 @@ use Rattle.tsa_tree.specs.expressions.Syntax.{Expression}
 use Rattle.tsa_tree.specs.points.Syntax.{expression_span}
 use Rattle.tsa_tree.specs.statements.Sound.{SoundStatement, SoundStatements}
 use Rattle.tsa_tree.specs.expressions.Sound.{SoundExpression}
-use Rattle.tsa_tree.specs.statements.Syntax.{Statement, block, empty, local, simple, if_alone, if_else, while_loop, do_loop, for_loop, switch, case, otherwise, label, break, continue, goto, return, Statements, none, more}
+use Rattle.tsa_tree.specs.statements.Syntax.{Statement, block, empty, local, simple, if_alone, if_else, while_loop, do_loop, for_loop}
+use Rattle.tsa_tree.specs.statements.Syntax.{switch, case, otherwise, label, break, continue, goto, return, Statements, none, more}
 use Rattle.tsa_tree.specs.tokens.Signs.{Aliases}
 use Rattle.tsa_tree.specs.types.Arithmetic.{unsigned_of, int_of}
 use Rattle.tsa_tree.specs.types.Constants.{enumerator, is_known_enumerator, constant_of}
@@ -25,7 +27,8 @@ use Rattle.tsa_tree.specs.types.Operands.{is_scalar, lacks}
 use Rattle.tsa_tree.specs.types.Premises.{premise, first}
 use Rattle.tsa_tree.specs.types.Scopes.{Scope, found, context_of, known_in, further, is_taken, with_name}
 use Rattle.tsa_tree.specs.types.Simple.{tested_premises}
-use Rattle.tsa_tree.specs.types.Statements.{Around, in_a_loop, is_elsewhere, is_case_again, for_premises, case_premises, default_premises, label_premises, statement_premises, statements_premises, behind, behind_init}
+use Rattle.tsa_tree.specs.types.Statements.{Around, in_a_loop, is_elsewhere, is_case_again, for_premises, case_premises, default_premises}
+use Rattle.tsa_tree.specs.types.Statements.{label_premises, statement_premises, statements_premises, behind, behind_init}
 use Rattle.tsa_tree.specs.types.Targets.{Cases, case_at, cases_behind, cases_behind_all, declared_in}
 use Rattle.tsa_core.proofs.CaseLists.{Every, every_both, InRange, with_cases, with_append, IsFirst, IsOther, Apart, all_apart}
 use Rattle.tsa_core.proofs.CaseNumbers.{value_fits, same_int}

@@ -1,5 +1,6 @@
 -- What an expression means has its type.
-use Rattle.std.proofs.Common.{◌≡◌, ◌∙◌, ℕ, suc, Bool, true, false, List, [], ◌∷◌, Option, Some, None, option_map, option_and_then, slice_get, if◌then◌else◌, refl, sym, ap, ap₂, subst}
+use Rattle.std.proofs.Common.{◌≡◌, ◌∙◌, ℕ, suc, Bool, true, false, List, [], ◌∷◌, Option, Some, None, option_map, option_and_then}
+use Rattle.std.proofs.Common.{slice_get, if◌then◌else◌, refl, sym, ap, ap₂, subst}
 use Rattle.tsa_tree.specs.declared.kind.ExpressionType.{ExpressionType}
 use Rattle.tsa_tree.specs.declared.kind.ThingType.{ThingType}
 use Rattle.tsa_tree.specs.declared.meaning.Entry.{Entry}

@@ -1,5 +1,6 @@
 -- What is known behind each item of a typed unit is the same without functions.
-use Rattle.std.proofs.Common.{◌≡◌, ◌∙◌, ℕ, ℤ, ◌+◌, pos, ◌+ℤ◌, nat_lt, Bool, true, false, not, ◌||◌, List, [], ◌∷◌, ◌++◌, length, map, Option, Some, None, is_some, slice_get, if◌then◌else◌, refl, sym, ap, ap₂, subst, append_assoc}
+use Rattle.std.proofs.Common.{◌≡◌, ◌∙◌, ℕ, ℤ, ◌+◌, pos, ◌+ℤ◌, nat_lt, Bool, true, false, not, ◌||◌, List, [], ◌∷◌, ◌++◌, length, map}
+use Rattle.std.proofs.Common.{Option, Some, None, is_some, slice_get, if◌then◌else◌, refl, sym, ap, ap₂, subst, append_assoc}
 use Rattle.std.proofs.lemmas.List.{append-nil}
 use Rattle.std.proofs.lemmas.Slice.Eq.{bytes_eq-Decides}
 use Rattle.std.specs.Str.{bytes_eq}
@@ -24,18 +25,23 @@ use Rattle.tsa_tree.specs.declared.premise.TypeCode.TheVariants.{TY2, TY3}
 use Rattle.tsa_tree.specs.expressions.Syntax.{Identifier, Expression}
 use Rattle.tsa_tree.specs.types.Attributes.{attributes_premises, attributes_beside}
 use Rattle.tsa_tree.specs.types.Constants.{constant_of}
-use Rattle.tsa_tree.specs.types.DeclaredTypes.{is_whole, is_nothing, may_be, is_refused, resolve, length_of, length_premises, type_premise, unknown_tag, typed_premises, declared_premises, with_length, thing_type, typed_value}
-use Rattle.tsa_tree.specs.types.Enums.{int_value, written_value, value_or_zero, value_premises, enumerator_entry, enumerator_value, enumerator_premises, enum_premises, other_enum, behind_enumerators}
+use Rattle.tsa_tree.specs.types.DeclaredTypes.{is_whole, is_nothing, may_be, is_refused, resolve, length_of, length_premises, type_premise}
+use Rattle.tsa_tree.specs.types.DeclaredTypes.{unknown_tag, typed_premises, declared_premises, with_length, thing_type, typed_value}
+use Rattle.tsa_tree.specs.types.Enums.{int_value, written_value, value_or_zero, value_premises, enumerator_entry, enumerator_value}
+use Rattle.tsa_tree.specs.types.Enums.{enumerator_premises, enum_premises, other_enum, behind_enumerators}
 use Rattle.tsa_tree.specs.types.Expressions.{type_of, is_function}
 use Rattle.tsa_tree.specs.types.Globals.{global_entry, global_premises, inside_global, with_global}
 use Rattle.tsa_tree.specs.types.Heads.{function_entry, bodied, again, behind_known, behind_head}
 use Rattle.tsa_tree.specs.types.Premises.{first}
-use Rattle.tsa_tree.specs.types.Scopes.{Scope, FunctionEntry, Members, found, context_of, tag_in, with_owned, with_name, with_named, with_struct, with_globals, a_type_name, is_taken, is_named_taken}
-use Rattle.tsa_tree.specs.types.Structs.{first_place, other_struct, with_member, member_premises, members_premises, members_behind, inside_struct, struct_premises}
+use Rattle.tsa_tree.specs.types.Scopes.{Scope, FunctionEntry, Members, found, context_of, tag_in, with_owned, with_name, with_named}
+use Rattle.tsa_tree.specs.types.Scopes.{with_struct, with_globals, a_type_name, is_taken, is_named_taken}
+use Rattle.tsa_tree.specs.types.Structs.{first_place, other_struct, with_member, member_premises, members_premises, members_behind}
+use Rattle.tsa_tree.specs.types.Structs.{inside_struct, struct_premises}
 use Rattle.tsa_tree.specs.types.Types.{single}
 use Rattle.tsa_tree.specs.types.Units.{behind_item, item_premises}
 use Rattle.tsa_tree.specs.units.Syntax.{UnitItem, structure_item, alias_item, enumeration_item, global_item, function_item, body_item}
-use Rattle.tsa_place_model.specs.Parts.{whole, parts_behind, part_in, member_behind, members_after, structure_in, unless, unless_taken, unless_named, behind_structure}
+use Rattle.tsa_place_model.specs.Parts.{whole, parts_behind, part_in, member_behind, members_after, structure_in, unless, unless_taken}
+use Rattle.tsa_place_model.specs.Parts.{unless_named, behind_structure}
 use Rattle.tsa_place_model.specs.Parts as laid
 use Rattle.tsa_place_model.specs.Items.{worth_written, worth, enumerators_behind, known_global, behind_data}
 use Rattle.tsa_core.proofs.KindTests.{both_true, not_false, neither}

@@ -12,7 +12,8 @@ use Rattle.tsa_core.proofs.PointsHold.{each_all}
 use Rattle.tsa_core.proofs.ScopesBelong.{scopes_belong}
 use Rattle.tsa_core.proofs.SignaturesFit.{SoundBody, body_sound}
 use Rattle.tsa_core.specs.Bodies.{knows, known_all, known_in_body}
-use Rattle.tsa_core.specs.PointLoads.{init_cells, right_cells, written_cells, cells_inside, cells_before, UsesAreOfCells, LoadsAgree, LoadsJustThose, PointsLoadTheirCells, PointsLoadJustThose}
+use Rattle.tsa_core.specs.PointLoads.{init_cells, right_cells, written_cells, cells_inside, cells_before, UsesAreOfCells, LoadsAgree}
+use Rattle.tsa_core.specs.PointLoads.{LoadsJustThose, PointsLoadTheirCells, PointsLoadJustThose}
 use Rattle.tsa_core.specs.Uses.{accesses, init_uses, uses_by}
 use Rattle.tsa_core.specs.Programs.{Bodied, bodied_function}
 use Rattle.tsa_place_model.specs.Leading.{HasPlaces}

@@ -1,5 +1,6 @@
 -- Where a value of a kind is wanted, what an expression means serves; and a call's answer is that of its point.
-use Rattle.std.proofs.Common.{◌≡◌, ◌∙◌, ℕ, nat_eq, Bool, true, false, not, ◌&&◌, ◌||◌, Some, None, is_some, is_none, option_and_then, if◌then◌else◌, refl, sym, ap, ap₂}
+use Rattle.std.proofs.Common.{◌≡◌, ◌∙◌, ℕ, nat_eq, Bool, true, false, not, ◌&&◌, ◌||◌, Some, None, is_some, is_none, option_and_then}
+use Rattle.std.proofs.Common.{if◌then◌else◌, refl, sym, ap, ap₂}
 use Rattle.tsa_tree.specs.declared.expr.BinaryOp.TheVariants as op
 use Rattle.tsa_tree.specs.declared.expr.UnaryOp.TheVariants as prefix
 use Rattle.tsa_tree.specs.declared.kind.ExpressionType.{ExpressionType}
@@ -9,14 +10,16 @@ use Rattle.tsa_tree.specs.declared.kind.ThingType.{ThingType}
 use Rattle.tsa_tree.specs.expressions.Syntax.{Expression, number, null, named, call, unary, binary, field, index}
 use Rattle.tsa_tree.specs.types.Constants.{is_made_of_constants, takes_integers, without_trap, worked, constant_of}
 use Rattle.tsa_tree.specs.types.Known.{Context}
-use Rattle.tsa_tree.specs.types.Operands.{integer_kind, pointer_kind, unsigned_kind, is_single, is_integer, is_scalar, target_of, same_target, keeps_const, goes_to}
+use Rattle.tsa_tree.specs.types.Operands.{integer_kind, pointer_kind, unsigned_kind, is_single, is_integer, is_scalar, target_of}
+use Rattle.tsa_tree.specs.types.Operands.{same_target, keeps_const, goes_to}
 use Rattle.tsa_tree.specs.types.Runnable.{has_call, is_small, is_scalar_kind}
 use Rattle.tsa_tree.specs.types.Scopes.{Scope}
 use Rattle.tsa_core.specs.Kinds.{Setting, scalar_kind, conversion_kind, value_kind, GiveAnswer}
 use Rattle.tsa_core.specs.Meanings.{is_structure, loaded, is_int, as_kind, null_pointer, or_call, call_in}
 use Rattle.tsa_core.specs.PointKinds.{serves, Serves}
 use Rattle.tsa_core.specs.Terms.{Term, converted, Sense}
-use Rattle.tsa_core.proofs.KindTests.{both_true, neither, one_of, and_true, pointer_plain, integer_plain, scalar_plain, scalar_small, integer_is, scalar_is}
+use Rattle.tsa_core.proofs.KindTests.{both_true, neither, one_of, and_true, pointer_plain, integer_plain, scalar_plain, scalar_small}
+use Rattle.tsa_core.proofs.KindTests.{integer_is, scalar_is}
 use Rattle.tsa_core.proofs.KindsOfOperators.{Holds, integer_loaded, pointer_loaded}
 use Rattle.tsa_base.proofs.Truths.{never}
 

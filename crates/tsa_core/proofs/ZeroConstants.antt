@@ -13,7 +13,8 @@ use Rattle.tsa_tree.specs.declared.meaning.Meaning.{Meaning}
 use Rattle.tsa_tree.specs.declared.meaning.Meaning.TheVariants as meant
 use Rattle.tsa_tree.specs.expressions.Syntax.{Expression, number, null, named, call, unary, binary, field, index}
 use Rattle.tsa_tree.specs.types.Expressions.{entry_type}
-use Rattle.tsa_tree.specs.types.Operands.{integer_kind, pointer_kind, is_single, is_integer, is_pointer, target_of, same_target, keeps_const, null_beside, comparable, goes_to, prefix_type, binary_type}
+use Rattle.tsa_tree.specs.types.Operands.{integer_kind, pointer_kind, is_single, is_integer, is_pointer, target_of, same_target}
+use Rattle.tsa_tree.specs.types.Operands.{keeps_const, null_beside, comparable, goes_to, prefix_type, binary_type}
 use Rattle.tsa_tree.specs.types.Scopes.{Scope, known_in}
 use Rattle.tsa_core.proofs.KindTests.{both_true, one_of, pointer_plain, integer_plain, integer_is, pointer_is}
 use Rattle.tsa_core.specs.Cells.{inner_cells, argument_cells, cells_read}

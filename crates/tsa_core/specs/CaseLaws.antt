@@ -4,7 +4,8 @@ use Rattle.std.specs.List.{list_any}
 use Rattle.tsa_base.specs.declared.token.Span.{Span}
 use Rattle.tsa_tree.specs.declared.item.Item.{Item}
 use Rattle.tsa_tree.specs.expressions.Syntax.{Expression}
-use Rattle.tsa_tree.specs.statements.Syntax.{Statement, block, if_alone, if_else, while_loop, do_loop, for_loop, switch, case, otherwise, label, Statements, none, more}
+use Rattle.tsa_tree.specs.statements.Syntax.{Statement, block, if_alone, if_else, while_loop, do_loop, for_loop, switch, case, otherwise}
+use Rattle.tsa_tree.specs.statements.Syntax.{label, Statements, none, more}
 use Rattle.tsa_tree.specs.types.Units.{outset, refusal_of_types}
 use Rattle.tsa_tree.specs.units.Sound.{SoundItems}
 use Rattle.tsa_tree.specs.units.Shapes.{item_shapes}

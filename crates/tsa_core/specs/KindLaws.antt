@@ -1,5 +1,5 @@
--- Laws of kinds in bodies: what is known at their points belongs to the layout of the unit and to their locals, and what is done there has the kinds that
--- are wanted.
+-- Laws of kinds in bodies: what is known at their points belongs to the layout of the unit and to their locals, and what is done there has
+-- the kinds that are wanted.
 use Rattle.std.specs.Prelude.{◌≡◌, ℕ, List, [], ◌++◌, All, map, Option, Some, None, option_map, slice_get}
 use Rattle.tsa_tree.specs.declared.kind.Kind.{Kind}
 use Rattle.tsa_tree.specs.types.DeclaredTypes.{thing_type}
@@ -37,8 +37,8 @@ signatures p = record {
   params = λ n. option_map (λ f. map (λ t. t.kind) f.params) (slice_get p.functions n);
 }
 
--- at each point of a body of a unit the terms of the action and of the call have the kinds that are wanted: by the layout of the unit, the locals and the
--- result of the body, and the functions of the program
+-- at each point of a body of a unit the terms of the action and of the call have the kinds that are wanted: by the layout of the unit, the
+-- locals and the result of the body, and the functions of the program
 abbrev pub PointsHaveTheirKinds : Type 0
 PointsHaveTheirKinds = (items : List UnitItem) (name : List ℕ) (b : Bodied) (l : Layout) → SoundItems [] items → Runnable items → HasPlaces items l
     → bodied_function name (outset items) items ≡ Some b
@@ -50,8 +50,8 @@ BodiesAgree = (items : List UnitItem) (n : ℕ) (d : Declared) (b : Bodied) → 
     → bodied_function d.head.name.text (outset items) items ≡ Some b
     → (param_kinds b ≡ map (λ t. t.kind) (params_of d.here d.head.params)) × ((thing_type b.here b.head.result).kind ≡ (thing_type d.here d.head.result).kind)
 
--- at each point of the body of a program's function the terms have the kinds that are wanted: by the program's own layout and functions, and by the
--- function's own parameters, locals and result
+-- at each point of the body of a program's function the terms have the kinds that are wanted: by the program's own layout and functions,
+-- and by the function's own parameters, locals and result
 abbrev pub function_locals : Function → Body → ℕ → Option Kind
 function_locals f body = slice_get (map (λ t. t.kind) f.params ++ body.locals)
 

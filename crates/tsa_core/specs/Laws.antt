@@ -1,6 +1,7 @@
--- Laws of the core program: its points are those of the text, its terms have the types of their expressions, edges go from point to point by what
--- the points do, every point but a return and the end goes on, and no point speaks of a local that isn't known there.
-use Rattle.std.specs.Prelude.{◌≡◌, ℕ, ◌+◌, ◌<◌, ◌≤◌, pos, Bool, true, false, not, List, [], ◌∷◌, All, map, length, Option, Some, None, option_map, is_some, slice_get}
+-- Laws of the core program: its points are those of the text, its terms have the types of their expressions, edges go from point to point
+-- by what the points do, every point but a return and the end goes on, and no point speaks of a local that isn't known there.
+use Rattle.std.specs.Prelude.{◌≡◌, ℕ, ◌+◌, ◌<◌, ◌≤◌, pos, Bool, true, false, not, List, [], ◌∷◌, All, map, length, Option, Some, None}
+use Rattle.std.specs.Prelude.{option_map, is_some, slice_get}
 use Rattle.tsa_base.specs.declared.token.Span.{Span}
 use Rattle.tsa_tree.specs.declared.kind.ExpressionType.{ExpressionType}
 use Rattle.tsa_tree.specs.declared.kind.Kind.{Kind}
@@ -20,11 +21,13 @@ use Rattle.tsa_tree.specs.types.Targets.{declared_in_all}
 use Rattle.tsa_tree.specs.types.Units.{outset}
 use Rattle.tsa_tree.specs.units.Syntax.{UnitItem}
 use Rattle.tsa_place_model.specs.Calls.{Layout}
-use Rattle.tsa_core.specs.Bodies.{Action, evaluate, set_local, set_cell, declare, test, branch, go_on, give, Known, known_in_body, kinds_by, point_of, body_of, can_have}
+use Rattle.tsa_core.specs.Bodies.{Action, evaluate, set_local, set_cell, declare, test, branch, go_on, give, Known, known_in_body, kinds_by}
+use Rattle.tsa_core.specs.Bodies.{point_of, body_of, can_have}
 use Rattle.tsa_core.specs.Control.{Outcome, Next, Yes, No, Rest, Chosen, Edge, count_all, body_edges, next_point}
 use Rattle.tsa_core.specs.Meanings.{Call, meaning}
 use Rattle.tsa_core.specs.Programs.{Bodied, Declared, bodied_function, body_in, declared_functions, uses_in}
-use Rattle.tsa_core.specs.Terms.{Term, constant, variable, answer, global, member, element, target, load, address, converted, prefixed, joined}
+use Rattle.tsa_core.specs.Terms.{Term, constant, variable, answer, global, member, element, target, load, address, converted, prefixed}
+use Rattle.tsa_core.specs.Terms.{joined}
 
 -- a body does at its points, in order, what the text does there, and has as many
 abbrev pub PointsAreThoseOfTheText : Type 0
@@ -89,7 +92,8 @@ abbrev pub OutcomesAreOfThePoints : Type 0
 OutcomesAreOfThePoints = (here : Scope) (body : Statements)
     → All (λ e. option_map (λ k. goes k e.outcome) (slice_get (known_in_body here body) e.from) ≡ Some true) (body_edges here body)
 
--- Every point goes on for each outcome that it may have, but for the values that a switch doesn't name: for those it goes on as for the rest.
+-- Every point goes on for each outcome that it may have, but for the values that a switch doesn't name: for those it goes on as for the
+-- rest.
 abbrev pub is_chosen : Outcome → Bool
 is_chosen (Chosen z) = true
 is_chosen _ = false

@@ -9,7 +9,8 @@ use Rattle.tsa_tree.specs.types.Runnable.{is_free}
 use Rattle.tsa_tree.specs.types.Scopes.{Scope, context_of}
 use Rattle.tsa_core.specs.Cells.{cells_read, inner_cells}
 use Rattle.tsa_core.specs.Meanings.{as_kind, loaded, meaning}
-use Rattle.tsa_core.specs.Terms.{Term, constant, variable, answer, global, member, element, target, load, address, converted, prefixed, joined}
+use Rattle.tsa_core.specs.Terms.{Term, constant, variable, answer, global, member, element, target, load, address, converted, prefixed}
+use Rattle.tsa_core.specs.Terms.{joined}
 
 -- The places of the loads in a term, an outer load before those inside it, where other loads stand for those of the answer.
 abbrev pub loads_with : (of_answer : List Term) → Term → List Term
@@ -34,8 +35,8 @@ loads x = loads_with [] x
 abbrev pub places : Scope → List Expression → List Term
 places here cells = map (λ e. (meaning here e).term) cells
 
--- of a typed expression without a call, the cells that are read on the way to what it stands for are those that its term loads, and the cells that are
--- read for its value are those that its value loads
+-- of a typed expression without a call, the cells that are read on the way to what it stands for are those that its term loads, and the
+-- cells that are read for its value are those that its value loads
 abbrev pub LoadsAreCells : Type 0
 LoadsAreCells = (here : Scope) (e : Expression) (t : ExpressionType) → type_of (context_of here) e ≡ Some t → is_free e ≡ true
     → (loads (meaning here e).term ≡ places here (inner_cells here e)) × (loads (loaded (meaning here e)) ≡ places here (cells_read here e))

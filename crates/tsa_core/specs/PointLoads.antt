@@ -1,4 +1,5 @@
--- The accesses of a point are the loads and the write of its terms: what the arguments of its call and its action load, and the cell that it sets.
+-- The accesses of a point are the loads and the write of its terms: what the arguments of its call and its action load, and the cell that
+-- it sets.
 use Rattle.std.specs.Prelude.{◌≡◌, ◌⊎◌, ℕ, Bool, true, false, List, [], ◌∷◌, ◌++◌, All, Option, Some, None}
 use Rattle.std.specs.List.{Contains, flat_map}
 use Rattle.tsa_tree.specs.declarations.Syntax.{Initialiser, value}
@@ -13,7 +14,8 @@ use Rattle.tsa_tree.specs.units.Sound.{SoundItems}
 use Rattle.tsa_tree.specs.units.Syntax.{UnitItem}
 use Rattle.tsa_place_model.specs.Calls.{Layout}
 use Rattle.tsa_place_model.specs.Leading.{HasPlaces}
-use Rattle.tsa_core.specs.Bodies.{Action, evaluate, set_local, set_cell, declare, test, branch, go_on, give, Point, Known, known_in_body, point_of}
+use Rattle.tsa_core.specs.Bodies.{Action, evaluate, set_local, set_cell, declare, test, branch, go_on, give, Point, Known, known_in_body}
+use Rattle.tsa_core.specs.Bodies.{point_of}
 use Rattle.tsa_core.specs.Cells.{own_cell, inner_cells, cells_read, read_before}
 use Rattle.tsa_core.specs.Loads.{loads, loads_with, places}
 use Rattle.tsa_core.specs.Meanings.{Call}
@@ -49,8 +51,8 @@ abbrev pub old_value : Action → List Term
 old_value (set_cell place (Some op) kind x) = place ∷ []
 old_value action = []
 
--- The cells that a point reads on the right; and of an assignment's left side the cell that is written, those that are read on the way to it, and the
--- cell itself where it is read before.
+-- The cells that a point reads on the right; and of an assignment's left side the cell that is written, those that are read on the way to
+-- it, and the cell itself where it is read before.
 abbrev pub init_cells : Scope → Option Initialiser → List Expression
 init_cells here (Some (value e)) = cells_read here e
 init_cells here init = []
@@ -100,7 +102,8 @@ abbrev pub PointsLoadTheirCells : Type 0
 PointsLoadTheirCells = (items : List UnitItem) (name : List ℕ) (b : Bodied) (l : Layout) → SoundItems [] items → Runnable items → HasPlaces items l
     → bodied_function name (outset items) items ≡ Some b → All (LoadsAgree (thing_type b.here b.head.result).kind) (known_in_body b.here b.body)
 
--- a place is loaded at a point, by the arguments of its call or by its action, exactly where it is one of the cells that are read on the right
+-- a place is loaded at a point, by the arguments of its call or by its action, exactly where it is one of the cells that are read on the
+-- right
 abbrev pub LoadedAt : Point → Term → Type 0
 LoadedAt p x = Contains (call_loads p.call) x ⊎ Contains (loads_right [] p.action) x
 

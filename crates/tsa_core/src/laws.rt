@@ -3,7 +3,9 @@ ghost use Rattle.tsa_core.specs.CaseLaws.{CasesDiffer, ReadCasesStandApart, Read
 ghost use Rattle.tsa_core.specs.Examples.{ControlIsAsWritten, PointsAreAsWritten, UsesAreAsWritten, ProgramsAreAsWritten};
 ghost use Rattle.tsa_core.specs.KindLaws.{ScopesBelong, PointsHaveTheirKinds, BodiesAgree, ProgramsAreWellKinded};
 ghost use Rattle.tsa_core.specs.Kinds.{TermsHaveTheirKinds};
-ghost use Rattle.tsa_core.specs.Laws.{PointsAreThoseOfTheText, TermsHaveTheirTypes, EdgesStayInside, EdgesAreFollowed, FunctionsAreNumbered, OutcomesAreOfTheActions, OutcomesAreOfThePoints, LocalsAreListed, PointsGoOn, PointsSpeakOfKnown, BodiesBeginBelow, UsesStandBesidePoints};
+ghost use Rattle.tsa_core.specs.Laws.{PointsAreThoseOfTheText, TermsHaveTheirTypes, EdgesStayInside, EdgesAreFollowed};
+ghost use Rattle.tsa_core.specs.Laws.{FunctionsAreNumbered, OutcomesAreOfTheActions, OutcomesAreOfThePoints, LocalsAreListed, PointsGoOn};
+ghost use Rattle.tsa_core.specs.Laws.{PointsSpeakOfKnown, BodiesBeginBelow, UsesStandBesidePoints};
 ghost use Rattle.tsa_core.specs.Loads.{LoadsAreCells, ConversionsKeepLoads};
 ghost use Rattle.tsa_core.specs.PointLoads.{UsesAreOfCells, PointsLoadTheirCells, PointsLoadJustThose};
 
@@ -22,7 +24,8 @@ pub fn edges_stay_inside()
     ensures { EdgesStayInside }
 {}
 
-/// An edge's outcome is one that the point from which it goes may have, so that a constant test has only its own, and one that its action can have.
+/// An edge's outcome is one that the point from which it goes may have, so that a constant test has only its own, and one that its action
+/// can have.
 pub fn outcomes_are_of_the_actions()
     ensures points { OutcomesAreOfThePoints }
     ensures actions { OutcomesAreOfTheActions }
@@ -82,7 +85,8 @@ pub fn uses_stand_beside_points()
     ensures { UsesStandBesidePoints }
 {}
 
-/// The control of a body is the graph of its next points: where an edge's outcome is no choice of a switch, the next point is the one to which it leads.
+/// The control of a body is the graph of its next points: where an edge's outcome is no choice of a switch, the next point is the one to
+/// which it leads.
 pub fn edges_are_followed()
     ensures { EdgesAreFollowed }
 {}
@@ -112,7 +116,8 @@ pub fn programs_are_well_kinded()
     ensures { ProgramsAreWellKinded }
 {}
 
-/// Of a typed expression without a call, the cells that are read are those that its term and its value load, and to convert the value changes no load.
+/// Of a typed expression without a call, the cells that are read are those that its term and its value load, and to convert the value
+/// changes no load.
 pub fn loads_are_cells()
     ensures read { LoadsAreCells }
     ensures converted { ConversionsKeepLoads }

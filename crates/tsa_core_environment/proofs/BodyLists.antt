@@ -1,5 +1,6 @@
 -- The bodies of a unit by the names of their functions, item by item.
-use Rattle.std.proofs.Common.{◌≡◌, ◌∙◌, ℕ, ◌+◌, suc, arith, Bool, true, false, ◌||◌, List, [], ◌∷◌, drop, Option, Some, None, is_some, option_map, if◌then◌else◌, refl, sym, ap, subst}
+use Rattle.std.proofs.Common.{◌≡◌, ◌∙◌, ℕ, ◌+◌, suc, arith, Bool, true, false, ◌||◌, List, [], ◌∷◌, drop, Option, Some, None, is_some}
+use Rattle.std.proofs.Common.{option_map, if◌then◌else◌, refl, sym, ap, subst}
 use Rattle.std.specs.Borrow.{Bor}
 use Rattle.std.proofs.lemmas.Slice.Eq.{bytes_eq-Decides}
 use Rattle.std.specs.Str.{bytes_eq}
@@ -20,7 +21,8 @@ use Rattle.tsa_tree.specs.units.Syntax.{UnitItem, structure_item, alias_item, en
 use Rattle.tsa_core.specs.Programs.{Bodied, or_body, bodied_by, bodied_function, body_in, stable_locals}
 use Rattle.tsa_core.proofs.NoFailure.{none_of_both}
 use Rattle.tsa_core.proofs.UnitScopes.{or_other, found_append, or_none}
-use Rattle.tsa_core_environment.specs.Bodies.{Table, unless_known, with_first, stable_or, stable_of, with_body, with_item, bodies_behind, bodies_of}
+use Rattle.tsa_core_environment.specs.Bodies.{Table, unless_known, with_first, stable_or, stable_of, with_body, with_item, bodies_behind}
+use Rattle.tsa_core_environment.specs.Bodies.{bodies_of}
 use Rattle.tsa_base.proofs.Truths.{never}
 
 -- WHAT IS FOUND

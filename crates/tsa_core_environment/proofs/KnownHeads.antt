@@ -1,5 +1,6 @@
 -- What is known inside a function, and behind it again.
-use Rattle.std.proofs.Common.{◌≡◌, ◌∙◌, slice_get, ℕ, ◌+◌, suc, arith, Bool, false, List, [], ◌∷◌, ◌++◌, drop, take, length, Option, Some, None, is_some, option_map, refl, sym, ap, subst}
+use Rattle.std.proofs.Common.{◌≡◌, ◌∙◌, slice_get, ℕ, ◌+◌, suc, arith, Bool, false, List, [], ◌∷◌, ◌++◌, drop, take, length, Option, Some}
+use Rattle.std.proofs.Common.{None, is_some, option_map, refl, sym, ap, subst}
 use Rattle.std.specs.Borrow.{Bor}
 use Rattle.std.proofs.Math.Seq.{take-append_seam}
 use Rattle.std.proofs.lemmas.List.{append-nil, append_assoc}
@@ -16,7 +17,8 @@ use Rattle.tsa_tree.specs.declared.stmt.Stmt.{Stmt}
 use Rattle.tsa_tree.specs.expressions.Syntax.{Identifier}
 use Rattle.tsa_tree.specs.types.Attributes.{attributes_premises}
 use Rattle.tsa_tree.specs.types.DeclaredTypes.{declared_premises}
-use Rattle.tsa_tree.specs.types.Heads.{is_another, bodied, again, behind_known, behind_head, local_entry, with_param, params_premises, inside_params, inside, head_premises}
+use Rattle.tsa_tree.specs.types.Heads.{is_another, bodied, again, behind_known, behind_head, local_entry, with_param, params_premises}
+use Rattle.tsa_tree.specs.types.Heads.{inside_params, inside, head_premises}
 use Rattle.tsa_tree.specs.types.Premises.{first}
 use Rattle.tsa_tree.specs.types.Scopes.{Scope, FunctionEntry, found, with_names, with_named, with_locals, is_named_taken}
 use Rattle.tsa_tree.specs.types.Units.{behind_item}

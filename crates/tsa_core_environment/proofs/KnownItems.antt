@@ -1,5 +1,6 @@
 -- What is known behind an item of a typed unit, where each name is known unless it is taken.
-use Rattle.std.proofs.Common.{◌≡◌, ◌∙◌, ℕ, ℤ, pos, ◌+◌, suc, arith, ◌+ℤ◌, false, ◌||◌, List, [], ◌∷◌, ◌++◌, drop, length, Option, Some, None, is_some, refl, sym, ap, subst}
+use Rattle.std.proofs.Common.{◌≡◌, ◌∙◌, ℕ, ℤ, pos, ◌+◌, suc, arith, ◌+ℤ◌, false, ◌||◌, List, [], ◌∷◌, ◌++◌, drop, length, Option, Some}
+use Rattle.std.proofs.Common.{None, is_some, refl, sym, ap, subst}
 use Rattle.tsa_base.specs.declared.token.Span.{Span}
 use Rattle.tsa_tree.specs.attributes.Syntax.{Attribute}
 use Rattle.tsa_tree.specs.declarations.Syntax.{Declaration, EnumConstant, DeclaredType}
@@ -16,11 +17,13 @@ use Rattle.tsa_tree.specs.expressions.Syntax.{Identifier, Expression}
 use Rattle.tsa_tree.specs.types.Attributes.{attributes_premises}
 use Rattle.tsa_tree.specs.types.Constants.{constant_of}
 use Rattle.tsa_tree.specs.types.DeclaredTypes.{declared_premises, thing_type, typed_value}
-use Rattle.tsa_tree.specs.types.Enums.{int_value, written_value, value_or_zero, value_premises, enumerator_entry, enumerator_value, enumerator_premises, enum_premises, other_enum, behind_enumerators, behind_enum}
+use Rattle.tsa_tree.specs.types.Enums.{int_value, written_value, value_or_zero, value_premises, enumerator_entry, enumerator_value}
+use Rattle.tsa_tree.specs.types.Enums.{enumerator_premises, enum_premises, other_enum, behind_enumerators, behind_enum}
 use Rattle.tsa_tree.specs.types.Expressions.{type_of}
 use Rattle.tsa_tree.specs.types.Globals.{global_entry, global_premises, with_global}
 use Rattle.tsa_tree.specs.types.Premises.{first}
-use Rattle.tsa_tree.specs.types.Scopes.{Scope, Members, found, context_of, tag_in, with_owned, with_name, with_named, with_struct, with_alias, a_type_name, is_taken, is_named_taken}
+use Rattle.tsa_tree.specs.types.Scopes.{Scope, Members, found, context_of, tag_in, with_owned, with_name, with_named, with_struct}
+use Rattle.tsa_tree.specs.types.Scopes.{with_alias, a_type_name, is_taken, is_named_taken}
 use Rattle.tsa_tree.specs.types.Structs.{with_member, member_premises, members_premises, members_behind, struct_premises, behind_struct}
 use Rattle.tsa_tree.specs.types.Types.{single}
 use Rattle.tsa_place_model.specs.Parts.{member_behind, members_after, unless, unless_taken, unless_named}

@@ -43,7 +43,8 @@ fn keep_body<'a>(
 ) -> Result<Scope<'a>, NoMemory>
     requires typed { first (head_premises before (head_shape function.now) (is_some function.now.body)) ≡ None }
     ensures behind { IfOk result (λ after. after ≡ behind_head before.entry (head_shape function.now) (is_some function.now.body)) }
-    ensures kept { OnOk result (table.new ≡ with_body (inside before.entry (head_shape function.now) (is_some function.now.body)) (head_shape function.now) (stmt_shapes body.now) table.old) }
+    ensures kept { OnOk result (table.new ≡ with_body (inside before.entry (head_shape function.now) (is_some function.now.body))
+        (head_shape function.now) (stmt_shapes body.now) table.old) }
 {
     let mut inside = before;
     let outside = enter(&mut inside, function)?;
@@ -157,7 +158,9 @@ impl<'a> Bodies<'a> {
 
     /// Which locals of a function's body never change, of which its attributes see the parameters; without a body no parameter does.
     pub fn stable(&self, head: &FnTree<'_>) -> Result<Vec<bool>, NoMemory>
-        ensures { IfOk result (λ stable. stable.items ≡ spec_stable_locals (length (head_shape head.now).params) (bodied_function head.now.name.text.now (spec_outset (item_shapes self.now.items.now)) (item_shapes self.now.items.now))) }
+        ensures { IfOk result (λ stable. stable.items
+            ≡ spec_stable_locals (length (head_shape head.now).params)
+            (bodied_function head.now.name.text.now (spec_outset (item_shapes self.now.items.now)) (item_shapes self.now.items.now))) }
     {
         self.table.get(head.name.text, params_count(head))
     }

@@ -3,7 +3,8 @@ ghost use Rattle.std.specs.Prelude.{◌≡◌, None, Bool, false, take, length, 
 ghost use Rattle.tsa_core_environment.specs.Functions.{outside_of, IsInside};
 ghost use Rattle.tsa_tree.specs.declarations.Shapes.{param_shape, param_shapes, head_shape};
 ghost use Rattle.tsa_tree.specs.declarations.Syntax.{Head};
-ghost use Rattle.tsa_tree.specs.types.Heads.{params_of, behind_known, behind_head, with_param, params_premises, inside_params, inside, head_premises};
+ghost use Rattle.tsa_tree.specs.types.Heads.{params_of, behind_known, behind_head, with_param, params_premises, inside_params, inside};
+ghost use Rattle.tsa_tree.specs.types.Heads.{head_premises};
 ghost use Rattle.tsa_tree.specs.types.Premises.{first};
 ghost use Rattle.tsa_tree.specs.types.Scopes.{Scope as Known, found, with_names, with_locals, is_named_taken};
 
@@ -34,7 +35,8 @@ fn params_types(scope: &Scope<'_>, params: &[Param<'_>]) -> Result<Vec<ThingType
 
 /// A function that is declared for the first time, where its name is free.
 fn add_function<'a>(scope: &mut Scope<'a>, head: &FnTree<'a>) -> Result<(), NoMemory>
-    ensures { OnOk result (found scope.old.names head.now.name.text.now ≡ None → scope.new ≡ behind_known scope.old (head_shape head.now) (is_some head.now.body) None) }
+    ensures { OnOk result (found scope.old.names head.now.name.text.now ≡ None
+        → scope.new ≡ behind_known scope.old (head_shape head.now) (is_some head.now.body) None) }
 {
     let number = scope.next_function()?;
     let result = declared_thing(scope, &head.result)?;
@@ -75,7 +77,8 @@ fn params_count(params: &[Param<'_>]) -> Result<u32, NoMemory>
 
 /// A parameter by its number, which is known behind itself where its name is free.
 fn know_param<'a>(scope: &mut Scope<'a>, number: u32, param: &Param<'a>) -> Result<(), NoMemory>
-    ensures { OnOk result (is_named_taken (param_shape param.now).name scope.old ≡ false → scope.new ≡ with_param number (param_shape param.now) scope.old) }
+    ensures { OnOk result (is_named_taken (param_shape param.now).name scope.old ≡ false
+        → scope.new ≡ with_param number (param_shape param.now) scope.old) }
 {
     let entry = Entry {
         meaning: Meaning::Local(number),
@@ -115,7 +118,8 @@ pub fn enter<'a>(scope: &mut Scope<'a>, head: &FnTree<'a>) -> Result<Outside, No
 /// Leaves a function that was entered, however many locals were counted in it: its parameters end with it.
 pub fn leave(scope: &mut Scope<'_>, outside: Outside)
     ensures left { scope.new ≡ with_locals outside.locals (with_names (take outside.names scope.old.names) scope.old) }
-    ensures behind { (here : Known) (head : Head) (with_body : Bool) → outside ≡ outside_of here head with_body → IsInside here head with_body scope.old → scope.new ≡ behind_head here head with_body }
+    ensures behind { (here : Known) (head : Head) (with_body : Bool) → outside ≡ outside_of here head with_body
+        → IsInside here head with_body scope.old → scope.new ≡ behind_head here head with_body }
 {
     scope.leave(outside.names, outside.locals);
 }

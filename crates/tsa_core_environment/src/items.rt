@@ -23,15 +23,18 @@ use tsa_tree::meaning::{Entry, Meaning};
 
 /// A name of a type that is typed, which is known behind its item.
 pub fn know_alias<'a>(scope: &mut Scope<'a>, def: &AliasDef<'a>) -> Result<(), NoMemory>
-    requires typed { first (declared_premises scope.old Declaring.Type (is_taken def.now.name.text.now scope.old) def.now.span (type_shape def.now.ctype)) ≡ None }
-    ensures { OnOk result (scope.new ≡ with_alias (Some (name_shape def.now.name)) (thing_type scope.old (type_shape def.now.ctype)) scope.old) }
+    requires typed { first (declared_premises scope.old Declaring.Type (is_taken def.now.name.text.now scope.old) def.now.span
+        (type_shape def.now.ctype)) ≡ None }
+    ensures { OnOk result (scope.new ≡ with_alias (Some (name_shape def.now.name)) (thing_type scope.old (type_shape def.now.ctype))
+        scope.old) }
 {
     tsa_place::know_alias(scope, def)
 }
 
 /// An enum that is typed, behind which its enumerators and its name of a type are known.
 pub fn know_enum<'a>(scope: &mut Scope<'a>, def: &EnumDef<'a>) -> Result<(), NoMemory>
-    requires typed { first (enum_premises scope.old (option_map name_shape def.now.tag) (option_map name_shape def.now.alias) (enumerator_shapes def.now.values.now) def.now.span) ≡ None }
+    requires typed { first (enum_premises scope.old (option_map name_shape def.now.tag) (option_map name_shape def.now.alias)
+        (enumerator_shapes def.now.values.now) def.now.span) ≡ None }
     ensures { OnOk result (scope.new ≡ behind_enum scope.old (option_map name_shape def.now.alias) (enumerator_shapes def.now.values.now)) }
 {
     tsa_place::know_enum(scope, def)

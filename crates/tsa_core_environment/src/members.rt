@@ -82,7 +82,8 @@ pub fn end_struct<'a>(scope: &mut Scope<'a>, alias: Option<Name<'a>>) -> Result<
 
 /// A struct that is typed, which is known behind its item.
 pub fn know_struct<'a>(scope: &mut Scope<'a>, def: &StructDef<'a>) -> Result<(), NoMemory>
-    requires typed { first (struct_premises scope.old (option_map name_shape def.now.tag) (option_map name_shape def.now.alias) (attr_shapes def.now.attrs.now) (decl_shapes def.now.members.now) def.now.span) ≡ None }
+    requires typed { first (struct_premises scope.old (option_map name_shape def.now.tag) (option_map name_shape def.now.alias)
+        (attr_shapes def.now.attrs.now) (decl_shapes def.now.members.now) def.now.span) ≡ None }
     ensures { OnOk result (scope.new ≡ behind_struct scope.old (option_map name_shape def.now.alias) (decl_shapes def.now.members.now)) }
 {
     let mut members = Names::new(scope.allocator());

@@ -6,7 +6,8 @@ use Rattle.tsa_tree.specs.declared.expr.ExprKind.{ExprKind}
 use Rattle.tsa_tree.specs.declared.expr.ExprKind.TheVariants.{Number, Null, Named, Call', Unary', Binary', Field', Index'}
 use Rattle.tsa_tree.specs.expressions.Shapes.{kind_shape}
 use Rattle.tsa_tree.specs.declared.expr.BinaryOp.{BinaryOp}
-use Rattle.tsa_tree.specs.declared.expr.BinaryOp.TheVariants.{Or, And, BitOr, BitXor, BitAnd, Equal, Unequal, Less, More, LessEqual, MoreEqual, Plus, Minus, Times, Divide, Remainder}
+use Rattle.tsa_tree.specs.declared.expr.BinaryOp.TheVariants.{Or, And, BitOr, BitXor, BitAnd, Equal, Unequal, Less, More, LessEqual}
+use Rattle.tsa_tree.specs.declared.expr.BinaryOp.TheVariants.{MoreEqual, Plus, Minus, Times, Divide, Remainder}
 use Rattle.tsa_tree.specs.declared.expr.UnaryOp.{UnaryOp}
 use Rattle.tsa_tree.specs.declared.expr.UnaryOp.TheVariants as prefix
 use Rattle.tsa_tree.specs.declared.kind.ThingType.{ThingType}

@@ -1,6 +1,7 @@
 -- What an expression means doesn't depend on how many locals there are.
 use Rattle.std.proofs.Common.{ℕ, ◌≡◌, List, [], ◌∷◌, Option, Some, None, refl, ap, ap₂}
-use Rattle.tsa_tree.specs.declared.expr.BinaryOp.TheVariants.{Or, And, BitOr, BitXor, BitAnd, Equal, Unequal, Less, More, LessEqual, MoreEqual, Plus, Minus, Times, Divide, Remainder}
+use Rattle.tsa_tree.specs.declared.expr.BinaryOp.TheVariants.{Or, And, BitOr, BitXor, BitAnd, Equal, Unequal, Less, More, LessEqual}
+use Rattle.tsa_tree.specs.declared.expr.BinaryOp.TheVariants.{MoreEqual, Plus, Minus, Times, Divide, Remainder}
 use Rattle.tsa_tree.specs.declared.expr.UnaryOp.TheVariants as prefix
 use Rattle.tsa_tree.specs.declared.kind.Kind.{Kind}
 use Rattle.tsa_tree.specs.declared.kind.ThingType.{ThingType}
@@ -12,7 +13,8 @@ use Rattle.tsa_tree.specs.points.Syntax.{Deed, declares, evaluates, assigns, tes
 use Rattle.tsa_tree.specs.types.Scopes.{Scope, known_in, with_locals}
 use Rattle.tsa_tree.specs.types.Lookups.{params_in}
 use Rattle.tsa_core.specs.Bodies.{knows, point, test, point_of}
-use Rattle.tsa_core.specs.Meanings.{meaning, of_prefix, of_binary, of_field, of_index, arguments, as_kind, loaded, call_of, or_call, call_in}
+use Rattle.tsa_core.specs.Meanings.{meaning, of_prefix, of_binary, of_field, of_index, arguments, as_kind, loaded, call_of, or_call}
+use Rattle.tsa_core.specs.Meanings.{call_in}
 use Rattle.tsa_core_points.specs.CoreLaws.{seen_at}
 
 module _ (here : Scope) (n : ℕ) where

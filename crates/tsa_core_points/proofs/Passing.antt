@@ -4,12 +4,15 @@ use Rattle.std.proofs.lemmas.List.{append-nil, append_assoc}
 use Rattle.tsa_base.specs.declared.token.Span.{Span}
 use Rattle.tsa_tree.specs.expressions.Syntax.{Expression}
 use Rattle.tsa_tree.specs.points.Syntax.{Deed, ends}
-use Rattle.tsa_tree.specs.statements.Syntax.{Simple, evaluation, assignment, ForInit, no_init, simple_init, local_init, Statement, block, empty, local, simple, if_alone, if_else, while_loop, do_loop, for_loop, switch, case, otherwise, label, break, continue, goto, return, Statements, none, more}
+use Rattle.tsa_tree.specs.statements.Syntax.{Simple, evaluation, assignment, ForInit, no_init, simple_init, local_init, Statement, block}
+use Rattle.tsa_tree.specs.statements.Syntax.{empty, local, simple, if_alone, if_else, while_loop, do_loop, for_loop, switch, case}
+use Rattle.tsa_tree.specs.statements.Syntax.{otherwise, label, break, continue, goto, return, Statements, none, more}
 use Rattle.tsa_tree.specs.types.Scopes.{Scope, with_names, further}
 use Rattle.tsa_tree.specs.types.Statements.{behind_init, behind, behind_all}
 use Rattle.tsa_tree.specs.types.Targets.{declared_in, declared_in_all}
 use Rattle.tsa_core_points.specs.Points.{PlacedPoint, placed, placed_init, placed_step, placed_for, placed_in, placed_all}
-use Rattle.tsa_core_points.specs.Steps.{BodyStep, does, closes, nested, init_steps, third_steps, test_step, for_test, steps_of, steps_of_all}
+use Rattle.tsa_core_points.specs.Steps.{BodyStep, does, closes, nested, init_steps, third_steps, test_step, for_test, steps_of}
+use Rattle.tsa_core_points.specs.Steps.{steps_of_all}
 use Rattle.tsa_core_points.specs.Walks.{Walk, walk, behind_deed, pass, walk_behind, points_at, points_along}
 use Rattle.tsa_core_points.specs.Laws.{StatementsArePassed, StepsAreThePoints, BodyStepsAreThePoints}
 use Rattle.tsa_core_points.proofs.Closing.{closes_one, closes_all, closes_for, further_further, further_none}

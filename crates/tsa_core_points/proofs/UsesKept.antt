@@ -1,7 +1,9 @@
 -- What is used at a point doesn't depend on how many locals there are.
-use Rattle.std.proofs.Common.{ℕ, ◌≡◌, ◌∙◌, Bool, true, false, List, [], ◌∷◌, ◌++◌, Option, Some, None, option_map, refl, ap, ap₂, if◌then◌else◌}
+use Rattle.std.proofs.Common.{ℕ, ◌≡◌, ◌∙◌, Bool, true, false, List, [], ◌∷◌, ◌++◌, Option, Some, None, option_map, refl, ap, ap₂}
+use Rattle.std.proofs.Common.{if◌then◌else◌}
 use Rattle.std.specs.Prelude.{option_and_then}
-use Rattle.tsa_tree.specs.declared.expr.BinaryOp.TheVariants.{Or, And, BitOr, BitXor, BitAnd, Equal, Unequal, Less, More, LessEqual, MoreEqual, Plus, Minus, Times, Divide, Remainder}
+use Rattle.tsa_tree.specs.declared.expr.BinaryOp.TheVariants.{Or, And, BitOr, BitXor, BitAnd, Equal, Unequal, Less, More, LessEqual}
+use Rattle.tsa_tree.specs.declared.expr.BinaryOp.TheVariants.{MoreEqual, Plus, Minus, Times, Divide, Remainder}
 use Rattle.tsa_tree.specs.declared.expr.UnaryOp.TheVariants as prefix
 use Rattle.tsa_tree.specs.declared.kind.Kind.{Kind}
 use Rattle.tsa_tree.specs.declared.kind.ThingType.{ThingType}
@@ -20,7 +22,8 @@ use Rattle.tsa_place_model.specs.Calls.{Layout}
 use Rattle.tsa_core.specs.Bodies.{Known, knows}
 use Rattle.tsa_core.specs.Cells.{own_cell, inner_cells, argument_cells, cells_read}
 use Rattle.tsa_core.specs.Meanings.{is_loaded, or_call}
-use Rattle.tsa_core.specs.Uses.{field_guards, access_guards, accesses, argument_ways, called_ways, call_ways, reads, uses, value_uses, uses_of}
+use Rattle.tsa_core.specs.Uses.{field_guards, access_guards, accesses, argument_ways, called_ways, call_ways, reads, uses, value_uses}
+use Rattle.tsa_core.specs.Uses.{uses_of}
 use Rattle.tsa_core_points.specs.CoreLaws.{seen_at}
 use Rattle.tsa_core_points.proofs.Meanings.{meaning_kept}
 

@@ -90,7 +90,8 @@ fn unchanged(scope: &Scope<'_>) -> Result<Vec<bool>, NoMemory>
 
 /// Whether each local of a body never changes, along the body's steps: first those that are known where it begins.
 pub fn stable_locals<'a>(walk: &mut Walk<'a>, steps: &[Step<'a>]) -> Result<Vec<bool>, NoMemory>
-    ensures stable { IfOk result (λ stable. stable.items ≡ stable_along (replicate walk.old.here.locals true) walk.old (map step_shape steps.now)) }
+    ensures stable { IfOk result (λ stable. stable.items ≡ stable_along (replicate walk.old.here.locals true) walk.old
+        (map step_shape steps.now)) }
     ensures behind { OnOk result (walk.new ≡ walk_behind walk.old (map step_shape steps.now)) }
 {
     let mut stable = unchanged(walk.scope())?;

@@ -2,7 +2,8 @@
 ghost use Rattle.std.specs.Prelude.{◌≡◌, ◌+◌, ◌++◌, ◌∷◌, [], map, option_map, OnOk, IfOk};
 ghost use Rattle.tsa_tree.specs.expressions.Shapes.{shape};
 ghost use Rattle.tsa_tree.specs.statements.Shapes.{action_shape, stmt_shape, stmt_shapes, init_given, step_given, step_of};
-ghost use Rattle.tsa_core_points.specs.Steps.{does, opens, closes, nested, init_steps, third_steps, test_step, for_test, steps_of, steps_of_all, body_steps as steps_of_body, step_shape, leaf_steps, value_step};
+ghost use Rattle.tsa_core_points.specs.Steps.{does, opens, closes, nested, init_steps, third_steps, test_step, for_test, steps_of};
+ghost use Rattle.tsa_core_points.specs.Steps.{steps_of_all, body_steps as steps_of_body, step_shape, leaf_steps, value_step};
 
 use std::alloc::Global;
 use tsa_base::{NoMemory, Span};
@@ -80,7 +81,8 @@ fn put_for_test<'a>(
     span: Span,
     test: Option<&'a Expr<'a>>,
 ) -> Result<(), NoMemory>
-    ensures { OnOk result (map step_shape steps.new.items ≡ map step_shape steps.old.items ++ for_test span (option_map (λ x. shape x.now) test.entry) ∷ []) }
+    ensures { OnOk result (map step_shape steps.new.items ≡ map step_shape steps.old.items
+        ++ for_test span (option_map (λ x. shape x.now) test.entry) ∷ []) }
 {
     match test {
         Some(test) => put_test(steps, test),
@@ -90,7 +92,8 @@ fn put_for_test<'a>(
 
 /// A statement that evaluates or assigns.
 fn put_simple<'a>(steps: &mut Vec<Step<'a>>, stmt: &'a Stmt<'a>) -> Result<(), NoMemory>
-    ensures { OnOk result (map step_shape steps.new.items ≡ map step_shape steps.old.items ++ third_steps (step_of stmt.entry.now.kind stmt.entry.now.span)) }
+    ensures { OnOk result (map step_shape steps.new.items ≡ map step_shape steps.old.items
+        ++ third_steps (step_of stmt.entry.now.kind stmt.entry.now.span)) }
 {
     match &stmt.kind {
         StmtKind::Eval(tree) => put_point(steps, Action::Eval(tree), stmt.span),
@@ -134,7 +137,8 @@ fn put_head<'a>(
     span: Span,
     test: Option<&'a Expr<'a>>,
 ) -> Result<(), NoMemory>
-    ensures { OnOk result (map step_shape steps.new.items ≡ map step_shape steps.old.items ++ opens ∷ (init_steps (init_given init.entry) ++ for_test span (option_map (λ x. shape x.now) test.entry) ∷ [])) }
+    ensures { OnOk result (map step_shape steps.new.items ≡ map step_shape steps.old.items
+        ++ opens ∷ (init_steps (init_given init.entry) ++ for_test span (option_map (λ x. shape x.now) test.entry) ∷ [])) }
 {
     put_open(steps)?;
     put_init(steps, init)?;
@@ -143,7 +147,8 @@ fn put_head<'a>(
 
 /// A statement that has no other in it.
 fn put_leaf<'a>(steps: &mut Vec<Step<'a>>, stmt: &'a Stmt<'a>) -> Result<(), NoMemory>
-    ensures { OnOk result (map step_shape steps.new.items ≡ map step_shape steps.old.items ++ leaf_steps (stmt_shape stmt.entry.now.kind stmt.entry.now.span)) }
+    ensures { OnOk result (map step_shape steps.new.items ≡ map step_shape steps.old.items
+        ++ leaf_steps (stmt_shape stmt.entry.now.kind stmt.entry.now.span)) }
 {
     let span = stmt.span;
     match &stmt.kind {
@@ -162,7 +167,8 @@ fn put_leaf<'a>(steps: &mut Vec<Step<'a>>, stmt: &'a Stmt<'a>) -> Result<(), NoM
 /// The steps of a statement.
 #[cycle(stepping)]
 fn put_steps<'a>(steps: &mut Vec<Step<'a>>, stmt: &'a Stmt<'a>) -> Result<(), NoMemory>
-    ensures { OnOk result (map step_shape steps.new.items ≡ map step_shape steps.old.items ++ steps_of (stmt_shape stmt.now.kind stmt.now.span)) }
+    ensures { OnOk result (map step_shape steps.new.items ≡ map step_shape steps.old.items
+        ++ steps_of (stmt_shape stmt.now.kind stmt.now.span)) }
 {
     match &stmt.kind {
         StmtKind::Block(items) => put_block(steps, items),
@@ -207,7 +213,8 @@ fn put_steps<'a>(steps: &mut Vec<Step<'a>>, stmt: &'a Stmt<'a>) -> Result<(), No
 /// The steps of a statement in another, whose names end with it.
 #[cycle(stepping)]
 fn put_nested<'a>(steps: &mut Vec<Step<'a>>, stmt: &'a Stmt<'a>) -> Result<(), NoMemory>
-    ensures { OnOk result (map step_shape steps.new.items ≡ map step_shape steps.old.items ++ nested (steps_of (stmt_shape stmt.now.kind stmt.now.span))) }
+    ensures { OnOk result (map step_shape steps.new.items ≡ map step_shape steps.old.items
+        ++ nested (steps_of (stmt_shape stmt.now.kind stmt.now.span))) }
 {
     put_open(steps)?;
     put_steps(steps, stmt)?;
@@ -217,7 +224,8 @@ fn put_nested<'a>(steps: &mut Vec<Step<'a>>, stmt: &'a Stmt<'a>) -> Result<(), N
 /// The steps of a block, whose names end with it.
 #[cycle(stepping)]
 fn put_block<'a>(steps: &mut Vec<Step<'a>>, items: &'a [Stmt<'a>]) -> Result<(), NoMemory>
-    ensures { OnOk result (map step_shape steps.new.items ≡ map step_shape steps.old.items ++ nested (steps_of_all (stmt_shapes items.now))) }
+    ensures { OnOk result (map step_shape steps.new.items ≡ map step_shape steps.old.items ++ nested (steps_of_all (stmt_shapes items.now)))
+        }
 {
     put_open(steps)?;
     put_all(steps, items)?;

@@ -1,5 +1,6 @@
 -- Structs and enums from their braces on, and the plain aliases of types.
-use Rattle.std.proofs.Common.{ℕ, ◌+◌, ◌≡◌, ◌≢◌, ◌∙◌, ap, sym, subst, refl, Bool, true, false, List, [], ◌∷◌, ◌++◌, Some, None, Result, Ok, Err, nat_eq}
+use Rattle.std.proofs.Common.{ℕ, ◌+◌, ◌≡◌, ◌≢◌, ◌∙◌, ap, sym, subst, refl, Bool, true, false, List, [], ◌∷◌, ◌++◌, Some, None, Result, Ok}
+use Rattle.std.proofs.Common.{Err, nat_eq}
 use Rattle.std.specs.Result.{IsErrAnd}
 use Rattle.std.specs.declared.option.Option.{Option}
 use Rattle.tsa_base.specs.Tokens.{Lexeme}
@@ -19,7 +20,8 @@ use Rattle.tsa_tree.specs.expressions.Syntax.{Identifier}
 use Rattle.tsa_tree.specs.declarations.Shapes.{type_shape}
 use Rattle.tsa_tree.specs.units.Shapes.{item_shape, item_shapes}
 use Rattle.tsa_tree.specs.Reads.{read}
-use Rattle.tsa_tree.specs.Rows.{some_declarations, a_declarator, a_struct_body, some_constants, members, struct_body, enum_body, declarator, mark, sees, a_name, a_semicolon, behind_attributes, alias_end}
+use Rattle.tsa_tree.specs.Rows.{some_declarations, a_declarator, a_struct_body, some_constants, members, struct_body, enum_body, declarator}
+use Rattle.tsa_tree.specs.Rows.{mark, sees, a_name, a_semicolon, behind_attributes, alias_end}
 use Rattle.tsa_tree.specs.tokens.Signs.{Aliases, sign_at, span_over, identifier_at}
 use Rattle.tsa_expr.specs.declared.refusal.SyntaxRefusal.{SyntaxRefusal}
 use Rattle.tsa_expr.specs.Gives.{Fails, Gives}

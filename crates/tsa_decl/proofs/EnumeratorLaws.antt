@@ -13,7 +13,8 @@ use Rattle.tsa_tree.specs.declarations.Syntax.{EnumConstant}
 use Rattle.tsa_tree.specs.expressions.Syntax.{Identifier, Expression}
 use Rattle.tsa_tree.specs.declarations.Shapes.{enumerator_shape, enumerator_shapes}
 use Rattle.tsa_tree.specs.Reads.{read}
-use Rattle.tsa_tree.specs.Rows.{Sort, an_expression, some_constants, Row, expression, constants, enum_body, a_name, an_open_brace, a_close_brace, an_equals, sees, mark, opens_brace, constants_end}
+use Rattle.tsa_tree.specs.Rows.{Sort, an_expression, some_constants, Row, expression, constants, enum_body, a_name, an_open_brace}
+use Rattle.tsa_tree.specs.Rows.{a_close_brace, an_equals, sees, mark, opens_brace, constants_end}
 use Rattle.tsa_tree.specs.tokens.Signs.{Aliases, sign_at, identifier_at}
 use Rattle.tsa_expr.specs.declared.refusal.SyntaxRefusal.{SyntaxRefusal}
 use Rattle.tsa_expr.specs.Gives.{Fails}

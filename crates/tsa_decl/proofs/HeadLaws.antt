@@ -10,7 +10,8 @@ use Rattle.tsa_tree.specs.attributes.Syntax.{Attribute}
 use Rattle.tsa_tree.specs.attributes.Answers.{read_any}
 use Rattle.tsa_tree.specs.declarations.Syntax.{Specified, Declarator, Parameter, Signature, Head, head_of}
 use Rattle.tsa_tree.specs.Reads.{read}
-use Rattle.tsa_tree.specs.Rows.{Sort, some_parameters, a_skip, a_specifier, a_declarator, a_signature, a_head, Row, parameters, storage, specifier, declarator, signature, head, an_open, sees, opens, behind_attributes, behind_storage}
+use Rattle.tsa_tree.specs.Rows.{Sort, some_parameters, a_skip, a_specifier, a_declarator, a_signature, a_head, Row, parameters, storage}
+use Rattle.tsa_tree.specs.Rows.{specifier, declarator, signature, head, an_open, sees, opens, behind_attributes, behind_storage}
 use Rattle.tsa_tree.specs.tokens.Signs.{Aliases, sign_at, is_storage}
 use Rattle.tsa_expr.specs.declared.refusal.SyntaxRefusal.{SyntaxRefusal}
 use Rattle.tsa_expr.specs.Gives.{Fails}

@@ -15,7 +15,9 @@ use Rattle.tsa_tree.specs.units.Syntax.{UnitItem}
 use Rattle.tsa_tree.specs.declarations.Shapes.{head_shape}
 use Rattle.tsa_tree.specs.units.Shapes.{item_shapes}
 use Rattle.tsa_tree.specs.Reads.{read}
-use Rattle.tsa_tree.specs.Rows.{a_specifier, a_declarator, a_signature, some_items, specifier, declarator, signature, declared, item, mark, is_keyword, sees, a_keyword, an_open, function_end, declared_of, alias_of, alias_end, structure_row, enumeration_row, structure_alias_row, enumeration_alias_row, typedef_row, item_row}
+use Rattle.tsa_tree.specs.Rows.{a_specifier, a_declarator, a_signature, some_items, specifier, declarator, signature, declared, item, mark}
+use Rattle.tsa_tree.specs.Rows.{is_keyword, sees, a_keyword, an_open, function_end, declared_of, alias_of, alias_end, structure_row}
+use Rattle.tsa_tree.specs.Rows.{enumeration_row, structure_alias_row, enumeration_alias_row, typedef_row, item_row}
 use Rattle.tsa_tree.specs.tokens.Signs.{Aliases, sign_at}
 use Rattle.tsa_expr.specs.declared.refusal.SyntaxRefusal.{SyntaxRefusal}
 use Rattle.tsa_expr.specs.Gives.{Fails}

@@ -9,7 +9,8 @@ use Rattle.tsa_tree.specs.declarations.Syntax.{Specified, Declarator, Declaratio
 use Rattle.tsa_tree.specs.declarations.Spelling.{Role, a_member}
 use Rattle.tsa_tree.specs.declarations.Shapes.{decl_shape, decl_shapes}
 use Rattle.tsa_tree.specs.Reads.{read}
-use Rattle.tsa_tree.specs.Rows.{a_specifier, a_declarator, a_declared, some_declarations, specifier, declarator, declared_rest, declarators, member_line, members, a_close_brace, sees}
+use Rattle.tsa_tree.specs.Rows.{a_specifier, a_declarator, a_declared, some_declarations, specifier, declarator, declared_rest, declarators}
+use Rattle.tsa_tree.specs.Rows.{member_line, members, a_close_brace, sees}
 use Rattle.tsa_tree.specs.tokens.Signs.{Aliases}
 use Rattle.tsa_expr.specs.declared.refusal.SyntaxRefusal.{SyntaxRefusal}
 use Rattle.tsa_expr.specs.Gives.{Fails}

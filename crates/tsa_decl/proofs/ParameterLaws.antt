@@ -1,5 +1,6 @@
 -- Parameters, one by one.
-use Rattle.std.proofs.Common.{ℕ, ◌+◌, ◌<◌, ◌≡◌, ◌≢◌, ◌∙◌, ap, sym, subst, refl, length, Bool, true, false, ◌&&◌, List, [], ◌∷◌, ◌++◌, Some, None, Ok, Err, nat_eq}
+use Rattle.std.proofs.Common.{ℕ, ◌+◌, ◌<◌, ◌≡◌, ◌≢◌, ◌∙◌, ap, sym, subst, refl, length, Bool, true, false, ◌&&◌, List, [], ◌∷◌, ◌++◌, Some}
+use Rattle.std.proofs.Common.{None, Ok, Err, nat_eq}
 use Rattle.std.proofs.lemmas.List.{length-map}
 use Rattle.tsa_base.specs.declared.token.Span.{Span}
 use Rattle.tsa_base.specs.declared.token.Token.{Token}
@@ -18,7 +19,8 @@ use Rattle.tsa_tree.specs.expressions.Syntax.{Identifier}
 use Rattle.tsa_tree.specs.declarations.Shapes.{param_shape, param_shapes}
 use Rattle.tsa_tree.specs.declarations.ItemSpelling.{parameter, parameter_start}
 use Rattle.tsa_tree.specs.Reads.{read}
-use Rattle.tsa_tree.specs.Rows.{a_specifier, some_parameters, Row, specifier, parameter_list, parameters, a_name, a_close, sees, mark, is_keyword, parameter_end}
+use Rattle.tsa_tree.specs.Rows.{a_specifier, some_parameters, Row, specifier, parameter_list, parameters, a_name, a_close, sees, mark}
+use Rattle.tsa_tree.specs.Rows.{is_keyword, parameter_end}
 use Rattle.tsa_tree.specs.tokens.Signs.{Aliases, lexemes, sign_at, identifier_at, span_over, is_void, is_close, is_lone_void}
 use Rattle.tsa_expr.specs.declared.refusal.SyntaxRefusal.{SyntaxRefusal}
 use Rattle.tsa_expr.specs.Gives.{Fails}

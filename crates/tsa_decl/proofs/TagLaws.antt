@@ -1,5 +1,6 @@
 -- Items after `struct` and `enum`, by their tags and braces.
-use Rattle.std.proofs.Common.{ℕ, ◌+◌, ◌≡◌, ◌≢◌, ◌∙◌, ap, sym, subst, refl, Bool, true, false, List, [], option_map, Some, None, Ok, Err, nat_eq}
+use Rattle.std.proofs.Common.{ℕ, ◌+◌, ◌≡◌, ◌≢◌, ◌∙◌, ap, sym, subst, refl, Bool, true, false, List, [], option_map, Some, None, Ok, Err}
+use Rattle.std.proofs.Common.{nat_eq}
 use Rattle.std.specs.declared.option.Option.{Option}
 use Rattle.tsa_base.specs.Tokens.{Lexeme}
 use Rattle.tsa_grammar.proofs.Cases.{chosen, other, goes}
@@ -15,7 +16,8 @@ use Rattle.tsa_tree.specs.units.Syntax.{UnitItem}
 use Rattle.tsa_tree.specs.expressions.Syntax.{Identifier}
 use Rattle.tsa_tree.specs.units.Shapes.{item_shapes}
 use Rattle.tsa_tree.specs.Reads.{read}
-use Rattle.tsa_tree.specs.Rows.{some_attributes, attributes, mark, sees, is_attribute_sign, an_open_brace, a_semicolon, declared_of, alias_of, structure_row, enumeration_row, structure_alias_row, enumeration_alias_row}
+use Rattle.tsa_tree.specs.Rows.{some_attributes, attributes, mark, sees, is_attribute_sign, an_open_brace, a_semicolon, declared_of}
+use Rattle.tsa_tree.specs.Rows.{alias_of, structure_row, enumeration_row, structure_alias_row, enumeration_alias_row}
 use Rattle.tsa_tree.specs.expressions.Shapes.{name_shape}
 use Rattle.tsa_tree.specs.tokens.Signs.{Aliases, sign_at, identifier_at, is_tag}
 use Rattle.tsa_expr.specs.declared.refusal.SyntaxRefusal.{SyntaxRefusal}

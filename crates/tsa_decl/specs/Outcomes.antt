@@ -10,7 +10,10 @@ use Rattle.tsa_tree.specs.declarations.Spelling.{a_global}
 use Rattle.tsa_tree.specs.expressions.Syntax.{Identifier}
 use Rattle.tsa_tree.specs.declarations.ItemSpelling.{parameter, parameter_start}
 use Rattle.tsa_tree.specs.Reads.{read}
-use Rattle.tsa_tree.specs.Rows.{an_expression, a_skip, a_specifier, a_declared, a_struct_body, a_signature, some_items, Row, expression, storage, specifier, declared_rest, struct_body, signature, declared, a_name, an_open_brace, an_equals, sees, behind_global, structure_end, structure_alias_end, enumeration_end, enumeration_alias_end, behind_storage, function_end}
+use Rattle.tsa_tree.specs.Rows.{an_expression, a_skip, a_specifier, a_declared, a_struct_body, a_signature, some_items, Row, expression}
+use Rattle.tsa_tree.specs.Rows.{storage, specifier, declared_rest, struct_body, signature, declared, a_name, an_open_brace, an_equals, sees}
+use Rattle.tsa_tree.specs.Rows.{behind_global, structure_end, structure_alias_end, enumeration_end, enumeration_alias_end, behind_storage}
+use Rattle.tsa_tree.specs.Rows.{function_end}
 use Rattle.tsa_tree.specs.tokens.Signs.{Aliases, sign_at, identifier_at, is_storage}
 use Rattle.tsa_grammar.specs.Form.{done, part}
 use Rattle.tsa_grammar.specs.Reading.{Outcome, then, choose}

@@ -128,7 +128,10 @@ pub fn structure<'a>(
     aliased: bool,
     list: &mut Vec<Item<'a>>,
 ) -> Result<u32, SyntaxRefusal>
-    ensures gives { Gives (λ next. (item_shapes list.new.items, next)) result (after (item_shapes list.old.items) (structure_at (input reader.entry) (named reader.entry) aliased opening.entry.start (attr_shapes attrs.entry.items) (option_map name_shape opening.entry.tag) opening.entry.next)) }
+    ensures gives { Gives (λ next. (item_shapes list.new.items, next)) result
+        (after (item_shapes list.old.items)
+        (structure_at (input reader.entry) (named reader.entry) aliased opening.entry.start (attr_shapes attrs.entry.items)
+        (option_map name_shape opening.entry.tag) opening.entry.next)) }
     ensures pointed { IfOk result (λ next. HaveTheirPoints list.old.items → HaveTheirPoints list.new.items) }
     ensures ends { IfOk result (λ next. (opening.entry.next < next) × (next ≤ length reader.entry.tokens.now)) }
     ensures lent { OnErr result (list.new.items ≡ list.old.items) }
@@ -156,7 +159,10 @@ pub fn enumeration<'a>(
     aliased: bool,
     list: &mut Vec<Item<'a>>,
 ) -> Result<u32, SyntaxRefusal>
-    ensures gives { Gives (λ next. (item_shapes list.new.items, next)) result (after (item_shapes list.old.items) (enumeration_at (input reader.entry) (named reader.entry) aliased opening.entry.start (option_map name_shape opening.entry.tag) opening.entry.next)) }
+    ensures gives { Gives (λ next. (item_shapes list.new.items, next)) result
+        (after (item_shapes list.old.items)
+        (enumeration_at (input reader.entry) (named reader.entry) aliased opening.entry.start (option_map name_shape opening.entry.tag)
+        opening.entry.next)) }
     ensures pointed { IfOk result (λ next. HaveTheirPoints list.old.items → HaveTheirPoints list.new.items) }
     ensures ends { IfOk result (λ next. (opening.entry.next < next) × (next ≤ length reader.entry.tokens.now)) }
     ensures lent { OnErr result (list.new.items ≡ list.old.items) }
@@ -182,7 +188,10 @@ pub fn plain_alias<'a>(
     specified: Specified<'a>,
     list: &mut Vec<Item<'a>>,
 ) -> Result<u32, SyntaxRefusal>
-    ensures gives { Gives (λ next. (item_shapes list.new.items, next)) result (after (item_shapes list.old.items) (going_items (input reader.entry) (alias_end (input reader.entry) (named reader.entry) (row_type specified.entry) specified.entry.next) specified.entry.next)) }
+    ensures gives { Gives (λ next. (item_shapes list.new.items, next)) result
+        (after (item_shapes list.old.items)
+        (going_items (input reader.entry)
+        (alias_end (input reader.entry) (named reader.entry) (row_type specified.entry) specified.entry.next) specified.entry.next)) }
     ensures pointed { IfOk result (λ next. HaveTheirPoints list.old.items → HaveTheirPoints list.new.items) }
     ensures ends { IfOk result (λ next. (specified.entry.next < next) × (next ≤ length reader.entry.tokens.now)) }
     ensures lent { OnErr result (list.new.items ≡ list.old.items) }

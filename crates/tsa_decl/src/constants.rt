@@ -52,7 +52,8 @@ fn constants<'a>(
     at: u32,
     list: &mut Vec<Enumerator<'a>, &'a Bump>,
 ) -> Result<u32, SyntaxRefusal>
-    ensures gives { Gives (λ next. (enumerator_shapes list.new.items, next)) result (after (enumerator_shapes list.old.items) (read (input reader.entry) some_constants (constants_call (named reader.entry)) at)) }
+    ensures gives { Gives (λ next. (enumerator_shapes list.new.items, next)) result
+        (after (enumerator_shapes list.old.items) (read (input reader.entry) some_constants (constants_call (named reader.entry)) at)) }
     ensures ends { IfOk result (λ next. (at < next) × (next ≤ length reader.entry.tokens.now)) }
 {
     let mut next = at;
@@ -76,7 +77,8 @@ pub fn enum_body<'a>(
     reader: Reader<'a, '_>,
     at: u32,
 ) -> Result<(&'a [Enumerator<'a>], u32), SyntaxRefusal>
-    ensures gives { Gives (λ found. (enumerator_shapes found.0.now, found.1)) result (read (input reader.entry) some_constants (body_call (named reader.entry)) at) }
+    ensures gives { Gives (λ found. (enumerator_shapes found.0.now, found.1)) result
+        (read (input reader.entry) some_constants (body_call (named reader.entry)) at) }
     ensures ends { IfOk result (λ found. (at < found.1) × (found.1 ≤ length reader.entry.tokens.now)) }
 {
     let inside = open_brace(reader, at, 0)?;

@@ -3,7 +3,8 @@ ghost use Rattle.std.specs.Prelude.{◌≡◌, ◌≢◌, ◌+◌, ◌≤◌, �
 ghost use Rattle.tsa_tree.specs.declarations.Syntax.{head_of};
 ghost use Rattle.tsa_tree.specs.declarations.Shapes.{param_shape, param_shapes, head_shape};
 ghost use Rattle.tsa_tree.specs.Reads.{read};
-ghost use Rattle.tsa_tree.specs.Rows.{some_parameters, a_signature, a_head, parameter_list as list_call, parameters as parameters_call, signature as signature_call, head as head_call};
+ghost use Rattle.tsa_tree.specs.Rows.{some_parameters, a_signature, a_head, parameter_list as list_call, parameters as parameters_call};
+ghost use Rattle.tsa_tree.specs.Rows.{signature as signature_call, head as head_call};
 ghost use Rattle.tsa_tree.specs.expressions.Shapes.{name_shape};
 ghost use Rattle.tsa_tree.specs.tokens.Signs.{sign_at, is_storage as spec_storage, is_void, is_close};
 ghost use Rattle.tsa_expr.specs.Source.{input, named};
@@ -94,7 +95,8 @@ fn parameter_of<'a>(
     name: Option<Name<'a>>,
     span: Span,
 ) -> Param<'a>
-    ensures is { param_shape result ≡ parameter_with (row_type specified.entry) star.pointer star.constant (option_map name_shape name.entry) span }
+    ensures is { param_shape result ≡ parameter_with (row_type specified.entry) star.pointer star.constant
+        (option_map name_shape name.entry) span }
 {
     Param {
         name,
@@ -116,7 +118,8 @@ fn parameter_list<'a>(
     at: u32,
     list: &mut Vec<Param<'a>, &'a Bump>,
 ) -> Result<u32, SyntaxRefusal>
-    ensures gives { Gives (λ next. (param_shapes list.new.items, next)) result (after (param_shapes list.old.items) (read (input reader.entry) some_parameters (list_call (named reader.entry)) at)) }
+    ensures gives { Gives (λ next. (param_shapes list.new.items, next)) result
+        (after (param_shapes list.old.items) (read (input reader.entry) some_parameters (list_call (named reader.entry)) at)) }
     ensures ends { IfOk result (λ next. (at < next) × (next ≤ length reader.entry.tokens.now)) }
 {
     let mut next = at;
@@ -148,7 +151,8 @@ pub fn is_lone_void(reader: Reader<'_, '_>, at: u32, sign: Sign) -> bool
 /// Parameters, a lone `void` or nothing, and the parenthesis that closes them.
 #[tactic(auto, using(crate::proofs::ParameterLaws::between))]
 fn parameters<'a>(reader: Reader<'a, '_>, at: u32) -> Result<(&'a [Param<'a>], u32), SyntaxRefusal>
-    ensures gives { Gives (λ found. (param_shapes found.0.now, found.1)) result (read (input reader.entry) some_parameters (parameters_call (named reader.entry)) at) }
+    ensures gives { Gives (λ found. (param_shapes found.0.now, found.1)) result
+        (read (input reader.entry) some_parameters (parameters_call (named reader.entry)) at) }
     ensures ends { IfOk result (λ found. (at < found.1) × (found.1 ≤ length reader.entry.tokens.now)) }
 {
     let sign = reader.sign(at);
@@ -167,7 +171,8 @@ fn parameters_in_arena<'a>(
     reader: Reader<'a, '_>,
     at: u32,
 ) -> Result<(&'a [Param<'a>], u32), SyntaxRefusal>
-    ensures gives { Gives (λ found. (param_shapes found.0.now, found.1)) result (read (input reader.entry) some_parameters (list_call (named reader.entry)) at) }
+    ensures gives { Gives (λ found. (param_shapes found.0.now, found.1)) result
+        (read (input reader.entry) some_parameters (list_call (named reader.entry)) at) }
     ensures ends { IfOk result (λ found. (at < found.1) × (found.1 ≤ length reader.entry.tokens.now)) }
 {
     let mut list = Vec::new(reader.bump);
@@ -218,7 +223,9 @@ pub fn head_behind<'a>(
     specified: Specified<'a>,
     declarator: Declarator<'a>,
 ) -> Result<(FnTree<'a>, u32), SyntaxRefusal>
-    ensures gives { Gives (λ found. (head_shape found.0, found.1)) result (head_end_at (input reader.entry) (named reader.entry) (row_type specified.entry) (row_declarator declarator.entry) declarator.entry.next) }
+    ensures gives { Gives (λ found. (head_shape found.0, found.1)) result
+        (head_end_at (input reader.entry) (named reader.entry) (row_type specified.entry) (row_declarator declarator.entry)
+        declarator.entry.next) }
     ensures bodiless { IfOk result (λ found. (found.0.body ≡ None) × (found.0.points.now ≡ [])) }
     ensures ends { IfOk result (λ found. (declarator.entry.next < found.1) × (found.1 ≤ length reader.entry.tokens.now)) }
 {
@@ -230,7 +237,8 @@ pub fn head_behind<'a>(
 /// A function up to before its `;` or block.
 #[tactic(auto, using(crate::proofs::HeadLaws::heads))]
 pub fn head<'a>(reader: Reader<'a, '_>, at: u32) -> Result<(FnTree<'a>, u32), SyntaxRefusal>
-    ensures gives { Gives (λ found. (head_shape found.0, found.1)) result (read (input reader.entry) a_head (head_call (named reader.entry)) at) }
+    ensures gives { Gives (λ found. (head_shape found.0, found.1)) result
+        (read (input reader.entry) a_head (head_call (named reader.entry)) at) }
     ensures bodiless { IfOk result (λ found. (found.0.body ≡ None) × (found.0.points.now ≡ [])) }
     ensures ends { IfOk result (λ found. (at < found.1) × (found.1 ≤ length reader.entry.tokens.now)) }
 {

@@ -3,7 +3,9 @@ ghost use Rattle.std.specs.Prelude.{◌≡◌, ◌≢◌, ◌+◌, ◌≤◌, �
 ghost use Rattle.tsa_tree.specs.declarations.Shapes.{base_shape};
 ghost use Rattle.tsa_tree.specs.units.Shapes.{item_shapes, HaveTheirPoints};
 ghost use Rattle.tsa_tree.specs.Reads.{read};
-ghost use Rattle.tsa_tree.specs.Rows.{some_items, an_open_brace, sees, declared as declared_call, item as item_call, declared_of as declared_of_row, alias_of as alias_of_row, structure_row, enumeration_row, structure_alias_row, enumeration_alias_row, typedef_row};
+ghost use Rattle.tsa_tree.specs.Rows.{some_items, an_open_brace, sees, declared as declared_call, item as item_call};
+ghost use Rattle.tsa_tree.specs.Rows.{declared_of as declared_of_row, alias_of as alias_of_row, structure_row, enumeration_row};
+ghost use Rattle.tsa_tree.specs.Rows.{structure_alias_row, enumeration_alias_row, typedef_row};
 ghost use Rattle.tsa_tree.specs.tokens.Signs.{sign_at};
 ghost use Rattle.tsa_grammar.specs.Reading.{choose};
 ghost use Rattle.tsa_expr.specs.Source.{input, named};
@@ -60,7 +62,9 @@ pub fn begin_item<'a>(
     at: u32,
     list: &mut Vec<Item<'a>>,
 ) -> Result<Begun<'a>, SyntaxRefusal>
-    ensures leads { (bodies : Bool) → Leads (seen_begun list.new.items) result (after (item_shapes list.old.items) (read (input reader.entry) some_items (item_call (named reader.entry) bodies) at)) (finished (input reader.entry) (named reader.entry) bodies) }
+    ensures leads { (bodies : Bool) → Leads (seen_begun list.new.items) result
+        (after (item_shapes list.old.items) (read (input reader.entry) some_items (item_call (named reader.entry) bodies) at))
+        (finished (input reader.entry) (named reader.entry) bodies) }
     ensures bodiless { IfOk result (λ begun. IfSome begun.head (λ head. (head.body ≡ None) × (head.points.now ≡ []))) }
     ensures kept { IfOk result (λ begun. begun.head ≢ None → list.new.items ≡ list.old.items) }
     ensures pointed { IfOk result (λ begun. HaveTheirPoints list.old.items → HaveTheirPoints list.new.items) }
@@ -82,7 +86,9 @@ fn plain_item<'a>(
     at: u32,
     list: &mut Vec<Item<'a>>,
 ) -> Result<Begun<'a>, SyntaxRefusal>
-    ensures leads { (bodies : Bool) → Leads (seen_begun list.new.items) result (after (item_shapes list.old.items) (other_item_at (input reader.entry) (named reader.entry) bodies at)) (finished (input reader.entry) (named reader.entry) bodies) }
+    ensures leads { (bodies : Bool) → Leads (seen_begun list.new.items) result
+        (after (item_shapes list.old.items) (other_item_at (input reader.entry) (named reader.entry) bodies at))
+        (finished (input reader.entry) (named reader.entry) bodies) }
     ensures bodiless { IfOk result (λ begun. IfSome begun.head (λ head. (head.body ≡ None) × (head.points.now ≡ []))) }
     ensures kept { IfOk result (λ begun. begun.head ≢ None → list.new.items ≡ list.old.items) }
     ensures pointed { IfOk result (λ begun. HaveTheirPoints list.old.items → HaveTheirPoints list.new.items) }
@@ -101,7 +107,10 @@ fn globals_or_head<'a>(
     specified: Specified<'a>,
     list: &mut Vec<Item<'a>>,
 ) -> Result<Begun<'a>, SyntaxRefusal>
-    ensures leads { (bodies : Bool) → Leads (seen_begun list.new.items) result (after (item_shapes list.old.items) (read (input reader.entry) some_items (declared_call (named reader.entry) bodies (row_type specified.entry)) specified.entry.next)) (finished (input reader.entry) (named reader.entry) bodies) }
+    ensures leads { (bodies : Bool) → Leads (seen_begun list.new.items) result
+        (after (item_shapes list.old.items)
+        (read (input reader.entry) some_items (declared_call (named reader.entry) bodies (row_type specified.entry)) specified.entry.next))
+        (finished (input reader.entry) (named reader.entry) bodies) }
     ensures bodiless { IfOk result (λ begun. IfSome begun.head (λ head. (head.body ≡ None) × (head.points.now ≡ []))) }
     ensures kept { IfOk result (λ begun. begun.head ≢ None → list.new.items ≡ list.old.items) }
     ensures pointed { IfOk result (λ begun. HaveTheirPoints list.old.items → HaveTheirPoints list.new.items) }
@@ -123,7 +132,10 @@ fn declared_of<'a>(
     base: BaseType<'a>,
     list: &mut Vec<Item<'a>>,
 ) -> Result<Begun<'a>, SyntaxRefusal>
-    ensures leads { (bodies : Bool) → Leads (seen_begun list.new.items) result (after (item_shapes list.old.items) (going_items (input reader.entry) (declared_of_row (input reader.entry) (named reader.entry) bodies (base_shape base.entry) at) at)) (finished (input reader.entry) (named reader.entry) bodies) }
+    ensures leads { (bodies : Bool) → Leads (seen_begun list.new.items) result
+        (after (item_shapes list.old.items)
+        (going_items (input reader.entry) (declared_of_row (input reader.entry) (named reader.entry) bodies (base_shape base.entry) at) at))
+        (finished (input reader.entry) (named reader.entry) bodies) }
     ensures bodiless { IfOk result (λ begun. IfSome begun.head (λ head. (head.body ≡ None) × (head.points.now ≡ []))) }
     ensures kept { IfOk result (λ begun. begun.head ≢ None → list.new.items ≡ list.old.items) }
     ensures pointed { IfOk result (λ begun. HaveTheirPoints list.old.items → HaveTheirPoints list.new.items) }
@@ -142,7 +154,9 @@ fn alias_of<'a>(
     base: BaseType<'a>,
     list: &mut Vec<Item<'a>>,
 ) -> Result<u32, SyntaxRefusal>
-    ensures gives { Gives (λ next. (item_shapes list.new.items, next)) result (after (item_shapes list.old.items) (going_items (input reader.entry) (alias_of_row (input reader.entry) (named reader.entry) (base_shape base.entry) at) at)) }
+    ensures gives { Gives (λ next. (item_shapes list.new.items, next)) result
+        (after (item_shapes list.old.items)
+        (going_items (input reader.entry) (alias_of_row (input reader.entry) (named reader.entry) (base_shape base.entry) at) at)) }
     ensures pointed { IfOk result (λ next. HaveTheirPoints list.old.items → HaveTheirPoints list.new.items) }
     ensures ends { IfOk result (λ next. (at < next) × (next ≤ length reader.entry.tokens.now)) }
     ensures lent { OnErr result (list.new.items ≡ list.old.items) }
@@ -170,7 +184,10 @@ fn struct_item<'a>(
     list: &mut Vec<Item<'a>>,
 ) -> Result<Begun<'a>, SyntaxRefusal>
     requires within { at < length reader.tokens.now }
-    ensures leads { (bodies : Bool) → Leads (seen_begun list.new.items) result (after (item_shapes list.old.items) (going_items (input reader.entry) (structure_row (input reader.entry) (named reader.entry) bodies at) (at + 1))) (finished (input reader.entry) (named reader.entry) bodies) }
+    ensures leads { (bodies : Bool) → Leads (seen_begun list.new.items) result
+        (after (item_shapes list.old.items)
+        (going_items (input reader.entry) (structure_row (input reader.entry) (named reader.entry) bodies at) (at + 1)))
+        (finished (input reader.entry) (named reader.entry) bodies) }
     ensures bodiless { IfOk result (λ begun. IfSome begun.head (λ head. (head.body ≡ None) × (head.points.now ≡ []))) }
     ensures kept { IfOk result (λ begun. begun.head ≢ None → list.new.items ≡ list.old.items) }
     ensures pointed { IfOk result (λ begun. HaveTheirPoints list.old.items → HaveTheirPoints list.new.items) }
@@ -206,7 +223,10 @@ fn enum_item<'a>(
     list: &mut Vec<Item<'a>>,
 ) -> Result<Begun<'a>, SyntaxRefusal>
     requires within { at < length reader.tokens.now }
-    ensures leads { (bodies : Bool) → Leads (seen_begun list.new.items) result (after (item_shapes list.old.items) (going_items (input reader.entry) (enumeration_row (input reader.entry) (named reader.entry) bodies at) (at + 1))) (finished (input reader.entry) (named reader.entry) bodies) }
+    ensures leads { (bodies : Bool) → Leads (seen_begun list.new.items) result
+        (after (item_shapes list.old.items)
+        (going_items (input reader.entry) (enumeration_row (input reader.entry) (named reader.entry) bodies at) (at + 1)))
+        (finished (input reader.entry) (named reader.entry) bodies) }
     ensures bodiless { IfOk result (λ begun. IfSome begun.head (λ head. (head.body ≡ None) × (head.points.now ≡ []))) }
     ensures kept { IfOk result (λ begun. begun.head ≢ None → list.new.items ≡ list.old.items) }
     ensures pointed { IfOk result (λ begun. HaveTheirPoints list.old.items → HaveTheirPoints list.new.items) }
@@ -229,7 +249,10 @@ fn typedef<'a>(
     list: &mut Vec<Item<'a>>,
 ) -> Result<u32, SyntaxRefusal>
     requires within { at < length reader.tokens.now }
-    ensures gives { Gives (λ next. (item_shapes list.new.items, next)) result (after (item_shapes list.old.items) (going_items (input reader.entry) (typedef_row (input reader.entry) (named reader.entry) at (sign_at (input reader.entry) (named reader.entry) (at + 1))) (at + 1))) }
+    ensures gives { Gives (λ next. (item_shapes list.new.items, next)) result
+        (after (item_shapes list.old.items)
+        (going_items (input reader.entry)
+        (typedef_row (input reader.entry) (named reader.entry) at (sign_at (input reader.entry) (named reader.entry) (at + 1))) (at + 1))) }
     ensures pointed { IfOk result (λ next. HaveTheirPoints list.old.items → HaveTheirPoints list.new.items) }
     ensures ends { IfOk result (λ next. (at < next) × (next ≤ length reader.entry.tokens.now)) }
     ensures lent { OnErr result (list.new.items ≡ list.old.items) }
@@ -252,7 +275,9 @@ fn struct_alias<'a>(
     list: &mut Vec<Item<'a>>,
 ) -> Result<u32, SyntaxRefusal>
     requires within { at + 1 < length reader.tokens.now }
-    ensures gives { Gives (λ next. (item_shapes list.new.items, next)) result (after (item_shapes list.old.items) (going_items (input reader.entry) (structure_alias_row (input reader.entry) (named reader.entry) at) (at + 1 + 1))) }
+    ensures gives { Gives (λ next. (item_shapes list.new.items, next)) result
+        (after (item_shapes list.old.items)
+        (going_items (input reader.entry) (structure_alias_row (input reader.entry) (named reader.entry) at) (at + 1 + 1))) }
     ensures pointed { IfOk result (λ next. HaveTheirPoints list.old.items → HaveTheirPoints list.new.items) }
     ensures ends { IfOk result (λ next. (at < next) × (next ≤ length reader.entry.tokens.now)) }
     ensures lent { OnErr result (list.new.items ≡ list.old.items) }
@@ -277,7 +302,9 @@ fn enum_alias<'a>(
     list: &mut Vec<Item<'a>>,
 ) -> Result<u32, SyntaxRefusal>
     requires within { at + 1 < length reader.tokens.now }
-    ensures gives { Gives (λ next. (item_shapes list.new.items, next)) result (after (item_shapes list.old.items) (going_items (input reader.entry) (enumeration_alias_row (input reader.entry) (named reader.entry) at) (at + 1 + 1))) }
+    ensures gives { Gives (λ next. (item_shapes list.new.items, next)) result
+        (after (item_shapes list.old.items)
+        (going_items (input reader.entry) (enumeration_alias_row (input reader.entry) (named reader.entry) at) (at + 1 + 1))) }
     ensures pointed { IfOk result (λ next. HaveTheirPoints list.old.items → HaveTheirPoints list.new.items) }
     ensures ends { IfOk result (λ next. (at < next) × (next ≤ length reader.entry.tokens.now)) }
     ensures lent { OnErr result (list.new.items ≡ list.old.items) }

@@ -4,7 +4,8 @@ ghost use Rattle.tsa_tree.specs.declarations.Spelling.{a_member};
 ghost use Rattle.tsa_tree.specs.declarations.Shapes.{decl_shapes};
 ghost use Rattle.tsa_tree.specs.units.Shapes.{item_shapes, HaveTheirPoints};
 ghost use Rattle.tsa_tree.specs.Reads.{read};
-ghost use Rattle.tsa_tree.specs.Rows.{some_declarations, declarators as declarators_call, member_line as line_call, members as members_call};
+ghost use Rattle.tsa_tree.specs.Rows.{some_declarations, declarators as declarators_call, member_line as line_call};
+ghost use Rattle.tsa_tree.specs.Rows.{members as members_call};
 ghost use Rattle.tsa_expr.specs.Source.{input, named};
 ghost use Rattle.tsa_expr.specs.Gives.{Gives};
 ghost use Rattle.tsa_decl_declarators.specs.Outcomes.{after};
@@ -25,7 +26,10 @@ fn member_declarators<'a>(
     specified: Specified<'a>,
     list: &mut Vec<Decl<'a>, &'a Bump>,
 ) -> Result<u32, SyntaxRefusal>
-    ensures gives { Gives (λ next. (decl_shapes list.new.items, next)) result (after (decl_shapes list.old.items) (read (input reader.entry) some_declarations (declarators_call (named reader.entry) a_member 1 (row_type specified.entry)) specified.entry.next)) }
+    ensures gives { Gives (λ next. (decl_shapes list.new.items, next)) result
+        (after (decl_shapes list.old.items)
+        (read (input reader.entry) some_declarations (declarators_call (named reader.entry) a_member 1 (row_type specified.entry))
+        specified.entry.next)) }
     ensures ends { IfOk result (λ next. (specified.entry.next < next) × (next ≤ count reader.entry.tokens.now)) }
 {
     let mut next = specified.next;
@@ -47,7 +51,8 @@ fn member_line<'a>(
     at: u32,
     list: &mut Vec<Decl<'a>, &'a Bump>,
 ) -> Result<u32, SyntaxRefusal>
-    ensures gives { Gives (λ next. (decl_shapes list.new.items, next)) result (after (decl_shapes list.old.items) (read (input reader.entry) some_declarations (line_call (named reader.entry) 1) at)) }
+    ensures gives { Gives (λ next. (decl_shapes list.new.items, next)) result
+        (after (decl_shapes list.old.items) (read (input reader.entry) some_declarations (line_call (named reader.entry) 1) at)) }
     ensures ends { IfOk result (λ next. (at < next) × (next ≤ count reader.entry.tokens.now)) }
 {
     let specified = specifier(reader, at)?;
@@ -61,7 +66,8 @@ pub fn members<'a>(
     at: u32,
     list: &mut Vec<Decl<'a>, &'a Bump>,
 ) -> Result<u32, SyntaxRefusal>
-    ensures gives { Gives (λ next. (decl_shapes list.new.items, next)) result (after (decl_shapes list.old.items) (read (input reader.entry) some_declarations (members_call (named reader.entry) 1) at)) }
+    ensures gives { Gives (λ next. (decl_shapes list.new.items, next)) result
+        (after (decl_shapes list.old.items) (read (input reader.entry) some_declarations (members_call (named reader.entry) 1) at)) }
     ensures ends { IfOk result (λ next. (at < next) × (next ≤ count reader.entry.tokens.now)) }
 {
     let mut next = at;
@@ -83,7 +89,9 @@ fn append_globals<'a>(
     list: &mut Vec<Item<'a>>,
 ) -> Result<u32, SyntaxRefusal>
     requires within { first.next ≤ count reader.tokens.now }
-    ensures gives { Gives (λ next. (item_shapes list.new.items, next)) result (after (item_shapes list.old.items) (globals_at (input reader.entry) (named reader.entry) (row_type specified.entry) (row_declarator first.entry) first.entry.next)) }
+    ensures gives { Gives (λ next. (item_shapes list.new.items, next)) result
+        (after (item_shapes list.old.items)
+        (globals_at (input reader.entry) (named reader.entry) (row_type specified.entry) (row_declarator first.entry) first.entry.next)) }
     ensures pointed { IfOk result (λ next. HaveTheirPoints list.old.items → HaveTheirPoints list.new.items) }
     ensures ends { IfOk result (λ next. (first.entry.next < next) × (next ≤ count reader.entry.tokens.now)) }
     ensures front { OnErr result (take (count list.old.items) list.new.items ≡ list.old.items) }
@@ -108,7 +116,9 @@ pub fn globals<'a>(
     list: &mut Vec<Item<'a>>,
 ) -> Result<u32, SyntaxRefusal>
     requires within { first.next ≤ count reader.tokens.now }
-    ensures gives { Gives (λ next. (item_shapes list.new.items, next)) result (after (item_shapes list.old.items) (globals_at (input reader.entry) (named reader.entry) (row_type specified.entry) (row_declarator first.entry) first.entry.next)) }
+    ensures gives { Gives (λ next. (item_shapes list.new.items, next)) result
+        (after (item_shapes list.old.items)
+        (globals_at (input reader.entry) (named reader.entry) (row_type specified.entry) (row_declarator first.entry) first.entry.next)) }
     ensures pointed { IfOk result (λ next. HaveTheirPoints list.old.items → HaveTheirPoints list.new.items) }
     ensures ends { IfOk result (λ next. (first.entry.next < next) × (next ≤ count reader.entry.tokens.now)) }
     ensures lent { OnErr result (list.new.items ≡ list.old.items) }

@@ -38,10 +38,14 @@ pub fn read_declaration<'a>(
     requires room { length tokens.now ≤ INPUT_LIMIT }
     requires within { at ≤ length tokens.now }
     ensures found { IfOk result (λ found. IsLongest (lexemes tokens.now) aliases.now an_item at (item_shapes found.0.now) found.1) }
-    ensures broken { (token : ℕ) → IsErrOf result (SyntaxRefusal.At SyntaxCode.SY1 token) → IsBroken (lexemes tokens.now) aliases.now an_item at token }
-    ensures left_out { (token : ℕ) → IsErrOf result (SyntaxRefusal.At SyntaxCode.AT1 token) → IsRefused (lexemes tokens.now) aliases.now an_item at reason.left_out token }
-    ensures lacking { (token : ℕ) → IsErrOf result (SyntaxRefusal.At SyntaxCode.AT2 token) → IsRefused (lexemes tokens.now) aliases.now an_item at reason.lacking token }
-    ensures too_deep { (token : ℕ) → IsErrOf result (SyntaxRefusal.At SyntaxCode.LM2 token) → IsTooDeep (lexemes tokens.now) aliases.now an_item at token }
+    ensures broken { (token : ℕ) → IsErrOf result (SyntaxRefusal.At SyntaxCode.SY1 token)
+        → IsBroken (lexemes tokens.now) aliases.now an_item at token }
+    ensures left_out { (token : ℕ) → IsErrOf result (SyntaxRefusal.At SyntaxCode.AT1 token)
+        → IsRefused (lexemes tokens.now) aliases.now an_item at reason.left_out token }
+    ensures lacking { (token : ℕ) → IsErrOf result (SyntaxRefusal.At SyntaxCode.AT2 token)
+        → IsRefused (lexemes tokens.now) aliases.now an_item at reason.lacking token }
+    ensures too_deep { (token : ℕ) → IsErrOf result (SyntaxRefusal.At SyntaxCode.LM2 token)
+        → IsTooDeep (lexemes tokens.now) aliases.now an_item at token }
     ensures no_other { (refusal : _) → IsErrOf result refusal → IsOfAttributes refusal }
     ensures next { IfOk result (λ found. (at < found.1) × (found.1 ≤ length tokens.now)) }
 {
@@ -60,7 +64,8 @@ fn read_items<'a>(
     at: u32,
     aliases: &Aliases,
 ) -> Result<(&'a [Item<'a>], u32), SyntaxRefusal>
-    ensures gives { Gives (λ found. (item_shapes found.0.now, found.1)) result (read (input reader.entry) some_items (item_call (named reader.entry) false) at) }
+    ensures gives { Gives (λ found. (item_shapes found.0.now, found.1)) result
+        (read (input reader.entry) some_items (item_call (named reader.entry) false) at) }
     ensures ends { IfOk result (λ found. (at < found.1) × (found.1 ≤ length reader.entry.tokens.now)) }
 {
     let mut list = Vec::new(aliases.allocator());
@@ -74,7 +79,8 @@ fn whole_item<'a>(
     at: u32,
     list: &mut Vec<Item<'a>>,
 ) -> Result<u32, SyntaxRefusal>
-    ensures gives { Gives (λ next. (item_shapes list.new.items, next)) result (after (item_shapes list.old.items) (read (input reader.entry) some_items (item_call (named reader.entry) false) at)) }
+    ensures gives { Gives (λ next. (item_shapes list.new.items, next)) result
+        (after (item_shapes list.old.items) (read (input reader.entry) some_items (item_call (named reader.entry) false) at)) }
     ensures ends { IfOk result (λ next. (at < next) × (next ≤ length reader.entry.tokens.now)) }
 {
     let begun = begin_item(reader, at, list)?;
@@ -89,7 +95,9 @@ fn finish<'a>(
     list: &mut Vec<Item<'a>>,
 ) -> Result<u32, SyntaxRefusal>
     requires bodiless { ForSome begun.now.head (λ head. head.body ≡ None) }
-    ensures gives { Gives (λ next. (item_shapes list.new.items, next)) result (finished (input reader.entry) (named reader.entry) false (item_shapes list.old.items, option_map head_shape begun.now.head) begun.now.next) }
+    ensures gives { Gives (λ next. (item_shapes list.new.items, next)) result
+        (finished (input reader.entry) (named reader.entry) false (item_shapes list.old.items, option_map head_shape begun.now.head)
+        begun.now.next) }
     ensures ends { IfOk result (λ next. begun.now.next ≤ next) }
     ensures within { IfOk result (λ next. begun.now.next ≤ length reader.entry.tokens.now → next ≤ length reader.entry.tokens.now) }
 {
@@ -113,10 +121,14 @@ pub fn read_head<'a>(
     requires within { at ≤ length tokens.now }
     ensures found { IfOk result (λ found. IsLongest (lexemes tokens.now) aliases.now a_head_alone at (head_shape found.0) found.1) }
     ensures bodiless { IfOk result (λ found. (found.0.body ≡ None) × (found.0.points.now ≡ [])) }
-    ensures broken { (token : ℕ) → IsErrOf result (SyntaxRefusal.At SyntaxCode.SY1 token) → IsBroken (lexemes tokens.now) aliases.now a_head_alone at token }
-    ensures left_out { (token : ℕ) → IsErrOf result (SyntaxRefusal.At SyntaxCode.AT1 token) → IsRefused (lexemes tokens.now) aliases.now a_head_alone at reason.left_out token }
-    ensures lacking { (token : ℕ) → IsErrOf result (SyntaxRefusal.At SyntaxCode.AT2 token) → IsRefused (lexemes tokens.now) aliases.now a_head_alone at reason.lacking token }
-    ensures too_deep { (token : ℕ) → IsErrOf result (SyntaxRefusal.At SyntaxCode.LM2 token) → IsTooDeep (lexemes tokens.now) aliases.now a_head_alone at token }
+    ensures broken { (token : ℕ) → IsErrOf result (SyntaxRefusal.At SyntaxCode.SY1 token)
+        → IsBroken (lexemes tokens.now) aliases.now a_head_alone at token }
+    ensures left_out { (token : ℕ) → IsErrOf result (SyntaxRefusal.At SyntaxCode.AT1 token)
+        → IsRefused (lexemes tokens.now) aliases.now a_head_alone at reason.left_out token }
+    ensures lacking { (token : ℕ) → IsErrOf result (SyntaxRefusal.At SyntaxCode.AT2 token)
+        → IsRefused (lexemes tokens.now) aliases.now a_head_alone at reason.lacking token }
+    ensures too_deep { (token : ℕ) → IsErrOf result (SyntaxRefusal.At SyntaxCode.LM2 token)
+        → IsTooDeep (lexemes tokens.now) aliases.now a_head_alone at token }
     ensures no_other { (refusal : _) → IsErrOf result refusal → IsOfAttributes refusal }
     ensures next { IfOk result (λ found. (at < found.1) × (found.1 ≤ length tokens.now)) }
 {
@@ -141,11 +153,16 @@ pub fn read_local<'a>(
 ) -> Result<(&'a [Decl<'a>], u32), SyntaxRefusal>
     requires room { length tokens.now ≤ INPUT_LIMIT }
     requires within { at ≤ length tokens.now }
-    ensures found { IfOk result (λ found. IsLongest (lexemes tokens.now) aliases.now (some_locals single depth) at (decl_shapes found.0.now) found.1) }
-    ensures broken { (token : ℕ) → IsErrOf result (SyntaxRefusal.At SyntaxCode.SY1 token) → IsBroken (lexemes tokens.now) aliases.now (some_locals single depth) at token }
-    ensures left_out { (token : ℕ) → IsErrOf result (SyntaxRefusal.At SyntaxCode.AT1 token) → IsRefused (lexemes tokens.now) aliases.now (some_locals single depth) at reason.left_out token }
-    ensures lacking { (token : ℕ) → IsErrOf result (SyntaxRefusal.At SyntaxCode.AT2 token) → IsRefused (lexemes tokens.now) aliases.now (some_locals single depth) at reason.lacking token }
-    ensures too_deep { (token : ℕ) → IsErrOf result (SyntaxRefusal.At SyntaxCode.LM2 token) → IsTooDeep (lexemes tokens.now) aliases.now (some_locals single depth) at token }
+    ensures found { IfOk result (λ found. IsLongest (lexemes tokens.now) aliases.now (some_locals single depth) at (decl_shapes found.0.now)
+        found.1) }
+    ensures broken { (token : ℕ) → IsErrOf result (SyntaxRefusal.At SyntaxCode.SY1 token)
+        → IsBroken (lexemes tokens.now) aliases.now (some_locals single depth) at token }
+    ensures left_out { (token : ℕ) → IsErrOf result (SyntaxRefusal.At SyntaxCode.AT1 token)
+        → IsRefused (lexemes tokens.now) aliases.now (some_locals single depth) at reason.left_out token }
+    ensures lacking { (token : ℕ) → IsErrOf result (SyntaxRefusal.At SyntaxCode.AT2 token)
+        → IsRefused (lexemes tokens.now) aliases.now (some_locals single depth) at reason.lacking token }
+    ensures too_deep { (token : ℕ) → IsErrOf result (SyntaxRefusal.At SyntaxCode.LM2 token)
+        → IsTooDeep (lexemes tokens.now) aliases.now (some_locals single depth) at token }
     ensures no_other { (refusal : _) → IsErrOf result refusal → IsOfAttributes refusal }
     ensures next { IfOk result (λ found. (at < found.1) × (found.1 ≤ length tokens.now)) }
 {

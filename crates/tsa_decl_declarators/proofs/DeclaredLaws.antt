@@ -12,7 +12,8 @@ use Rattle.tsa_tree.specs.declarations.Syntax.{Specified, Declarator, Declaratio
 use Rattle.tsa_tree.specs.declarations.Spelling.{Role, a_member, a_global}
 use Rattle.tsa_tree.specs.expressions.Syntax.{Expression}
 use Rattle.tsa_tree.specs.Reads.{read}
-use Rattle.tsa_tree.specs.Rows.{an_initialiser, a_declared, Row, initialiser, declared_rest, a_comma, a_semicolon, an_equals, mark, sees, behind_init, behind_attributes, delimiter}
+use Rattle.tsa_tree.specs.Rows.{an_initialiser, a_declared, Row, initialiser, declared_rest, a_comma, a_semicolon, an_equals, mark, sees}
+use Rattle.tsa_tree.specs.Rows.{behind_init, behind_attributes, delimiter}
 use Rattle.tsa_tree.specs.tokens.Signs.{Aliases, sign_at, span_over}
 use Rattle.tsa_expr.specs.declared.refusal.SyntaxRefusal.{SyntaxRefusal}
 use Rattle.tsa_expr.specs.Gives.{Fails}

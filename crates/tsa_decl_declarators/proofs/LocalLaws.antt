@@ -1,5 +1,6 @@
 -- Locals: a declarator with its length and value, and those that follow it.
-use Rattle.std.proofs.Common.{ℕ, ◌+◌, ◌≡◌, ◌≢◌, ◌∙◌, ap, sym, refl, Bool, true, false, List, [], ◌∷◌, ◌++◌, Option, Some, None, Ok, Err, nat_eq}
+use Rattle.std.proofs.Common.{ℕ, ◌+◌, ◌≡◌, ◌≢◌, ◌∙◌, ap, sym, refl, Bool, true, false, List, [], ◌∷◌, ◌++◌, Option, Some, None, Ok, Err}
+use Rattle.std.proofs.Common.{nat_eq}
 use Rattle.tsa_base.specs.declared.token.Span.{Span}
 use Rattle.tsa_base.specs.Tokens.{Lexeme}
 use Rattle.tsa_grammar.proofs.Cases.{chosen, other, goes}
@@ -12,7 +13,8 @@ use Rattle.tsa_tree.specs.declarations.Syntax.{Specified, Declarator, Declaratio
 use Rattle.tsa_tree.specs.expressions.Syntax.{Expression}
 use Rattle.tsa_tree.specs.declarations.Shapes.{decl_shape, decl_shapes}
 use Rattle.tsa_tree.specs.Reads.{read}
-use Rattle.tsa_tree.specs.Rows.{an_expression, a_specifier, a_declarator, some_declarations, a_variable, some_variables, Row, expression, specifier, declarator, variable, variables, locals, a_comma, an_equals, mark, sees}
+use Rattle.tsa_tree.specs.Rows.{an_expression, a_specifier, a_declarator, some_declarations, a_variable, some_variables, Row, expression}
+use Rattle.tsa_tree.specs.Rows.{specifier, declarator, variable, variables, locals, a_comma, an_equals, mark, sees}
 use Rattle.tsa_tree.specs.tokens.Signs.{Aliases, sign_at, span_over}
 use Rattle.tsa_expr.specs.declared.refusal.SyntaxRefusal.{SyntaxRefusal}
 use Rattle.tsa_expr.specs.Gives.{Fails}

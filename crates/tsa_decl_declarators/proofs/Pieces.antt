@@ -8,7 +8,9 @@ use Rattle.tsa_tree.specs.attributes.Syntax.{Attribute}
 use Rattle.tsa_tree.specs.attributes.Answers.{read_any}
 use Rattle.tsa_tree.specs.expressions.Syntax.{Expression}
 use Rattle.tsa_tree.specs.Reads.{read}
-use Rattle.tsa_tree.specs.Rows.{Sort, an_expression, some_attributes, a_skip, Row, expression, attributes, consts, a_keyword, an_open_bracket, a_close_bracket, sees, is_attribute_sign, behind_consts, behind_star, behind_length, behind_attributes}
+use Rattle.tsa_tree.specs.Rows.{Sort, an_expression, some_attributes, a_skip, Row, expression, attributes, consts, a_keyword}
+use Rattle.tsa_tree.specs.Rows.{an_open_bracket, a_close_bracket, sees, is_attribute_sign, behind_consts, behind_star, behind_length}
+use Rattle.tsa_tree.specs.Rows.{behind_attributes}
 use Rattle.tsa_tree.specs.tokens.Signs.{Aliases, sign_at, is_star}
 use Rattle.tsa_decl_declarators.specs.Outcomes.{going, consts_at, star_at, length_at}
 

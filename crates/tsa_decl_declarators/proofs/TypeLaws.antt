@@ -1,5 +1,6 @@
 -- Types up to before their declarators: a base with `const` before and after it.
-use Rattle.std.proofs.Common.{ℕ, zero, suc, ◌+◌, ◌<◌, ◌≤◌, ◌≡◌, ◌≢◌, ◌∙◌, ap, refl, sym, arith, Bool, true, false, ◌||◌, List, length, Ok, Err, nat_eq}
+use Rattle.std.proofs.Common.{ℕ, zero, suc, ◌+◌, ◌<◌, ◌≤◌, ◌≡◌, ◌≢◌, ◌∙◌, ap, refl, sym, arith, Bool, true, false, ◌||◌, List, length, Ok}
+use Rattle.std.proofs.Common.{Err, nat_eq}
 use Rattle.tsa_base.specs.Tokens.{Lexeme}
 use Rattle.tsa_grammar.proofs.Cases.{chosen, other, goes}
 use Rattle.tsa_grammar.specs.Form.{done}
@@ -17,7 +18,8 @@ use Rattle.tsa_tree.specs.declarations.Syntax.{Base, int, unsigned, void, struct
 use Rattle.tsa_tree.specs.expressions.Syntax.{Identifier}
 use Rattle.tsa_tree.specs.declarations.Shapes.{base_shape}
 use Rattle.tsa_tree.specs.Reads.{read}
-use Rattle.tsa_tree.specs.Rows.{a_skip, a_specifier, consts, specifier, a_keyword, is_keyword, mark, sees, specified, with_int, specifier_row}
+use Rattle.tsa_tree.specs.Rows.{a_skip, a_specifier, consts, specifier, a_keyword, is_keyword, mark, sees, specified, with_int}
+use Rattle.tsa_tree.specs.Rows.{specifier_row}
 use Rattle.tsa_tree.specs.expressions.Shapes.{name_shape}
 use Rattle.tsa_tree.specs.tokens.Signs.{Aliases, sign_at, identifier_at, is_tag}
 use Rattle.tsa_expr.specs.declared.refusal.SyntaxRefusal.{SyntaxRefusal}

@@ -13,7 +13,8 @@ use Rattle.tsa_tree.specs.declarations.Syntax.{Initialiser, value, list, Initial
 use Rattle.tsa_tree.specs.expressions.Syntax.{Expression}
 use Rattle.tsa_tree.specs.declarations.Shapes.{init_shape, init_shapes}
 use Rattle.tsa_tree.specs.Reads.{read}
-use Rattle.tsa_tree.specs.Rows.{an_expression, an_initialiser, some_initialisers, expression, initialiser, initialisers, a_close_brace, sees, mark}
+use Rattle.tsa_tree.specs.Rows.{an_expression, an_initialiser, some_initialisers, expression, initialiser, initialisers, a_close_brace}
+use Rattle.tsa_tree.specs.Rows.{sees, mark}
 use Rattle.tsa_tree.specs.tokens.Signs.{Aliases, sign_at, span_over}
 use Rattle.tsa_tree.proofs.declarations.Trees.{row-shapes, row_of}
 use Rattle.tsa_expr.specs.declared.refusal.SyntaxRefusal.{SyntaxRefusal}

@@ -8,11 +8,14 @@ use Rattle.tsa_tree.specs.declared.sign.Sign.TheVariants as sign
 use Rattle.tsa_tree.specs.expressions.Answers.{below_limit}
 use Rattle.tsa_tree.specs.attributes.Syntax.{Attribute}
 use Rattle.tsa_tree.specs.attributes.Answers.{read_any}
-use Rattle.tsa_tree.specs.declarations.Syntax.{Base, int, unsigned, void, structure, enumerated, alias, Specified, Declaration, Initialiser, value, Initialisers, no_more, one_more}
+use Rattle.tsa_tree.specs.declarations.Syntax.{Base, int, unsigned, void, structure, enumerated, alias, Specified, Declaration, Initialiser}
+use Rattle.tsa_tree.specs.declarations.Syntax.{value, Initialisers, no_more, one_more}
 use Rattle.tsa_tree.specs.declarations.Spelling.{Role, a_member, a_global}
 use Rattle.tsa_tree.specs.expressions.Syntax.{Identifier, Expression}
 use Rattle.tsa_tree.specs.Reads.{read}
-use Rattle.tsa_tree.specs.Rows.{Sort, an_expression, a_skip, an_initialiser, some_initialisers, a_variable, some_variables, Node, Row, Kind, expression, consts, initialiser, initialisers, variable, variables, a_keyword, a_name, an_open, a_comma, a_semicolon, an_open_bracket, a_close_bracket, an_open_brace, a_close_brace, an_equals, sees}
+use Rattle.tsa_tree.specs.Rows.{Sort, an_expression, a_skip, an_initialiser, some_initialisers, a_variable, some_variables, Node, Row, Kind}
+use Rattle.tsa_tree.specs.Rows.{expression, consts, initialiser, initialisers, variable, variables, a_keyword, a_name, an_open, a_comma}
+use Rattle.tsa_tree.specs.Rows.{a_semicolon, an_open_bracket, a_close_bracket, an_open_brace, a_close_brace, an_equals, sees}
 use Rattle.tsa_tree.specs.tokens.Signs.{Aliases, sign_at, identifier_at, is_tag, is_star}
 use Rattle.tsa_grammar.specs.Reading.{Outcome, refuse, syntax, deep, then, choose, follow}
 

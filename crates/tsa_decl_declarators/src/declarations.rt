@@ -10,7 +10,8 @@ ghost use Rattle.tsa_tree.specs.expressions.Shapes.{shape};
 ghost use Rattle.tsa_expr.specs.Source.{input, named};
 ghost use Rattle.tsa_expr.specs.Gives.{Gives};
 ghost use Rattle.tsa_decl_declarators.specs.Outcomes.{init_at, suffix_at as spec_suffix, delimiter_at};
-ghost use Rattle.tsa_decl_declarators.specs.Readings.{seen_init, seen_suffix, seen_declared, row_role, role_depth, row_type, row_declarator};
+ghost use Rattle.tsa_decl_declarators.specs.Readings.{seen_init, seen_suffix, seen_declared, row_role, role_depth, row_type};
+ghost use Rattle.tsa_decl_declarators.specs.Readings.{row_declarator};
 
 use crate::declarator::Declarator;
 use crate::declarators::length_at;
@@ -74,7 +75,9 @@ pub fn declaration<'a>(
     suffix: Suffix<'a>,
     span: Span,
 ) -> Decl<'a>
-    ensures { decl_shape result ≡ declaration_of (row_type specified.entry) (row_declarator declarator.entry) (option_map (λ x. shape x.now) suffix.entry.length) (attr_shapes suffix.entry.attrs.now) (option_map init_shape suffix.entry.init) span }
+    ensures { decl_shape result ≡ declaration_of (row_type specified.entry) (row_declarator declarator.entry)
+        (option_map (λ x. shape x.now) suffix.entry.length) (attr_shapes suffix.entry.attrs.now) (option_map init_shape suffix.entry.init)
+        span }
 {
     Decl {
         name: declarator.name,
@@ -91,7 +94,8 @@ pub fn ctype<'a>(
     declarator: Declarator<'a>,
     length: Option<&'a Expr<'a>>,
 ) -> CType<'a>
-    ensures { type_shape result ≡ made_of (row_type specified.entry) declarator.entry.pointer declarator.entry.pointer_const (option_map (λ x. shape x.now) length.entry) }
+    ensures { type_shape result ≡ made_of (row_type specified.entry) declarator.entry.pointer declarator.entry.pointer_const
+        (option_map (λ x. shape x.now) length.entry) }
 {
     CType {
         base: specified.base,
@@ -182,7 +186,10 @@ pub fn declared_rest<'a>(
     declarator: Declarator<'a>,
 ) -> Result<Declared<'a>, SyntaxRefusal>
     requires within { declarator.next ≤ count reader.tokens.now }
-    ensures gives { Gives seen_declared result (read (input reader.entry) a_declared (rest_call (named reader.entry) (row_role role) (role_depth role) (row_type specified.entry) (row_declarator declarator.entry)) declarator.entry.next) }
+    ensures gives { Gives seen_declared result
+        (read (input reader.entry) a_declared
+        (rest_call (named reader.entry) (row_role role) (role_depth role) (row_type specified.entry) (row_declarator declarator.entry))
+        declarator.entry.next) }
     ensures ends { IfOk result (λ r. (declarator.entry.next < r.next) × (r.next ≤ count reader.entry.tokens.now)) }
 {
     let suffix = suffix_at(reader, declarator.next, role)?;

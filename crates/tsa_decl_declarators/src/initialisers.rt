@@ -85,7 +85,8 @@ fn braced_list<'a>(
     depth: u32,
     list: &mut Vec<Init<'a>, &'a Bump>,
 ) -> Result<u32, SyntaxRefusal>
-    ensures gives { Gives (λ next. (init_shapes list.new.items, next)) result (values_after (init_shapes list.old.items) (braced_at (input reader.entry) (named reader.entry) depth at)) }
+    ensures gives { Gives (λ next. (init_shapes list.new.items, next)) result
+        (values_after (init_shapes list.old.items) (braced_at (input reader.entry) (named reader.entry) depth at)) }
     ensures ends { IfOk result (λ next. (at < next) × (next ≤ length reader.entry.tokens.now)) }
 {
     let mut next = at;

@@ -50,7 +50,8 @@ fn variable<'a>(
     depth: u32,
     specified: Specified<'a>,
 ) -> Result<Local<'a>, SyntaxRefusal>
-    ensures gives { Gives seen_local result (read (input reader.entry) a_variable (variable_call (named reader.entry) depth (row_type specified.entry)) at) }
+    ensures gives { Gives seen_local result
+        (read (input reader.entry) a_variable (variable_call (named reader.entry) depth (row_type specified.entry)) at) }
     ensures ends { IfOk result (λ r. (at < r.next) × (r.next ≤ count reader.entry.tokens.now)) }
 {
     let declarator = declarator_at(reader, at)?;
@@ -78,7 +79,9 @@ fn variables<'a>(
     specified: Specified<'a>,
     list: &mut Vec<Decl<'a>, &'a Bump>,
 ) -> Result<u32, SyntaxRefusal>
-    ensures gives { Gives (λ next. (decl_shapes list.new.items, next)) result (after (decl_shapes list.old.items) (variables_at (input reader.entry) (named reader.entry) single depth (row_type specified.entry) specified.entry.next)) }
+    ensures gives { Gives (λ next. (decl_shapes list.new.items, next)) result
+        (after (decl_shapes list.old.items)
+        (variables_at (input reader.entry) (named reader.entry) single depth (row_type specified.entry) specified.entry.next)) }
     ensures few { IfOk result (λ next. count list.new.items + specified.entry.next ≤ count list.old.items + next) }
     ensures ends { IfOk result (λ next. (specified.entry.next < next) × (next ≤ count reader.entry.tokens.now)) }
 {
@@ -105,7 +108,8 @@ pub fn read_locals<'a>(
     depth: u32,
     single: bool,
 ) -> Result<(&'a [Decl<'a>], u32), SyntaxRefusal>
-    ensures gives { Gives (λ found. (decl_shapes found.0.now, found.1)) result (read (input reader.entry) some_declarations (locals_call (named reader.entry) single depth) at) }
+    ensures gives { Gives (λ found. (decl_shapes found.0.now, found.1)) result
+        (read (input reader.entry) some_declarations (locals_call (named reader.entry) single depth) at) }
     ensures few { IfOk result (λ found. count found.0.now + at ≤ found.1) }
     ensures ends { IfOk result (λ found. (at < found.1) × (found.1 ≤ count reader.entry.tokens.now)) }
 {

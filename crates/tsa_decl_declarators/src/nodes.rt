@@ -69,7 +69,8 @@ pub fn in_arena_read<'a, T: Copy, A: Allocator>(
     items: Vec<T, A>,
     read: Result<u32, SyntaxRefusal>,
 ) -> Result<(&'a [T], u32), SyntaxRefusal>
-    ensures is { MatchResult read (λ next. MatchResult result (λ found. (found.0.now ≡ items.items) × (found.1 ≡ next)) (λ refusal. refusal ≡ SyntaxRefusal.NoMemory)) (λ refusal. result ≡ Err refusal) }
+    ensures is { MatchResult read (λ next. MatchResult result (λ found. (found.0.now ≡ items.items) × (found.1 ≡ next))
+        (λ refusal. refusal ≡ SyntaxRefusal.NoMemory)) (λ refusal. result ≡ Err refusal) }
 {
     let next = read?;
     in_arena_before(bump, &items, next)

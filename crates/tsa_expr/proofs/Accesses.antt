@@ -14,7 +14,8 @@ use Rattle.tsa_tree.specs.Rows.{an_expression, expression, postfix, sees, mark, 
 use Rattle.tsa_tree.specs.tokens.Signs.{Aliases, sign_at, span_over, identifier_at, access}
 use Rattle.tsa_expr.specs.declared.refusal.SyntaxRefusal.{SyntaxRefusal}
 use Rattle.tsa_expr.specs.Gives.{Fails}
-use Rattle.tsa_expr.proofs.Answering.{fails_then, fails_same, gives_same, then_done, in_limit, over_limit, not_name, not_close_bracket, not_postfix}
+use Rattle.tsa_expr.proofs.Answering.{fails_then, fails_same, gives_same, then_done, in_limit, over_limit, not_name, not_close_bracket}
+use Rattle.tsa_expr.proofs.Answering.{not_postfix}
 use Rattle.tsa_expr.proofs.Places.{sign_within, access_within}
 
 module _ (ts : List Lexeme) (aliases : Aliases) where

@@ -11,7 +11,8 @@ use Rattle.tsa_tree.specs.declared.sign.Sign.TheVariants as sign
 use Rattle.tsa_tree.specs.expressions.Answers.{below_limit}
 use Rattle.tsa_tree.specs.expressions.Syntax.{Expression, Arguments, number, null, named, call, unary, none}
 use Rattle.tsa_tree.specs.Reads.{read, read_behind}
-use Rattle.tsa_tree.specs.Rows.{an_expression, some_arguments, expression, operand, series, sees, mark, Kind, Row, a_not, a_flip, an_operator, a_close, operand_row, prefix_row, call_row, post}
+use Rattle.tsa_tree.specs.Rows.{an_expression, some_arguments, expression, operand, series, sees, mark, Kind, Row, a_not, a_flip}
+use Rattle.tsa_tree.specs.Rows.{an_operator, a_close, operand_row, prefix_row, call_row, post}
 use Rattle.tsa_tree.specs.tokens.Signs.{Aliases, sign_at, span_at, span_over, identifier_at, value_at, unsigned_at, prefix, prefix_of}
 use Rattle.tsa_expr.specs.declared.refusal.SyntaxRefusal.{SyntaxRefusal}
 use Rattle.tsa_expr.specs.Gives.{Fails}

@@ -25,7 +25,9 @@ impl<'a, 't> Reader<'a, 't> {
         arrow: bool,
     ) -> Result<Reading<'a>, SyntaxRefusal>
         requires there { access (sign_at (input self) (named self) base.next) ≡ Some arrow }
-        ensures leads { Leads seen result (read_behind (input self.entry) (named self.entry) depth base.entry.start (shape base.entry.tree) base.entry.next) (λ x n. read_behind (input self.entry) (named self.entry) depth base.entry.start x n) }
+        ensures leads { Leads seen result
+            (read_behind (input self.entry) (named self.entry) depth base.entry.start (shape base.entry.tree) base.entry.next)
+            (λ x n. read_behind (input self.entry) (named self.entry) depth base.entry.start x n) }
         ensures begins { IfOk result (λ r. r.start ≡ base.entry.start) }
         ensures ahead { IfOk result (λ r. r.ahead ≡ sign_at (input self.entry) (named self.entry) r.next) }
         ensures goes { IfOk result (λ r. (base.entry.next < r.next) × (r.next ≤ length self.entry.tokens.now)) }

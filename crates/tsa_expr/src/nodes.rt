@@ -38,7 +38,8 @@ impl<'a, 't> Reader<'a, 't> {
     /// The call whose name stands at a token.
     pub fn call(self, at: u32, callee: Name<'a>, args: ArgumentList<'a>) -> Reading<'a>
         requires before { at < args.start }
-        ensures is { shape result.tree ≡ a_call (name_shape callee.entry) (shapes args.entry.items.now) (span_over (input self.entry) at args.entry.next) }
+        ensures is { shape result.tree ≡ a_call (name_shape callee.entry) (shapes args.entry.items.now)
+            (span_over (input self.entry) at args.entry.next) }
         ensures begins { result.start ≡ at }
         ensures ends { result.next ≡ args.entry.next }
         ensures ahead { result.ahead ≡ sign_at (input self.entry) (named self.entry) args.entry.next }
@@ -66,7 +67,8 @@ impl<'a, 't> Reader<'a, 't> {
     ) -> Result<Reading<'a>, SyntaxRefusal>
         requires before { at < inner.start }
         ensures memory { OnErr result (result ≡ Err SyntaxRefusal.NoMemory) }
-        ensures is { IfOk result (λ r. shape r.tree ≡ a_unary op (shape inner.entry.tree) (span_over (input self.entry) at inner.entry.next)) }
+        ensures is { IfOk result (λ r. shape r.tree
+            ≡ a_unary op (shape inner.entry.tree) (span_over (input self.entry) at inner.entry.next)) }
         ensures begins { IfOk result (λ r. r.start ≡ at) }
         ensures ends { IfOk result (λ r. r.next ≡ inner.entry.next) }
         ensures ahead { IfOk result (λ r. r.ahead ≡ inner.entry.ahead) }
@@ -95,7 +97,8 @@ impl<'a, 't> Reader<'a, 't> {
     ) -> Result<Reading<'a>, SyntaxRefusal>
         requires between { left.next < right.start }
         ensures memory { OnErr result (result ≡ Err SyntaxRefusal.NoMemory) }
-        ensures is { IfOk result (λ r. shape r.tree ≡ a_binary op (shape left.entry.tree) (shape right.entry.tree) (span_over (input self.entry) left.entry.start right.entry.next)) }
+        ensures is { IfOk result (λ r. shape r.tree ≡ a_binary op (shape left.entry.tree) (shape right.entry.tree)
+            (span_over (input self.entry) left.entry.start right.entry.next)) }
         ensures begins { IfOk result (λ r. r.start ≡ left.entry.start) }
         ensures ends { IfOk result (λ r. r.next ≡ right.entry.next) }
         ensures ahead { IfOk result (λ r. r.ahead ≡ right.entry.ahead) }

@@ -24,8 +24,10 @@ pub fn read_expr<'a>(
 ) -> Result<(Expr<'a>, u32), SyntaxRefusal>
     requires room { length tokens.now ≤ INPUT_LIMIT }
     ensures found { IfOk result (λ found. IsLongest (lexemes tokens.now) [] an_expression depth at (shape found.0) found.1) }
-    ensures broken { (token : ℕ) → IsErrOf result (SyntaxRefusal.At SyntaxCode.SY1 token) → IsBroken (lexemes tokens.now) [] an_expression depth at token }
-    ensures too_deep { (token : ℕ) → IsErrOf result (SyntaxRefusal.At SyntaxCode.LM2 token) → IsTooDeep (lexemes tokens.now) [] an_expression depth at token }
+    ensures broken { (token : ℕ) → IsErrOf result (SyntaxRefusal.At SyntaxCode.SY1 token)
+        → IsBroken (lexemes tokens.now) [] an_expression depth at token }
+    ensures too_deep { (token : ℕ) → IsErrOf result (SyntaxRefusal.At SyntaxCode.LM2 token)
+        → IsTooDeep (lexemes tokens.now) [] an_expression depth at token }
     ensures no_other { (refusal : _) → IsErrOf result refusal → IsOfExpressions refusal }
     ensures next { IfOk result (λ found. (at < found.1) × (found.1 ≤ length tokens.now)) }
 {
@@ -52,8 +54,10 @@ pub fn read_unary<'a>(
 ) -> Result<(Expr<'a>, u32), SyntaxRefusal>
     requires room { length tokens.now ≤ INPUT_LIMIT }
     ensures found { IfOk result (λ found. IsLongest (lexemes tokens.now) [] a_unary depth at (shape found.0) found.1) }
-    ensures broken { (token : ℕ) → IsErrOf result (SyntaxRefusal.At SyntaxCode.SY1 token) → IsBroken (lexemes tokens.now) [] a_unary depth at token }
-    ensures too_deep { (token : ℕ) → IsErrOf result (SyntaxRefusal.At SyntaxCode.LM2 token) → IsTooDeep (lexemes tokens.now) [] a_unary depth at token }
+    ensures broken { (token : ℕ) → IsErrOf result (SyntaxRefusal.At SyntaxCode.SY1 token)
+        → IsBroken (lexemes tokens.now) [] a_unary depth at token }
+    ensures too_deep { (token : ℕ) → IsErrOf result (SyntaxRefusal.At SyntaxCode.LM2 token)
+        → IsTooDeep (lexemes tokens.now) [] a_unary depth at token }
     ensures no_other { (refusal : _) → IsErrOf result refusal → IsOfExpressions refusal }
     ensures next { IfOk result (λ found. (at < found.1) × (found.1 ≤ length tokens.now)) }
 {

@@ -4,7 +4,8 @@ ghost use Rattle.std.specs.Prelude.{◌≡◌, ◌+◌, ◌≤◌, ◌<◌, leng
 ghost use Rattle.tsa_base.specs.declared.limits.TheConstants.{NESTING_LIMIT};
 ghost use Rattle.tsa_tree.specs.expressions.Syntax.{heights};
 ghost use Rattle.tsa_tree.specs.Reads.{read, read_on, read_behind};
-ghost use Rattle.tsa_tree.specs.Rows.{an_expression, some_arguments, expression as expression_call, operand as operand_call, series as series_call};
+ghost use Rattle.tsa_tree.specs.Rows.{an_expression, some_arguments, expression as expression_call, operand as operand_call};
+ghost use Rattle.tsa_tree.specs.Rows.{series as series_call};
 ghost use Rattle.tsa_tree.specs.expressions.Shapes.{shape, shapes};
 ghost use Rattle.tsa_tree.specs.tokens.Signs.{sign_at, prefix as spec_prefix};
 ghost use Rattle.tsa_expr.specs.Gives.{Gives, Leads};
@@ -41,7 +42,8 @@ impl<'a, 't> Reader<'a, 't> {
     pub fn rest(self, depth: u32, left: Reading<'a>) -> Result<Reading<'a>, SyntaxRefusal>
         requires begun { read (input self) an_expression (operand_call (named self) depth) left.start ≡ Ok (shape left.tree, left.next) }
         requires ahead { left.ahead ≡ sign_at (input self) (named self) left.next }
-        ensures gives { Gives seen result (read (input self.entry) an_expression (expression_call (named self.entry) depth 0) left.entry.start) }
+        ensures gives { Gives seen result
+            (read (input self.entry) an_expression (expression_call (named self.entry) depth 0) left.entry.start) }
         ensures begins { IfOk result (λ r. r.start ≡ left.entry.start) }
         ensures ahead { IfOk result (λ r. r.ahead ≡ sign_at (input self.entry) (named self.entry) r.next) }
         ensures ends { IfOk result (λ r. (left.entry.start < r.next) × (r.next ≤ length self.entry.tokens.now)) }
@@ -59,7 +61,8 @@ impl<'a, 't> Reader<'a, 't> {
         left: Reading<'a>,
     ) -> Result<Reading<'a>, SyntaxRefusal>
         requires ahead { left.ahead ≡ sign_at (input self) (named self) left.next }
-        ensures gives { Gives seen result (read_on (input self.entry) (named self.entry) depth tight left.entry.start (shape left.entry.tree) left.entry.next) }
+        ensures gives { Gives seen result
+            (read_on (input self.entry) (named self.entry) depth tight left.entry.start (shape left.entry.tree) left.entry.next) }
         ensures begins { IfOk result (λ r. r.start ≡ left.entry.start) }
         ensures ahead { IfOk result (λ r. r.ahead ≡ sign_at (input self.entry) (named self.entry) r.next) }
     {
@@ -111,7 +114,8 @@ impl<'a, 't> Reader<'a, 't> {
     fn primary(self, at: u32, depth: u32, sign: Sign) -> Result<Reading<'a>, SyntaxRefusal>
         requires there { sign ≡ sign_at (input self) (named self) at }
         requires plain { spec_prefix sign ≡ None }
-        ensures leads { Leads seen result (read (input self.entry) an_expression (operand_call (named self.entry) depth) at) (λ x n. read_behind (input self.entry) (named self.entry) depth at x n) }
+        ensures leads { Leads seen result (read (input self.entry) an_expression (operand_call (named self.entry) depth) at)
+            (λ x n. read_behind (input self.entry) (named self.entry) depth at x n) }
         ensures begins { IfOk result (λ r. r.start ≡ at) }
         ensures ahead { IfOk result (λ r. r.ahead ≡ sign_at (input self.entry) (named self.entry) r.next) }
     {
@@ -147,7 +151,8 @@ impl<'a, 't> Reader<'a, 't> {
     #[tactic(auto, using(crate::proofs::Operands::names))]
     fn name_or_call(self, at: u32, depth: u32) -> Result<Reading<'a>, SyntaxRefusal>
         requires there { sign_at (input self) (named self) at ≡ Sign.Name }
-        ensures leads { Leads seen result (read (input self.entry) an_expression (operand_call (named self.entry) depth) at) (λ x n. read_behind (input self.entry) (named self.entry) depth at x n) }
+        ensures leads { Leads seen result (read (input self.entry) an_expression (operand_call (named self.entry) depth) at)
+            (λ x n. read_behind (input self.entry) (named self.entry) depth at x n) }
         ensures begins { IfOk result (λ r. r.start ≡ at) }
         ensures ahead { IfOk result (λ r. r.ahead ≡ sign_at (input self.entry) (named self.entry) r.next) }
     {
@@ -199,7 +204,8 @@ impl<'a, 't> Reader<'a, 't> {
         depth: u32,
         list: &mut Vec<Expr<'a>, &'a Bump>,
     ) -> Result<Extent, SyntaxRefusal>
-        ensures gives { Gives (λ r. (shapes list.new.items, r.next)) result (after (shapes list.old.items) (read (input self.entry) some_arguments (series_call (named self.entry) depth) at)) }
+        ensures gives { Gives (λ r. (shapes list.new.items, r.next)) result
+            (after (shapes list.old.items) (read (input self.entry) some_arguments (series_call (named self.entry) depth) at)) }
         ensures low { IfOk result (λ r. r.height + at ≤ r.next) }
         ensures high { IfOk result (λ r. max (heights (shapes list.old.items)) r.height ≡ heights (shapes list.new.items)) }
     {
@@ -225,7 +231,8 @@ impl<'a, 't> Reader<'a, 't> {
     #[tactic(auto, using(crate::proofs::Accesses::accesses))]
     fn accesses(self, depth: u32, base: Reading<'a>) -> Result<Reading<'a>, SyntaxRefusal>
         requires ahead { base.ahead ≡ sign_at (input self) (named self) base.next }
-        ensures gives { Gives seen result (read_behind (input self.entry) (named self.entry) depth base.entry.start (shape base.entry.tree) base.entry.next) }
+        ensures gives { Gives seen result
+            (read_behind (input self.entry) (named self.entry) depth base.entry.start (shape base.entry.tree) base.entry.next) }
         ensures begins { IfOk result (λ r. r.start ≡ base.entry.start) }
         ensures ahead { IfOk result (λ r. r.ahead ≡ sign_at (input self.entry) (named self.entry) r.next) }
     {
@@ -246,7 +253,9 @@ impl<'a, 't> Reader<'a, 't> {
     #[tactic(auto, using(crate::proofs::Accesses::elements))]
     fn element(self, depth: u32, base: Reading<'a>) -> Result<Reading<'a>, SyntaxRefusal>
         requires there { sign_at (input self) (named self) base.next ≡ Sign.OpenBracket }
-        ensures leads { Leads seen result (read_behind (input self.entry) (named self.entry) depth base.entry.start (shape base.entry.tree) base.entry.next) (λ x n. read_behind (input self.entry) (named self.entry) depth base.entry.start x n) }
+        ensures leads { Leads seen result
+            (read_behind (input self.entry) (named self.entry) depth base.entry.start (shape base.entry.tree) base.entry.next)
+            (λ x n. read_behind (input self.entry) (named self.entry) depth base.entry.start x n) }
         ensures begins { IfOk result (λ r. r.start ≡ base.entry.start) }
         ensures ahead { IfOk result (λ r. r.ahead ≡ sign_at (input self.entry) (named self.entry) r.next) }
         ensures goes { IfOk result (λ r. (base.entry.next < r.next) × (r.next ≤ length self.entry.tokens.now)) }

@@ -24,7 +24,8 @@ pub struct Reader<'a, 't> {
 impl<'a, 't> Reader<'a, 't> {
     ghost use Rattle.std.specs.Prelude.{◌≢◌, ◌<◌, IfOk};
     ghost use Rattle.tsa_tree.specs.expressions.Shapes.{name_shape};
-    ghost use Rattle.tsa_tree.specs.tokens.Signs.{sign_at, span_at, span_over, identifier_at, value_at, unsigned_at, meaning_at, is_word_at};
+    ghost use Rattle.tsa_tree.specs.tokens.Signs.{sign_at, span_at, span_over, identifier_at, value_at, unsigned_at, meaning_at};
+    ghost use Rattle.tsa_tree.specs.tokens.Signs.{is_word_at};
     ghost use Rattle.tsa_expr.specs.Source.{input, named};
 
     /// The sign at a place, past the last token the end's.

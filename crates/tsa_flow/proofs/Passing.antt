@@ -1,5 +1,6 @@
 -- The items of a unit one by one: which functions are told.
-use Rattle.std.proofs.Common.{◌≡◌, ◌∙◌, ℕ, nat_eq, Bool, true, false, List, [], ◌∷◌, Option, Some, None, option_and_then, slice_get, if◌then◌else◌, refl, sym, ap, ap₂, subst, eq-eqb, eqb-true}
+use Rattle.std.proofs.Common.{◌≡◌, ◌∙◌, ℕ, nat_eq, Bool, true, false, List, [], ◌∷◌, Option, Some, None, option_and_then, slice_get}
+use Rattle.std.proofs.Common.{if◌then◌else◌, refl, sym, ap, ap₂, subst, eq-eqb, eqb-true}
 use Rattle.std.proofs.Math.Decide.{ℕ_discrete}
 use Rattle.tsa_base.specs.declared.token.Span.{Span}
 use Rattle.tsa_base.proofs.Options.{some_none}

@@ -76,7 +76,8 @@ impl<'w, 'a> Pass<'w, 'a> {
     ) -> Result<FunctionFlow<'a>, NoMemory>
         requires stands { IsBodyOf (item_shapes self.now.ground.items.now) inside.now.number paths.now known.old inside.now }
         ensures known { OnOk result (known.new ≡ known.old) }
-        ensures flow { IfOk result (λ flow. IsFlowIn (program_of (item_shapes self.now.ground.items.now)) (slice_get (program_of (item_shapes self.now.ground.items.now)).functions inside.now.number) (Some flow)) }
+        ensures flow { IfOk result (λ flow. IsFlowIn (program_of (item_shapes self.now.ground.items.now))
+            (slice_get (program_of (item_shapes self.now.ground.items.now)).functions inside.now.number) (Some flow)) }
     {
         let alloc = known.scope.allocator();
         let graph = control_of(known, inside)?;
@@ -120,9 +121,12 @@ impl<'w, 'a> Pass<'w, 'a> {
         item: &'a Item<'a>,
     ) -> Result<(), NoMemory>
         requires typed { types.first (typed.item_premises known.old.here (item_shape item.now)) ≡ None }
-        requires ahead { (rest : List UnitItem) × AreAhead (item_shapes self.now.ground.items.now) known.old (item_shape item.now ∷ rest) flows.old.items }
+        requires ahead { (rest : List UnitItem)
+            × AreAhead (item_shapes self.now.ground.items.now) known.old (item_shape item.now ∷ rest) flows.old.items }
         ensures known { OnOk result (known.new ≡ behind (unit_at self.now.ground) known.old (item_shape item.now)) }
-        ensures ahead { OnOk result ((rest : List UnitItem) → AreAhead (item_shapes self.now.ground.items.now) known.old (item_shape item.now ∷ rest) flows.old.items → AreAhead (item_shapes self.now.ground.items.now) known.new rest flows.new.items) }
+        ensures ahead { OnOk result ((rest : List UnitItem)
+            → AreAhead (item_shapes self.now.ground.items.now) known.old (item_shape item.now ∷ rest) flows.old.items
+            → AreAhead (item_shapes self.now.ground.items.now) known.new rest flows.new.items) }
     {
         if let Some(inside) = enter_item(&self.ground, known, item)? {
             self.tell(known, flows, &inside)?;

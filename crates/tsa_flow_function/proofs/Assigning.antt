@@ -1,5 +1,6 @@
 -- Paths are put in lanes, one by one.
-use Rattle.std.proofs.Common.{◌≡◌, ◌∙◌, ℕ, nat_eq, eq-eqb, Bool, true, false, ◌||◌, zero, suc, ◌+◌, ◌<◌, List, [], ◌∷◌, ◌++◌, Contains, length, replicate, Option, Some, None, slice_get, slice_index_or, All, refl, sym, ap, subst, arith}
+use Rattle.std.proofs.Common.{◌≡◌, ◌∙◌, ℕ, nat_eq, eq-eqb, Bool, true, false, ◌||◌, zero, suc, ◌+◌, ◌<◌, List, [], ◌∷◌, ◌++◌, Contains}
+use Rattle.std.proofs.Common.{length, replicate, Option, Some, None, slice_get, slice_index_or, All, refl, sym, ap, subst, arith}
 use Rattle.std.specs.List.{list_any}
 use Rattle.std.proofs.Math.Decide.{ℕ_discrete}
 use Rattle.std.proofs.lemmas.List.{length-append}
@@ -16,7 +17,8 @@ use Rattle.tsa_rules_view.specs.Views.{case_in, kept_from, lock_in}
 use Rattle.tsa_flow_function.specs.declared.table.Idle.{Idle}
 use Rattle.tsa_flow_function.specs.declared.table.LaneTable.{LaneTable}
 use Rattle.tsa_flow_function.specs.IdlePaths.{IsIdle, shared_with}
-use Rattle.tsa_flow_function.specs.Lanes.{alike, AreAssigned, AreClaimed, AreIdle, cap_of, fresh, GoesWith, IsAdded, IsAssigned, IsFound, known, same}
+use Rattle.tsa_flow_function.specs.Lanes.{alike, AreAssigned, AreClaimed, AreIdle, cap_of, fresh, GoesWith, IsAdded, IsAssigned, IsFound}
+use Rattle.tsa_flow_function.specs.Lanes.{known, same}
 
 at_end : {A : Type 0} (xs : List A) (x : A) → slice_get (xs ++ x ∷ []) (length xs) ≡ Some x
 at_end [] x = refl

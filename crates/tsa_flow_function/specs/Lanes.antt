@@ -1,5 +1,6 @@
 -- Lanes of a function: each path has one, and those that nothing claims or tries share it where they have the same status at the entry.
-use Rattle.std.specs.Prelude.{ℕ, nat_eq, ◌≡◌, ◌<◌, ◌++◌, ◌∷◌, true, List, [], All, Contains, length, is_some, Some, slice_get, slice_index_or}
+use Rattle.std.specs.Prelude.{ℕ, nat_eq, ◌≡◌, ◌<◌, ◌++◌, ◌∷◌, true, List, [], All, Contains, length, is_some, Some, slice_get}
+use Rattle.std.specs.Prelude.{slice_index_or}
 use Rattle.std.specs.List.{list_any}
 use Rattle.tsa_flow_solver.specs.Rows.{AreRising}
 use Rattle.tsa_rules.specs.Cases.{entry_in}

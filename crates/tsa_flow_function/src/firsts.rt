@@ -21,7 +21,8 @@ impl<'a> FunctionFlow<'a> {
     /// Whether a point is the first one of a block. All edges into any other point of the body agree, on each path.
     pub fn begins_block(&self, point: u32) -> bool
         ensures is { IsTrue result ↔ ((block : ℕ) × (slice_get self.now.blocks.places.items point ≡ Some (place_of block 0))) }
-        ensures other { (u : Program) (f : Function) (paths : List Way) (cap : ℕ) (c : Way) → IsFlowOf u f paths self.now → point < length (points_of f) → slice_get paths cap ≡ Some c → IsFalse result → Agree (course_of u f c) point }
+        ensures other { (u : Program) (f : Function) (paths : List Way) (cap : ℕ) (c : Way) → IsFlowOf u f paths self.now
+            → point < length (points_of f) → slice_get paths cap ≡ Some c → IsFalse result → Agree (course_of u f c) point }
     {
         match self.place(point) {
             Some(place) => place.index == 0,

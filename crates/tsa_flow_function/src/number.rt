@@ -14,8 +14,8 @@ use tsa_place::Places;
 use tsa_rules_view::RuleView;
 use tsa_rules_bodies::graph_of;
 
-/// What walks bring to the points of a function of a unit in the profile by its number. None exactly where it has no table of paths there, as without a
-/// body. The places are those of the unit.
+/// What walks bring to the points of a function of a unit in the profile by its number. None exactly where it has no table of paths there,
+/// as without a body. The places are those of the unit.
 pub fn flow_of<'a>(
     alloc: Global,
     unit: &Fit<'a>,
@@ -23,7 +23,8 @@ pub fn flow_of<'a>(
     function: u32,
 ) -> Result<Option<FunctionFlow<'a>>, NoMemory>
     requires placed { placed_in (item_shapes unit.now.typed.unit.now.items.now) ≡ Ok places.now }
-    ensures { IfOk result (λ flow. IsFlowIn (program_of (item_shapes unit.now.typed.unit.now.items.now)) (slice_get (program_of (item_shapes unit.now.typed.unit.now.items.now)).functions function) flow) }
+    ensures { IfOk result (λ flow. IsFlowIn (program_of (item_shapes unit.now.typed.unit.now.items.now))
+        (slice_get (program_of (item_shapes unit.now.typed.unit.now.items.now)).functions function) flow) }
 {
     let Some(view) = RuleView::new(alloc, unit, places, function)? else {
         return Ok(None);

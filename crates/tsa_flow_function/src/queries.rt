@@ -27,7 +27,8 @@ impl<'a> FunctionFlow<'a> {
         view: RuleView<'a>,
         blocks: Blocks,
     ) -> Result<FunctionFlow<'a>, NoMemory>
-        ensures { IfOk result (λ flow. (u : Program) (f : Function) (paths : List Way) → IsViewOf u f paths view.entry → AreBlocksOf (length (points_of f)) (edges_of f) blocks → IsFlowOf u f paths flow) }
+        ensures { IfOk result (λ flow. (u : Program) (f : Function) (paths : List Way) → IsViewOf u f paths view.entry
+            → AreBlocksOf (length (points_of f)) (edges_of f) blocks → IsFlowOf u f paths flow) }
     {
         let paths = path_flows(alloc, &view, &blocks)?;
         Ok(FunctionFlow {
@@ -60,7 +61,8 @@ impl<'a> FunctionFlow<'a> {
 
     /// The statuses of a path before a point: all that some walk brings there. None of a path that isn't there.
     pub fn statuses(&self, point: u32, cap: u32) -> Statuses
-        ensures { (u : Program) (f : Function) (paths : List Way) (c : Way) → IsFlowOf u f paths self.now → point < length (points_of f) → slice_get paths cap ≡ Some c → (s : _) → Has result s ↔ ReachAt (course_of u f c) point s }
+        ensures { (u : Program) (f : Function) (paths : List Way) (c : Way) → IsFlowOf u f paths self.now → point < length (points_of f)
+            → slice_get paths cap ≡ Some c → (s : _) → Has result s ↔ ReachAt (course_of u f c) point s }
     {
         match self.paths.lane(cap) {
             Some(lane) => {
@@ -75,8 +77,10 @@ impl<'a> FunctionFlow<'a> {
 
     /// Whether all edges that are reached into a point bring the same statuses of a path. Where they don't, two of them tell it.
     pub fn agree(&self, point: u32, cap: u32) -> bool
-        ensures is { (u : Program) (f : Function) (paths : List Way) (c : Way) → IsFlowOf u f paths self.now → point < length (points_of f) → slice_get paths cap ≡ Some c → IsTrue result ↔ Agree (course_of u f c) point }
-        ensures differ { (u : Program) (f : Function) (paths : List Way) (c : Way) → IsFlowOf u f paths self.now → point < length (points_of f) → slice_get paths cap ≡ Some c → IsFalse result → Disagree (course_of u f c) point }
+        ensures is { (u : Program) (f : Function) (paths : List Way) (c : Way) → IsFlowOf u f paths self.now → point < length (points_of f)
+            → slice_get paths cap ≡ Some c → IsTrue result ↔ Agree (course_of u f c) point }
+        ensures differ { (u : Program) (f : Function) (paths : List Way) (c : Way) → IsFlowOf u f paths self.now
+            → point < length (points_of f) → slice_get paths cap ≡ Some c → IsFalse result → Disagree (course_of u f c) point }
     {
         match self.paths.lane(cap) {
             Some(lane) => self.paths.reached.agree(&self.blocks, Spot { point, lane }),
@@ -86,7 +90,8 @@ impl<'a> FunctionFlow<'a> {
 
     /// Whether all edges that are reached into a point bring the same statuses of every path.
     pub fn all_agree(&self, point: u32) -> bool
-        ensures { (u : Program) (f : Function) (paths : List Way) (cap : ℕ) (c : Way) → IsFlowOf u f paths self.now → point < length (points_of f) → slice_get paths cap ≡ Some c → IsTrue result → Agree (course_of u f c) point }
+        ensures { (u : Program) (f : Function) (paths : List Way) (cap : ℕ) (c : Way) → IsFlowOf u f paths self.now
+            → point < length (points_of f) → slice_get paths cap ≡ Some c → IsTrue result → Agree (course_of u f c) point }
     {
         self.paths.reached.all_agree(&self.blocks, point)
     }

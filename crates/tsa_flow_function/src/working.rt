@@ -23,7 +23,8 @@ pub fn path_flows(
     blocks: &Blocks,
 ) -> Result<PathFlows, NoMemory>
     ensures claimed { IfOk result (λ flows. AreClaimed view.now flows.caps.items flows.claims) }
-    ensures flows { IfOk result (λ flows. (es : List Edge) → AreBlocksOf (rows_in view.now.notes.marks) es blocks.now → ArePathFlows es view.now blocks.now flows) }
+    ensures flows { IfOk result (λ flows. (es : List Edge) → AreBlocksOf (rows_in view.now.notes.marks) es blocks.now
+        → ArePathFlows es view.now blocks.now flows) }
 {
     let by_path = claims_of(alloc, view.marks(), view.caps())?;
     let table = lane_table(alloc, view, &by_path)?;

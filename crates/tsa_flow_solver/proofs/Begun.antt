@@ -1,5 +1,6 @@
 -- The beginning: the statuses at the entry, at the block of the first point.
-use Rattle.std.proofs.Common.{◌≡◌, ◌∙◌, ℕ, ◌<◌, ◌↔◌, inl, inr, Bool, true, false, List, [], ◌∷◌, ◌++◌, length, set, Contains, Some, None, slice_get, if◌then◌else◌, refl, sym, subst}
+use Rattle.std.proofs.Common.{◌≡◌, ◌∙◌, ℕ, ◌<◌, ◌↔◌, inl, inr, Bool, true, false, List, [], ◌∷◌, ◌++◌, length, set, Contains, Some, None}
+use Rattle.std.proofs.Common.{slice_get, if◌then◌else◌, refl, sym, subst}
 use Rattle.std.proofs.lemmas.List.Elements.{Contains-push}
 use Rattle.tsa_graph.specs.declared.sequence.Blocks.{Blocks}
 use Rattle.tsa_graph.specs.declared.sequence.Place.{Place}

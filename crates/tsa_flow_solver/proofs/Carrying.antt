@@ -1,5 +1,6 @@
 -- Along a block, place by place.
-use Rattle.std.proofs.Common.{◌≡◌, ◌∙◌, ℕ, ◌+◌, ◌*◌, ◌<◌, ◌↔◌, suc, zero, inl, inr, List, [], ◌∷◌, ◌++◌, get_or, length, Some, slice_get, sym, ap, subst, arith, add-one}
+use Rattle.std.proofs.Common.{◌≡◌, ◌∙◌, ℕ, ◌+◌, ◌*◌, ◌<◌, ◌↔◌, suc, zero, inl, inr, List, [], ◌∷◌, ◌++◌, get_or, length, Some, slice_get}
+use Rattle.std.proofs.Common.{sym, ap, subst, arith, add-one}
 use Rattle.std.proofs.Math.Decide.{dec_lt}
 use Rattle.std.proofs.lemmas.List.{get_or_default, length-append}
 use Rattle.std.proofs.lemmas.Option.{slice_get_within}

@@ -1,5 +1,6 @@
 -- The edges of a body are compared: along the exits of a block, and block by block.
-use Rattle.std.proofs.Common.{◌≡◌, ◌∙◌, ℕ, ◌+◌, ◌<◌, ◌↔◌, ◌⊎◌, inl, inr, Bool, List, [], ◌∷◌, ◌++◌, length, get_or, take, Contains, Some, None, slice_get, sym, ap, subst, arith}
+use Rattle.std.proofs.Common.{◌≡◌, ◌∙◌, ℕ, ◌+◌, ◌<◌, ◌↔◌, ◌⊎◌, inl, inr, Bool, List, [], ◌∷◌, ◌++◌, length, get_or, take, Contains, Some}
+use Rattle.std.proofs.Common.{None, slice_get, sym, ap, subst, arith}
 use Rattle.std.proofs.Math.Decide.{ℕ_discrete}
 use Rattle.std.proofs.lemmas.List.{take_more}
 use Rattle.std.proofs.lemmas.List.Elements.{Contains-append_left, Contains-push, Contains-push_cases}
@@ -14,7 +15,8 @@ use Rattle.tsa_rules.specs.declared.case.Case.{Case}
 use Rattle.tsa_rules.specs.declared.status.Status.{Status}
 use Rattle.tsa_rules.specs.declared.statuses.Statuses.{Statuses}
 use Rattle.tsa_rules.specs.Sets.{Has, IsImage}
-use Rattle.tsa_flow_solver.specs.Agreeing.{Agrees, AreArrivalsCompared, AreExitsCompared, Arrival, at_entry, brings_by, by_exit, IsBlockCompared, IsOneCompared, leads_by}
+use Rattle.tsa_flow_solver.specs.Agreeing.{Agrees, AreArrivalsCompared, AreExitsCompared, Arrival, at_entry, brings_by, by_exit}
+use Rattle.tsa_flow_solver.specs.Agreeing.{IsBlockCompared, IsOneCompared, leads_by}
 use Rattle.tsa_flow_solver.specs.Courses.{Leaves, leaving}
 use Rattle.tsa_flow_solver.specs.Passing.{IsCarried}
 use Rattle.tsa_flow_solver.specs.Rows.{set_at}

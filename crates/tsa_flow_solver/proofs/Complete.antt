@@ -1,5 +1,6 @@
 -- Sets that are worked out to the end are what walks bring.
-use Rattle.std.proofs.Common.{◌≡◌, ◌∙◌, ℕ, zero, suc, ◌+◌, ◌↔◌, ◌⊎◌, inl, inr, List, Contains, Option, Some, None, slice_get, refl, sym, ap, subst, add-one}
+use Rattle.std.proofs.Common.{◌≡◌, ◌∙◌, ℕ, zero, suc, ◌+◌, ◌↔◌, ◌⊎◌, inl, inr, List, Contains, Option, Some, None, slice_get, refl, sym, ap}
+use Rattle.std.proofs.Common.{subst, add-one}
 use Rattle.std.proofs.Math.Decide.{ℕ_discrete}
 use Rattle.std.proofs.lemmas.List.Elements.{All-contains}
 use Rattle.tsa_core.specs.Control.{Edge, edge, Outcome}

@@ -1,12 +1,14 @@
 -- Rows, grids, and one lane of a grid.
-use Rattle.std.proofs.Common.{◌≡◌, ◌∙◌, ℕ, zero, suc, ◌*◌, ◌<◌, ◌≤◌, Bool, false, List, [], ◌∷◌, ◌++◌, length, set, get_or, refl, sym, ap, subst, arith, get_or-set_same, get_or-set_other}
+use Rattle.std.proofs.Common.{◌≡◌, ◌∙◌, ℕ, zero, suc, ◌*◌, ◌<◌, ◌≤◌, Bool, false, List, [], ◌∷◌, ◌++◌, length, set, get_or, refl, sym, ap}
+use Rattle.std.proofs.Common.{subst, arith, get_or-set_same, get_or-set_other}
 use Rattle.std.proofs.Math.Decide.{ℕ_discrete}
 use Rattle.std.proofs.Math.ListN.{get_or-map}
 use Rattle.std.proofs.lemmas.List.{map-set, length-map}
 use Rattle.std.proofs.lemmas.List.Elements.{All-from_get_or, All-get_or}
 use Rattle.std.proofs.lemmas.List.Sums.{sum_by-le}
 use Rattle.tsa_rules.specs.declared.statuses.Statuses.{Statuses}
-use Rattle.tsa_flow_solver.specs.Rows.{AreAllSmall, AreSmall, AreWide, flag_at, flags_of, IsTakenIn, lane_of, no_statuses, row_at, set_at, total, union, weight}
+use Rattle.tsa_flow_solver.specs.Rows.{AreAllSmall, AreSmall, AreWide, flag_at, flags_of, IsTakenIn, lane_of, no_statuses, row_at, set_at}
+use Rattle.tsa_flow_solver.specs.Rows.{total, union, weight}
 
 -- what stands in a lane of a grid, and how many there are
 pub lane_at : (grid : List (List Statuses)) (l c : ℕ) → set_at (lane_of grid l) c ≡ set_at (row_at grid c) l

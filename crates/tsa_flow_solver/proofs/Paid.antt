@@ -1,5 +1,6 @@
 -- What waits is paid by greater sets.
-use Rattle.std.proofs.Common.{◌≡◌, ◌∙◌, ℕ, ◌+◌, ◌*◌, ◌-◌, ◌<◌, ◌≤◌, Bool, true, false, List, [], ◌∷◌, ◌++◌, length, set, if◌then◌else◌, refl, sym, ap, subst, arith, length-append, length-set}
+use Rattle.std.proofs.Common.{◌≡◌, ◌∙◌, ℕ, ◌+◌, ◌*◌, ◌-◌, ◌<◌, ◌≤◌, Bool, true, false, List, [], ◌∷◌, ◌++◌, length, set, if◌then◌else◌}
+use Rattle.std.proofs.Common.{refl, sym, ap, subst, arith, length-append, length-set}
 use Rattle.std.proofs.lemmas.List.Elements.{All-push, All-set, Contains-append_left}
 use Rattle.std.proofs.lemmas.List.Sums.{sum_by-set}
 use Rattle.tsa_rules.specs.declared.statuses.Statuses.{Statuses}

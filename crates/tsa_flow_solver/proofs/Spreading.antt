@@ -1,5 +1,6 @@
 -- The exits of a block are worked out one by one, in all lanes.
-use Rattle.std.proofs.Common.{◌∙◌, ℕ, ◌+◌, ◌<◌, Bool, true, false, List, [], ◌∷◌, ◌++◌, length, get_or, take, if◌then◌else◌, refl, sym, ap, subst}
+use Rattle.std.proofs.Common.{◌∙◌, ℕ, ◌+◌, ◌<◌, Bool, true, false, List, [], ◌∷◌, ◌++◌, length, get_or, take, if◌then◌else◌, refl, sym, ap}
+use Rattle.std.proofs.Common.{subst}
 use Rattle.tsa_graph.specs.declared.sequence.Block.{Block}
 use Rattle.tsa_graph.specs.declared.sequence.Exit.{Exit}
 use Rattle.tsa_rules.specs.declared.case.Case.{Case}

@@ -1,5 +1,6 @@
 -- A row takes in another one, lane by lane.
-use Rattle.std.proofs.Common.{◌≡◌, ◌∙◌, ℕ, ◌+◌, ◌^◌, ◌<◌, ◌≤◌, Bool, true, false, IsTrue, not, nat_eq, eq-eqb, List, length, set, refl, sym, ap, subst, arith, true≢false, length-set, get_or-set_same, get_or-set_other}
+use Rattle.std.proofs.Common.{◌≡◌, ◌∙◌, ℕ, ◌+◌, ◌^◌, ◌<◌, ◌≤◌, Bool, true, false, IsTrue, not, nat_eq, eq-eqb, List, length, set, refl, sym}
+use Rattle.std.proofs.Common.{ap, subst, arith, true≢false, length-set, get_or-set_same, get_or-set_other}
 use Rattle.std.proofs.Math.Decide.{ℕ_discrete}
 use Rattle.std.proofs.lemmas.List.{set-get_or}
 use Rattle.std.proofs.lemmas.List.Sums.{sum_by-set}

@@ -57,7 +57,8 @@ pub record AreFlagged (count : ℕ) (old new : List (List Bool)) : Type 0 where
   pub long : length new ≡ length old
   pub wide : All (λ row. length row ≡ count) new
 
--- Some edges are compared: a block keeps its flag where all of them that lead there agree with its set, and loses it only where one differs.
+-- Some edges are compared: a block keeps its flag where all of them that lead there agree with its set, and loses it only where one
+-- differs.
 pub record AreCompared (E : Type 0) (leads : E → ℕ → Type 0) (brings : E → Status → Type 0) (rows : List Statuses) (old new : List Bool) : Type 0 where
   pub long : length new ≡ length old
   pub kept : (c : ℕ) → flag_at new c ≡ true → (flag_at old c ≡ true) × ((e : E) → leads e c → Agrees (set_at rows c) (brings e))

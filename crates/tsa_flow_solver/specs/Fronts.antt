@@ -33,8 +33,8 @@ pub record IsBrought (effect : Outcome → Status → Status) (last : Statuses) 
   pub gets : Has last before
   pub makes : effect (outcome_of by.outcome) before ≡ t
 
--- Exits are worked out in one lane: what they make of the statuses of a last point is taken in where they lead, and nothing else is. Each block whose set
--- has grown waits.
+-- Exits are worked out in one lane: what they make of the statuses of a last point is taken in where they lead, and nothing else is. Each
+-- block whose set has grown waits.
 pub record WorkedOut (effect : Outcome → Status → Status) (last : Statuses) (exits : List Exit) (old new : List Statuses) (work work' : List ℕ) : Type 0 where
   pub long : length new ≡ length old
   pub more : HasMore old new

@@ -1,4 +1,5 @@
--- What points make of a set of statuses in one lane: by an outcome, from a place of a block to the next one, along a block, and where it is left.
+-- What points make of a set of statuses in one lane: by an outcome, from a place of a block to the next one, along a block, and where it is
+-- left.
 use Rattle.std.specs.Prelude.{ℕ, ◌<◌, ◌≤◌, ◌≡◌, ◌↔◌, ◌⊎◌, List, Contains}
 use Rattle.tsa_graph_edges.specs.declared.link.Outcome as code
 use Rattle.tsa_graph_edges.specs.Links.{outcome_of}
@@ -28,7 +29,8 @@ abbrev pub IsPending : Role → Statuses → Type 0
 IsPending (role.Tests t) set = IsUnseen t.asked set
 IsPending _ set = ⊥
 
--- What a point makes of a lane's set where some lanes are claimed: first where it tests a variable whose answer the lane holds unseen, and isn't claimed.
+-- What a point makes of a lane's set where some lanes are claimed: first where it tests a variable whose answer the lane holds unseen, and
+-- isn't claimed.
 pub data IsPassed (x : Case) (o : code.Outcome) (claims : List ℕ) (lane : ℕ) (before after : Statuses) : Type 0 where
   passes : (Contains claims lane → ⊥) → Passes x o before after → IsPassed x o claims lane before after
   stays : (Contains claims lane) ⊎ (IsPending x.role before → ⊥) → after ≡ before → IsPassed x o claims lane before after

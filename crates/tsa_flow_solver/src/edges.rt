@@ -1,6 +1,7 @@
 //! Whether the edges that lead to a block bring the same statuses there.
 ghost use Rattle.std.specs.Prelude.{◌≡◌, ◌+◌, ◌<◌, ℕ, All, length, IfOk, OnOk, true};
-ghost use Rattle.tsa_flow_solver.specs.Agreeing.{AreArrivalsCompared, AreExitsCompared, AreFlagged, IsBlockCompared, IsOneCompared, IsSized};
+ghost use Rattle.tsa_flow_solver.specs.Agreeing.{AreArrivalsCompared, AreExitsCompared, AreFlagged, IsBlockCompared, IsOneCompared};
+ghost use Rattle.tsa_flow_solver.specs.Agreeing.{IsSized};
 ghost use Rattle.tsa_flow_solver.specs.Courses.{leaving};
 ghost use Rattle.tsa_flow_solver.specs.Passing.{ArePoints};
 ghost use Rattle.tsa_flow_solver.specs.Rows.{flag_at, flags_of, lane_of, set_at};
@@ -40,7 +41,9 @@ impl Joins {
         requires block { block < length self.old.agreeing.items }
         ensures rows { self.new.rows.items ≡ self.old.rows.items }
         ensures wide { AreFlagged count self.old.agreeing.items self.new.agreeing.items }
-        ensures flags { (lane : ℕ) → lane < count → IsOneCompared block (set_at set.now lane) (lane_of self.old.rows.items lane) (flags_of self.old.agreeing.items lane) (flags_of self.new.agreeing.items lane) }
+        ensures flags { (lane : ℕ) → lane < count
+            → IsOneCompared block (set_at set.now lane) (lane_of self.old.rows.items lane) (flags_of self.old.agreeing.items lane)
+            (flags_of self.new.agreeing.items lane) }
     {
         let at = block as usize;
         self.agreeing[at].compare(count, set, &self.rows[at]);

@@ -40,7 +40,8 @@ fn empty_rows(alloc: Global, blocks: &Blocks, count: u32) -> Result<Vec<Row>, No
 /// The statuses of all lanes at the function's entry.
 pub(crate) fn entries<L: Lanes>(alloc: Global, lanes: &L) -> Result<Row, NoMemory>
     ensures long { IfOk result (λ row. length row ≡ L.count lanes.now) }
-    ensures only { IfOk result (λ row. (lane : ℕ) → lane < L.count lanes.now → (s : _) → Has (set_at row lane) s ↔ (s ≡ L.enters lanes.now lane)) }
+    ensures only { IfOk result (λ row. (lane : ℕ) → lane < L.count lanes.now → (s : _)
+        → Has (set_at row lane) s ↔ (s ≡ L.enters lanes.now lane)) }
 {
     let mut row = Row::empty(alloc, lanes.count())?;
     'lanes: for lane in 0..lanes.count() {
@@ -52,8 +53,10 @@ pub(crate) fn entries<L: Lanes>(alloc: Global, lanes: &L) -> Result<Row, NoMemor
 impl Front {
     /// The statuses at the entry, at the block of the first point.
     pub fn new<L: Lanes>(alloc: Global, blocks: &Blocks, lanes: &L) -> Result<Front, NoMemory>
-        ensures ready { IfOk result (λ front. IsReady (L.count lanes.now) (length blocks.now.blocks.items) front.rows.items front.work.items) }
-        ensures begun { IfOk result (λ front. (lane : ℕ) → lane < L.count lanes.now → HaveBegun (L.enters lanes.now lane) blocks.now (lane_of front.rows.items lane) front.work.items) }
+        ensures ready { IfOk result (λ front. IsReady (L.count lanes.now) (length blocks.now.blocks.items) front.rows.items
+            front.work.items) }
+        ensures begun { IfOk result (λ front. (lane : ℕ) → lane < L.count lanes.now
+            → HaveBegun (L.enters lanes.now lane) blocks.now (lane_of front.rows.items lane) front.work.items) }
     {
         let mut front = Front {
             rows: empty_rows(alloc, blocks, lanes.count())?,
@@ -84,7 +87,8 @@ impl Front {
         requires last { length last.now ≡ L.count lanes.now }
         requires long { length block.now.points.items ≡ length block.now.inner.items + 1 }
         requires exits { All (λ x. x.to < length self.old.rows.items) block.now.exits.items }
-        ensures { OnOk result (AreSpread (L.count lanes.now) (L.points lanes.now) (L.cases lanes.now) block.now block.now.exits.items last.now self.old.rows.items self.new.rows.items self.old.work.items self.new.work.items) }
+        ensures { OnOk result (AreSpread (L.count lanes.now) (L.points lanes.now) (L.cases lanes.now) block.now block.now.exits.items
+            last.now self.old.rows.items self.new.rows.items self.old.work.items self.new.work.items) }
     {
         'exits: for exit in &block.exits {
             let out = leave(lanes, block, exit.outcome, last)?;
@@ -98,7 +102,8 @@ impl Front {
         requires long { length self.old.rows.items ≡ length blocks.now.blocks.items }
         requires wide { AreWide (L.count lanes.now) self.old.rows.items }
         requires number { number < length blocks.now.blocks.items }
-        ensures { OnOk result (AreTurned (L.count lanes.now) (L.points lanes.now) (L.cases lanes.now) blocks.now.blocks.items number self.old.rows.items self.new.rows.items self.old.work.items self.new.work.items) }
+        ensures { OnOk result (AreTurned (L.count lanes.now) (L.points lanes.now) (L.cases lanes.now) blocks.now.blocks.items number
+            self.old.rows.items self.new.rows.items self.old.work.items self.new.work.items) }
     {
         let block = &blocks.blocks[number as usize];
         let mut last = self.rows[number as usize].copy()?;
@@ -109,12 +114,17 @@ impl Front {
     /// Works out blocks until none waits.
     pub fn settle<L: Lanes>(&mut self, lanes: &L, blocks: &Blocks) -> Result<(), NoMemory>
         requires ready { IsReady (L.count lanes.now) (length blocks.now.blocks.items) self.old.rows.items self.old.work.items }
-        requires begun { (lane : ℕ) → lane < L.count lanes.now → HaveBegun (L.enters lanes.now lane) blocks.now (lane_of self.old.rows.items lane) self.old.work.items }
+        requires begun { (lane : ℕ) → lane < L.count lanes.now
+            → HaveBegun (L.enters lanes.now lane) blocks.now (lane_of self.old.rows.items lane) self.old.work.items }
         ensures long { OnOk result (length self.new.rows.items ≡ length blocks.now.blocks.items) }
         ensures wide { OnOk result (AreWide (L.count lanes.now) self.new.rows.items) }
-        ensures more { OnOk result ((es : List Edge) (lane : ℕ) → AreBlocksOf (L.points lanes.now) es blocks.now → lane < L.count lanes.now → HasMore (lane_of self.old.rows.items lane) (lane_of self.new.rows.items lane)) }
-        ensures sound { OnOk result ((es : List Edge) (lane : ℕ) → AreBlocksOf (L.points lanes.now) es blocks.now → lane < L.count lanes.now → AreSound (course_by es (L.enters lanes.now lane) (L.cases lanes.now lane)) blocks.now.blocks.items (lane_of self.new.rows.items lane)) }
-        ensures closed { OnOk result ((es : List Edge) (lane : ℕ) → AreBlocksOf (L.points lanes.now) es blocks.now → lane < L.count lanes.now → AreClosed (L.cases lanes.now lane) blocks.now.blocks.items (lane_of self.new.rows.items lane)) }
+        ensures more { OnOk result ((es : List Edge) (lane : ℕ) → AreBlocksOf (L.points lanes.now) es blocks.now → lane < L.count lanes.now
+            → HasMore (lane_of self.old.rows.items lane) (lane_of self.new.rows.items lane)) }
+        ensures sound { OnOk result ((es : List Edge) (lane : ℕ) → AreBlocksOf (L.points lanes.now) es blocks.now → lane < L.count lanes.now
+            → AreSound (course_by es (L.enters lanes.now lane) (L.cases lanes.now lane)) blocks.now.blocks.items
+            (lane_of self.new.rows.items lane)) }
+        ensures closed { OnOk result ((es : List Edge) (lane : ℕ) → AreBlocksOf (L.points lanes.now) es blocks.now
+            → lane < L.count lanes.now → AreClosed (L.cases lanes.now lane) blocks.now.blocks.items (lane_of self.new.rows.items lane)) }
     {
         'waiting: while let Some(number) = self.work.pop() {
             self.turn(lanes, blocks, number)?;

@@ -16,7 +16,8 @@ use tsa_base::NoMemory;
 use tsa_graph::Blocks;
 use tsa_rules::Statuses;
 
-/// What walks bring to the first point of each block, lane by lane: the statuses, and whether all edges that are reached there bring the same.
+/// What walks bring to the first point of each block, lane by lane: the statuses, and whether all edges that are reached there bring the
+/// same.
 pub struct Joins {
     pub(crate) rows: Vec<Row>,
     pub(crate) agreeing: Vec<Flags>,
@@ -36,7 +37,8 @@ impl Drop for Joins {
 pub fn join<L: Lanes>(alloc: Global, blocks: &Blocks, lanes: &L) -> Result<Joins, NoMemory>
     ensures long { IfOk result (λ r. length r.rows.items ≡ length blocks.now.blocks.items) }
     ensures wide { IfOk result (λ r. AreWide (L.count lanes.now) r.rows.items) }
-    ensures joined { IfOk result (λ r. (es : List Edge) (lane : ℕ) → AreBlocksOf (L.points lanes.now) es blocks.now → lane < L.count lanes.now
+    ensures joined { IfOk result (λ r. (es : List Edge) (lane : ℕ) → AreBlocksOf (L.points lanes.now) es blocks.now
+        → lane < L.count lanes.now
         → AreJoined (course_by es (L.enters lanes.now lane) (L.cases lanes.now lane)) blocks.now (lane_of r.rows.items lane) (flags_of r.agreeing.items lane)) }
 {
     let mut front = Front::new(alloc, blocks, lanes)?;

@@ -43,5 +43,6 @@ pub trait Lanes {
     /// The lanes whose path something claims at a point, in order.
     fn claims(&self, point: u32) -> &[u32]
         ensures rising { AreRising result.now }
-        ensures all { (lane : ℕ) → point < points self.now → lane < count self.now → is_some (cases self.now lane point).mark.claim ≡ true → Contains result.now lane };
+        ensures all { (lane : ℕ) → point < points self.now → lane < count self.now → is_some (cases self.now lane point).mark.claim ≡ true
+            → Contains result.now lane };
 }

@@ -68,7 +68,8 @@ fn pass_in<L: Lanes>(lanes: &L, pass: Pass, lane: u32, set: Statuses) -> Statuse
 fn pass_pending<L: Lanes>(lanes: &L, pass: Pass, claims: &[u32], row: &mut Row)
     requires { length row.old ≡ L.count lanes.now }
     ensures long { length row.new ≡ length row.old }
-    ensures each { (lane : ℕ) → lane < L.count lanes.now → IsPassed (L.cases lanes.now lane pass.point) pass.outcome claims.now lane (set_at row.old lane) (set_at row.new lane) }
+    ensures each { (lane : ℕ) → lane < L.count lanes.now
+        → IsPassed (L.cases lanes.now lane pass.point) pass.outcome claims.now lane (set_at row.old lane) (set_at row.new lane) }
 {
     let role = lanes.role(pass.point);
     'lanes: for lane in 0..lanes.count() {
@@ -84,7 +85,8 @@ fn pass_claims<L: Lanes>(lanes: &L, pass: Pass, claims: &[u32], row: &mut Row)
     requires wide { length row.old ≡ L.count lanes.now }
     requires rising { AreRising claims.now }
     ensures long { length row.new ≡ length row.old }
-    ensures each { (lane : ℕ) → lane < L.count lanes.now → IsClaimPassed (L.cases lanes.now lane pass.point) pass.outcome claims.now lane (set_at row.old lane) (set_at row.new lane) }
+    ensures each { (lane : ℕ) → lane < L.count lanes.now
+        → IsClaimPassed (L.cases lanes.now lane pass.point) pass.outcome claims.now lane (set_at row.old lane) (set_at row.new lane) }
 {
     'claims: for lane in claims {
         let set = pass_in(lanes, pass, *lane, row.at(*lane));
@@ -96,7 +98,8 @@ fn pass_claims<L: Lanes>(lanes: &L, pass: Pass, claims: &[u32], row: &mut Row)
 fn pass_row<L: Lanes>(lanes: &L, pass: Pass, row: &mut Row)
     requires wide { length row.old ≡ L.count lanes.now }
     ensures long { length row.new ≡ length row.old }
-    ensures each { (lane : ℕ) → pass.point < L.points lanes.now → lane < L.count lanes.now → Passes (L.cases lanes.now lane pass.point) pass.outcome (set_at row.old lane) (set_at row.new lane) }
+    ensures each { (lane : ℕ) → pass.point < L.points lanes.now → lane < L.count lanes.now
+        → Passes (L.cases lanes.now lane pass.point) pass.outcome (set_at row.old lane) (set_at row.new lane) }
 {
     let claims = lanes.claims(pass.point);
     if may_be_pending(lanes.role(pass.point), row) {
@@ -124,7 +127,8 @@ pub(crate) fn step<L: Lanes>(lanes: &L, block: &Block, index: usize, row: &mut R
     requires inside { index < last_in block.now }
     requires long { length block.now.points.items ≡ length block.now.inner.items + 1 }
     ensures long { length row.new ≡ length row.old }
-    ensures each { (lane : ℕ) → point_in block.now index < L.points lanes.now → lane < L.count lanes.now → IsStep (L.cases lanes.now lane) block.now index (set_at row.old lane) (set_at row.new lane) }
+    ensures each { (lane : ℕ) → point_in block.now index < L.points lanes.now → lane < L.count lanes.now
+        → IsStep (L.cases lanes.now lane) block.now index (set_at row.old lane) (set_at row.new lane) }
 {
     pass_row(lanes, pass_at(block, index), row);
 }
@@ -134,7 +138,8 @@ pub(crate) fn along<L: Lanes>(lanes: &L, block: &Block, row: &mut Row)
     requires wide { length row.old ≡ L.count lanes.now }
     requires long { length block.now.points.items ≡ length block.now.inner.items + 1 }
     ensures long { length row.new ≡ length row.old }
-    ensures each { (lane : ℕ) → ArePoints (L.points lanes.now) block.now → lane < L.count lanes.now → IsCarried (L.cases lanes.now lane) block.now (set_at row.old lane) (last_in block.now) (set_at row.new lane) }
+    ensures each { (lane : ℕ) → ArePoints (L.points lanes.now) block.now → lane < L.count lanes.now
+        → IsCarried (L.cases lanes.now lane) block.now (set_at row.old lane) (last_in block.now) (set_at row.new lane) }
 {
     'places: for index in 0..block.inner.len() {
         step(lanes, block, index, row);
@@ -151,7 +156,8 @@ pub(crate) fn leave<L: Lanes>(
     requires wide { length last.now ≡ L.count lanes.now }
     requires long { length block.now.points.items ≡ length block.now.inner.items + 1 }
     ensures long { IfOk result (λ row. length row ≡ L.count lanes.now) }
-    ensures each { IfOk result (λ row. (lane : ℕ) → ArePoints (L.points lanes.now) block.now → lane < L.count lanes.now → IsLeft (L.cases lanes.now lane) block.now outcome (set_at last.now lane) (set_at row lane)) }
+    ensures each { IfOk result (λ row. (lane : ℕ) → ArePoints (L.points lanes.now) block.now → lane < L.count lanes.now
+        → IsLeft (L.cases lanes.now lane) block.now outcome (set_at last.now lane) (set_at row lane)) }
 {
     let mut row = last.copy()?;
     let point = block.points[block.inner.len()];
@@ -161,7 +167,8 @@ pub(crate) fn leave<L: Lanes>(
 
 /// What the statuses of a lane at a point are behind it.
 pub(crate) fn step_in<L: Lanes>(lanes: &L, pass: Pass, lane: u32, set: Statuses) -> Statuses
-    ensures { pass.point < L.points lanes.now → lane < L.count lanes.now → Passes (L.cases lanes.now lane pass.point) pass.outcome set result }
+    ensures { pass.point < L.points lanes.now → lane < L.count lanes.now
+        → Passes (L.cases lanes.now lane pass.point) pass.outcome set result }
 {
     if is_pending(lanes.role(pass.point), set) {
         return pass_in(lanes, pass, lane, set);

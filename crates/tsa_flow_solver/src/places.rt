@@ -16,7 +16,8 @@ pub fn place_of(blocks: &Blocks, point: u32) -> Option<Place>
 /// Whether the first point of a block stands at its beginning, so that the block is one of the body.
 pub fn is_in_place(blocks: &Blocks, number: usize) -> bool
     requires { number < length blocks.now.blocks.items }
-    ensures { (b : PointBlock) → slice_get blocks.now.blocks.items number ≡ Some b → IsTrue result ↔ (slice_get blocks.now.places.items (point_in b 0) ≡ Some (place number 0)) }
+    ensures { (b : PointBlock) → slice_get blocks.now.blocks.items number ≡ Some b
+        → IsTrue result ↔ (slice_get blocks.now.places.items (point_in b 0) ≡ Some (place number 0)) }
 {
     let block = &blocks.blocks[number];
     match place_of(blocks, block.points[0]) {

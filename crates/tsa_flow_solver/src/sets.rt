@@ -54,7 +54,8 @@ pub struct Stand {
 
 /// What walks bring to the points of a body.
 pub fn reach<L: Lanes>(alloc: Global, blocks: &Blocks, lanes: &L) -> Result<Reached, NoMemory>
-    ensures { IfOk result (λ r. (es : List Edge) → AreBlocksOf (L.points lanes.now) es blocks.now → AreReached es (L.count lanes.now) (L.enters lanes.now) (L.cases lanes.now) blocks.now r) }
+    ensures { IfOk result (λ r. (es : List Edge) → AreBlocksOf (L.points lanes.now) es blocks.now
+        → AreReached es (L.count lanes.now) (L.enters lanes.now) (L.cases lanes.now) blocks.now r) }
 {
     let joins = join(alloc, blocks, lanes)?;
     let stages = stages_of(alloc, lanes, blocks, &joins.rows)?;
@@ -81,7 +82,9 @@ impl Reached {
     fn stand(&self, place: Place, lane: u32) -> Stand
         ensures lane { result.lane ≡ lane }
         ensures before { result.at ≤ place.index }
-        ensures set { (cases : _) (b : _) → AreStages cases b (set_at (lane_of self.now.joins.rows.items lane) place.block) lane (slice_index_or self.now.stages place.block [])
+        ensures set { (cases : _) (b : _)
+            → AreStages cases b (set_at (lane_of self.now.joins.rows.items lane) place.block) lane
+            (slice_index_or self.now.stages place.block [])
             → IsCarried cases b (set_at (lane_of self.now.joins.rows.items lane) place.block) result.at result.set }
     {
         let number = place.index as usize / STAGE;
@@ -101,7 +104,8 @@ impl Reached {
 
     /// The statuses that walks bring to a point in a lane.
     pub fn statuses<L: Lanes>(&self, lanes: &L, blocks: &Blocks, spot: Spot) -> Statuses
-        ensures { (es : List Edge) → AreBlocksOf (L.points lanes.now) es blocks.now → AreReached es (L.count lanes.now) (L.enters lanes.now) (L.cases lanes.now) blocks.now self.now
+        ensures { (es : List Edge) → AreBlocksOf (L.points lanes.now) es blocks.now
+            → AreReached es (L.count lanes.now) (L.enters lanes.now) (L.cases lanes.now) blocks.now self.now
             → spot.point < L.points lanes.now → spot.lane < L.count lanes.now → (s : _) → Has result s ↔ ReachAt (course_by es (L.enters lanes.now spot.lane) (L.cases lanes.now spot.lane)) spot.point s }
     {
         match place_of(blocks, spot.point) {
@@ -117,9 +121,11 @@ impl Reached {
 
     /// Whether all edges that are reached into a point bring the same statuses there in a lane. Where they don't, two of them tell it.
     pub fn agree(&self, blocks: &Blocks, spot: Spot) -> bool
-        ensures is { (n : ℕ) (es : List Edge) (count : ℕ) (enters : _) (cases : _) → AreBlocksOf n es blocks.now → AreReached es count enters cases blocks.now self.now → spot.point < n → spot.lane < count
+        ensures is { (n : ℕ) (es : List Edge) (count : ℕ) (enters : _) (cases : _) → AreBlocksOf n es blocks.now
+            → AreReached es count enters cases blocks.now self.now → spot.point < n → spot.lane < count
             → IsTrue result ↔ Agree (course_by es (enters spot.lane) (cases spot.lane)) spot.point }
-        ensures differ { (n : ℕ) (es : List Edge) (count : ℕ) (enters : _) (cases : _) → AreBlocksOf n es blocks.now → AreReached es count enters cases blocks.now self.now → spot.point < n → spot.lane < count
+        ensures differ { (n : ℕ) (es : List Edge) (count : ℕ) (enters : _) (cases : _) → AreBlocksOf n es blocks.now
+            → AreReached es count enters cases blocks.now self.now → spot.point < n → spot.lane < count
             → IsFalse result → Disagree (course_by es (enters spot.lane) (cases spot.lane)) spot.point }
     {
         match place_of(blocks, spot.point) {
@@ -130,7 +136,8 @@ impl Reached {
 
     /// Whether all edges that are reached into a point bring the same statuses there in every lane.
     pub fn all_agree(&self, blocks: &Blocks, point: u32) -> bool
-        ensures { (n : ℕ) (es : List Edge) (count : ℕ) (enters : _) (cases : _) (lane : ℕ) → AreBlocksOf n es blocks.now → AreReached es count enters cases blocks.now self.now → point < n → lane < count
+        ensures { (n : ℕ) (es : List Edge) (count : ℕ) (enters : _) (cases : _) (lane : ℕ) → AreBlocksOf n es blocks.now
+            → AreReached es count enters cases blocks.now self.now → point < n → lane < count
             → IsTrue result → Agree (course_by es (enters lane) (cases lane)) point }
     {
         match place_of(blocks, point) {

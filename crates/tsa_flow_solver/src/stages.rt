@@ -1,5 +1,6 @@
 //! The statuses at each fourth place of blocks.
-ghost use Rattle.std.specs.Prelude.{◌≡◌, ◌++◌, ◌∷◌, ◌+◌, ◌*◌, ◌<◌, ◌≤◌, ◌↔◌, ℕ, [], List, Some, All, length, slice_get, slice_index_or, IfOk, OnOk};
+ghost use Rattle.std.specs.Prelude.{◌≡◌, ◌++◌, ◌∷◌, ◌+◌, ◌*◌, ◌<◌, ◌≤◌, ◌↔◌, ℕ, [], List, Some, All, length, slice_get, slice_index_or};
+ghost use Rattle.std.specs.Prelude.{IfOk, OnOk};
 ghost use Rattle.tsa_graph.specs.Rows.{last_in, point_in};
 ghost use Rattle.tsa_flow_solver.specs.Passing.{ArePoints};
 ghost use Rattle.tsa_flow_solver.specs.Rows.{AreWide, row_at, set_at};
@@ -79,7 +80,8 @@ fn block_stages<L: Lanes>(
 ) -> Result<Vec<Row>, NoMemory>
     requires wide { length from.now ≡ L.count lanes.now }
     requires long { length block.now.points.items ≡ length block.now.inner.items + 1 }
-    ensures { IfOk result (λ stages. (lane : ℕ) → ArePoints (L.points lanes.now) block.now → lane < L.count lanes.now → AreStages (L.cases lanes.now lane) block.now (set_at from.now lane) lane stages.items) }
+    ensures { IfOk result (λ stages. (lane : ℕ) → ArePoints (L.points lanes.now) block.now → lane < L.count lanes.now
+        → AreStages (L.cases lanes.now lane) block.now (set_at from.now lane) lane stages.items) }
 {
     let mut stages = Vec::new(alloc);
     let mut row = from.copy()?;
@@ -99,7 +101,8 @@ pub(crate) fn stages_of<L: Lanes>(
 ) -> Result<Stages, NoMemory>
     requires long { length rows.now ≡ length blocks.now.blocks.items }
     requires wide { AreWide (L.count lanes.now) rows.now }
-    ensures { IfOk result (λ stages. (lane : ℕ) → All (ArePoints (L.points lanes.now)) blocks.now.blocks.items → lane < L.count lanes.now → AreStaged (L.cases lanes.now lane) blocks.now.blocks.items rows.now lane stages) }
+    ensures { IfOk result (λ stages. (lane : ℕ) → All (ArePoints (L.points lanes.now)) blocks.now.blocks.items → lane < L.count lanes.now
+        → AreStaged (L.cases lanes.now lane) blocks.now.blocks.items rows.now lane stages) }
 {
     let mut stages = Stages::new(alloc);
     'each: for number in 0..blocks.blocks.len() {

@@ -1,7 +1,8 @@
 -- A reader's answer is exact, and two trees that the same tokens spell are equal.
 use Rattle.std.proofs.Common.{ℕ, ◌<◌, ◌≤◌, ◌≡◌, ◌∙◌, sym, subst, refl, Bool, true, Option, Some, None, Ok, Err, arith}
 use Rattle.tsa_grammar.specs.Form.{Form}
-use Rattle.tsa_grammar.specs.Spelling.{Spells, Begins, begins_rule, Starts, starts_here, starts_barred, starts_bar, starts_token, starts_in, starts_over, starts_limit, starts_only, starts_left, starts_right}
+use Rattle.tsa_grammar.specs.Spelling.{Spells, Begins, begins_rule, Starts, starts_here, starts_barred, starts_bar, starts_token, starts_in}
+use Rattle.tsa_grammar.specs.Spelling.{starts_over, starts_limit, starts_only, starts_left, starts_right}
 use Rattle.tsa_grammar.specs.Reading.{Code, syntax, deep, barred, Refusal, refuse, Outcome, stop, follow, run, all}
 use Rattle.tsa_grammar.specs.Exact.{Exact, ExactAt}
 use Rattle.tsa_grammar.proofs.Good.{Next, Past, Good}

@@ -53,7 +53,8 @@ module _ {S : Type 0} {C N : S → Type 0} {K : Type 0} (sees : K → ℕ → Bo
   IsToken s _ = ⊥
 
   -- The form may stand here in a grammar. It is fresh while no token of its part was read. Each of its choices is decided by the token in
-  -- sight, each part ends where the rest may go on, and a reader goes past each limit when there are no limits. No two bars stand at one place.
+  -- sight, each part ends where the rest may go on, and a reader goes past each limit when there are no limits. No two bars stand at one
+  -- place.
   abbrev pub Good : (s : S) (c : C s) (fresh : Bool) → Form S C N K s → ℕ → Type 0
   Good s c w (done x) a = Whole w (Ends s c x a)
   Good s c w (bar p q f) a = (p ≡ true → Barren s f a) × (p ≡ false → Good s c w f a) × IsToken s f

@@ -1,7 +1,10 @@
 -- What a reader answers is so, and its number of steps is enough.
-use Rattle.std.proofs.Common.{ℕ, zero, suc, ◌+◌, ◌-◌, ◌<◌, ◌≤◌, ◌≡◌, ◌∙◌, ap, subst, refl, Bool, true, false, Option, Some, None, Ok, Err, arith}
+use Rattle.std.proofs.Common.{ℕ, zero, suc, ◌+◌, ◌-◌, ◌<◌, ◌≤◌, ◌≡◌, ◌∙◌, ap, subst, refl, Bool, true, false, Option, Some, None, Ok, Err}
+use Rattle.std.proofs.Common.{arith}
 use Rattle.tsa_grammar.specs.Form.{Form, done, bar, token, part, limit, only, either}
-use Rattle.tsa_grammar.specs.Spelling.{Spells, by_rule, Goes, goes_done, goes_token, goes_part, goes_bar, goes_limit, goes_only, goes_left, goes_right, Begins, begins_rule, Starts, starts_here, starts_barred, starts_bar, starts_token, starts_in, starts_over, starts_limit, starts_only, starts_left, starts_right}
+use Rattle.tsa_grammar.specs.Spelling.{Spells, by_rule, Goes, goes_done, goes_token, goes_part, goes_bar, goes_limit, goes_only, goes_left}
+use Rattle.tsa_grammar.specs.Spelling.{goes_right, Begins, begins_rule, Starts, starts_here, starts_barred, starts_bar, starts_token}
+use Rattle.tsa_grammar.specs.Spelling.{starts_in, starts_over, starts_limit, starts_only, starts_left, starts_right}
 use Rattle.tsa_grammar.specs.Reading.{Code, syntax, deep, barred, refuse, Outcome, then, choose, follow, run_in, measure, run}
 use Rattle.tsa_grammar.proofs.Good.{Whole, Lower, Good}
 use Rattle.tsa_grammar.proofs.Cases.{on_choose, on_then}

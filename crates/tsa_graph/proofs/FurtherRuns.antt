@@ -1,5 +1,6 @@
 -- A further run beside those before it.
-use Rattle.std.proofs.Common.{◌≡◌, ◌∙◌, ℕ, ◌+◌, ◌<◌, arith, Bool, nat_eq, List, [], ◌∷◌, ◌++◌, length, reverse, Option, Some, None, refl, sym, ap, subst}
+use Rattle.std.proofs.Common.{◌≡◌, ◌∙◌, ℕ, ◌+◌, ◌<◌, arith, Bool, nat_eq, List, [], ◌∷◌, ◌++◌, length, reverse, Option, Some, None, refl}
+use Rattle.std.proofs.Common.{sym, ap, subst}
 use Rattle.std.proofs.lemmas.List.{reverse-append}
 use Rattle.tsa_graph.specs.Runs.{step, first_of, last_of, AreWays, IsChain, IsLongest, bit, times, times_in}
 use Rattle.tsa_graph.specs.Tracing.{is_seen, IsMarked, IsBack, end_of, IsRound, AreRuns}

@@ -1,5 +1,6 @@
 -- The blocks of a graph with their exits are those of its edges.
-use Rattle.std.proofs.Common.{◌≡◌, ◌∙◌, ℕ, zero, suc, ◌+◌, ◌<◌, ◌≤◌, arith, nat_lt, ◌⊎◌, inl, inr, List, length, get_or, All, Contains, Some, slice_get, refl, sym, ap, ap₂, subst}
+use Rattle.std.proofs.Common.{◌≡◌, ◌∙◌, ℕ, zero, suc, ◌+◌, ◌<◌, ◌≤◌, arith, nat_lt, ◌⊎◌, inl, inr, List, length, get_or, All, Contains}
+use Rattle.std.proofs.Common.{Some, slice_get, refl, sym, ap, ap₂, subst}
 use Rattle.std.proofs.lemmas.List.Elements.{All-contains, All-from_get_or, All-get_or, All-same}
 use Rattle.std.proofs.lemmas.Option.{slice_get_within, get_or_from_slice_get, same_Some}
 use Rattle.tsa_core.specs.Control as control
@@ -26,7 +27,8 @@ use Rattle.tsa_graph.specs.Placing.{AreSmall, IsPlaced}
 use Rattle.tsa_graph.specs.Rows.{place, IsRun, LeadsOn, StandsAt, IsPassed, inside, across, AreBlocksOf}
 use Rattle.tsa_graph.proofs.Counts.{side, bit_below, bit_most, below_bit, times_one, times_block, same_block, same_index, stands_in}
 use Rattle.tsa_graph.proofs.Joins.{joined_row, joined_block, joined_length}
-use Rattle.tsa_graph.proofs.Members.{among_from, among_into, at_place, each_member, each_place, into_is_one, map_member, member_of_map, only}
+use Rattle.tsa_graph.proofs.Members.{among_from, among_into, at_place, each_member, each_place, into_is_one, map_member, member_of_map}
+use Rattle.tsa_graph.proofs.Members.{only}
 use Rattle.tsa_graph.proofs.Sizes.{blocks_once, length_once}
 use Rattle.tsa_graph.proofs.RunLists.{block_in, first_at, run_inner, run_long, run_step}
 

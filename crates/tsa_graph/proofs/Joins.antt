@@ -1,5 +1,6 @@
 -- Blocks that are joined with their exits from the last one on.
-use Rattle.std.proofs.Common.{◌≡◌, ◌∙◌, ℕ, zero, suc, arith, List, [], ◌∷◌, ◌++◌, append_assoc, reverse, length, length-append, get_or, Some, slice_get, refl, sym, ap, subst}
+use Rattle.std.proofs.Common.{◌≡◌, ◌∙◌, ℕ, zero, suc, arith, List, [], ◌∷◌, ◌++◌, append_assoc, reverse, length, length-append, get_or}
+use Rattle.std.proofs.Common.{Some, slice_get, refl, sym, ap, subst}
 use Rattle.std.proofs.lemmas.List.{reverse-append}
 use Rattle.std.proofs.lemmas.Option.{none-some, same_Some}
 use Rattle.tsa_graph.specs.declared.blocks.GraphBlock as graph

@@ -1,5 +1,7 @@
 -- Exits that are noted, by the edges into the first points of blocks.
-use Rattle.std.proofs.Common.{◌≡◌, ◌∙◌, ℕ, suc, ◌+◌, ◌<◌, ◌≤◌, arith, ◌⊎◌, inl, inr, List, [], ◌∷◌, ◌++◌, map, take, take-suc, length, length-set, get_or, get_or-set_same, get_or-set_other, set, All, Contains, Some, slice_get, refl, sym, ap, subst}
+use Rattle.std.proofs.Common.{◌≡◌, ◌∙◌, ℕ, suc, ◌+◌, ◌<◌, ◌≤◌, arith, ◌⊎◌, inl, inr, List, [], ◌∷◌, ◌++◌, map, take, take-suc, length}
+use Rattle.std.proofs.Common.{length-set, get_or, get_or-set_same, get_or-set_other, set, All, Contains, Some, slice_get, refl, sym, ap}
+use Rattle.std.proofs.Common.{subst}
 use Rattle.std.proofs.lemmas.List.Elements.{All-get_or, Contains-append_left, Contains-push, Contains-push_cases}
 use Rattle.std.proofs.lemmas.Option.{same_Some}
 use Rattle.tsa_graph.specs.declared.blocks.GraphBlock.{GraphBlock}

@@ -1,5 +1,6 @@
 -- Lists of runs, and how often a point stands in them.
-use Rattle.std.proofs.Common.{◌≡◌, ◌∙◌, ℕ, zero, suc, ◌+◌, ◌<◌, arith, Bool, true, false, nat_eq, List, [], ◌∷◌, ◌++◌, map, length, get_or, set, Option, Some, None, refl, sym, ap, ap₂, get_or-set_same, get_or-set_other}
+use Rattle.std.proofs.Common.{◌≡◌, ◌∙◌, ℕ, zero, suc, ◌+◌, ◌<◌, arith, Bool, true, false, nat_eq, List, [], ◌∷◌, ◌++◌, map, length, get_or}
+use Rattle.std.proofs.Common.{set, Option, Some, None, refl, sym, ap, ap₂, get_or-set_same, get_or-set_other}
 use Rattle.std.proofs.lemmas.List.{map_push}
 use Rattle.tsa_graph.specs.Runs.{step, first_of, last_of, IsChain, IsLongest, AreLongest, bit, times, times_in}
 use Rattle.tsa_graph.specs.Tracing.{is_seen}

@@ -1,5 +1,6 @@
 -- A run that goes back from a point until it comes to it again.
-use Rattle.std.proofs.Common.{◌≡◌, ◌∙◌, ℕ, ◌+◌, ◌<◌, arith, Bool, true, false, nat_eq, ◌⊎◌, inl, inr, List, [], ◌∷◌, ◌++◌, length, set, length-set, Option, Some, None, is_some, if◌then◌else◌, refl, sym, ap, ap₂, subst}
+use Rattle.std.proofs.Common.{◌≡◌, ◌∙◌, ℕ, ◌+◌, ◌<◌, arith, Bool, true, false, nat_eq, ◌⊎◌, inl, inr, List, [], ◌∷◌, ◌++◌, length, set}
+use Rattle.std.proofs.Common.{length-set, Option, Some, None, is_some, if◌then◌else◌, refl, sym, ap, ap₂, subst}
 use Rattle.std.proofs.lemmas.Bool.Decides.{nat_tests}
 use Rattle.tsa_graph.specs.Runs.{step, bit, times}
 use Rattle.tsa_graph.specs.Tracing.{is_seen, but, IsMarked, IsBack, end_of, IsRound}

@@ -1,5 +1,6 @@
 -- Runs of a graph by the places of their points.
-use Rattle.std.proofs.Common.{◌≡◌, ℕ, zero, suc, ◌+◌, ◌<◌, arith, List, [], ◌∷◌, length, get_or, Contains, Some, slice_get, refl, sym, subst}
+use Rattle.std.proofs.Common.{◌≡◌, ℕ, zero, suc, ◌+◌, ◌<◌, arith, List, [], ◌∷◌, length, get_or, Contains, Some, slice_get, refl, sym}
+use Rattle.std.proofs.Common.{subst}
 use Rattle.std.proofs.lemmas.Option.{none-some, same_Some}
 use Rattle.tsa_core.specs.Control as control
 use Rattle.tsa_core.specs.Control.{edge}

@@ -1,5 +1,6 @@
 -- A further point is put at its place.
-use Rattle.std.proofs.Common.{◌≡◌, ◌∙◌, ℕ, ◌+◌, ◌<◌, arith, ◌⊎◌, inl, inr, List, take, take_all, length, length-set, get_or, get_or-set_same, get_or-set_other, set, All, Some, slice_get, refl, sym, ap, subst}
+use Rattle.std.proofs.Common.{◌≡◌, ◌∙◌, ℕ, ◌+◌, ◌<◌, arith, ◌⊎◌, inl, inr, List, take, take_all, length, length-set, get_or}
+use Rattle.std.proofs.Common.{get_or-set_same, get_or-set_other, set, All, Some, slice_get, refl, sym, ap, subst}
 use Rattle.std.proofs.lemmas.List.Elements.{All-get_or, All-more, All-nil, All-weaker}
 use Rattle.std.proofs.lemmas.Option.{slice_get_within, slice_get-get_or, get_or_from_slice_get}
 use Rattle.tsa_graph.specs.declared.blocks.GraphBlock.{GraphBlock}

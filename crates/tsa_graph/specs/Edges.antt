@@ -16,7 +16,8 @@ abbrev pub GoBetween : ℕ → List Edge → Type 0
 GoBetween n [] = Unit {0}
 GoBetween n (e ∷ es) = (e.from < n) × (e.to < n) × GoBetween n es
 
--- A point leads to another alone: the edge between them is its only one, and the only one into the other, which isn't where the body is entered.
+-- A point leads to another alone: the edge between them is its only one, and the only one into the other, which isn't where the body is
+-- entered.
 pub record IsStep (es : List Edge) (p : ℕ) (o : Outcome) (q : ℕ) : Type 0 where
   pub out : edges_from p es ≡ edge p o q ∷ []
   pub into : edges_into q es ≡ edge p o q ∷ []

@@ -33,8 +33,8 @@ abbrev pub points_in : List GraphBlock → List (List ℕ)
 points_in [] = []
 points_in (b ∷ bs) = b.points.items ∷ points_in bs
 
--- A graph of so many points with these edges: its blocks are runs that can't go on, and each point stands in exactly one of them, so that none can
--- begin earlier either.
+-- A graph of so many points with these edges: its blocks are runs that can't go on, and each point stands in exactly one of them, so that
+-- none can begin earlier either.
 pub record IsGraph (n : ℕ) (es : List control.Edge) (g : Graph) : Type 0 where
   pub blocks : AreBlocks es g.blocks.items
   pub all : (p : ℕ) → times_in p (points_in g.blocks.items) ≡ bit (nat_lt p n)

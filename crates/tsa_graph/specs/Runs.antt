@@ -1,5 +1,6 @@
 -- Runs of points along the only way from one to the next.
-use Rattle.std.specs.Prelude.{ℕ, zero, suc, ◌≡◌, ◌+◌, ◌<◌, nat_eq, Bool, true, false, List, [], ◌∷◌, ◌++◌, length, Option, Some, None, slice_index_or, if◌then◌else◌}
+use Rattle.std.specs.Prelude.{ℕ, zero, suc, ◌≡◌, ◌+◌, ◌<◌, nat_eq, Bool, true, false, List, [], ◌∷◌, ◌++◌, length, Option, Some, None}
+use Rattle.std.specs.Prelude.{slice_index_or, if◌then◌else◌}
 
 -- where a point leads alone to a point that is led to by it alone; a point behind the last one leads nowhere
 abbrev pub step : List (Option ℕ) → ℕ → Option ℕ
@@ -29,8 +30,8 @@ IsChain next [] = ⊥
 IsChain next (p ∷ []) = Unit {0}
 IsChain next (p ∷ q ∷ ps) = (step next p ≡ Some q) × IsChain next (q ∷ ps)
 
--- A run can't go on: its last point leads nowhere but to its own first one. Where each point stands in one run, once, and none of these can go on,
--- none can begin earlier either: what leads to its first point would stand at the end of a run that goes on.
+-- A run can't go on: its last point leads nowhere but to its own first one. Where each point stands in one run, once, and none of these can
+-- go on, none can begin earlier either: what leads to its first point would stand at the end of a run that goes on.
 pub record IsLongest (next : List (Option ℕ)) (run : List ℕ) : Type 0 where
   pub chain : IsChain next run
   pub ends : (q : ℕ) → step next (last_of run) ≡ Some q → q ≡ first_of run

@@ -1,5 +1,6 @@
 -- Which points are in a run already.
-use Rattle.std.specs.Prelude.{ℕ, ◌≡◌, ◌+◌, ◌<◌, nat_eq, Bool, true, false, List, [], ◌∷◌, ◌++◌, reverse, length, Option, Some, None, slice_index_or, if◌then◌else◌}
+use Rattle.std.specs.Prelude.{ℕ, ◌≡◌, ◌+◌, ◌<◌, nat_eq, Bool, true, false, List, [], ◌∷◌, ◌++◌, reverse, length, Option, Some, None}
+use Rattle.std.specs.Prelude.{slice_index_or, if◌then◌else◌}
 use Rattle.tsa_graph.specs.Runs.{step, last_of, first_of, IsChain, AreLongest, bit, times, times_in}
 
 abbrev pub is_seen : List Bool → ℕ → Bool

@@ -1,5 +1,6 @@
 //! Exits of blocks, by the edges into the first points of blocks.
-ghost use Rattle.std.specs.Prelude.{◌≡◌, ◌<◌, ◌^◌, ◌↔◌, ◌++◌, ◌∷◌, All, ℕ, [], length, slice_set, slice_index_or, option_map, option_to_list, IsSome, IfOk, OnOk};
+ghost use Rattle.std.specs.Prelude.{◌≡◌, ◌<◌, ◌^◌, ◌↔◌, ◌++◌, ◌∷◌, All, ℕ, [], length, slice_set, slice_index_or, option_map};
+ghost use Rattle.std.specs.Prelude.{option_to_list, IsSome, IfOk, OnOk};
 ghost use Rattle.tsa_graph.specs.Noting.{AreNoted, AreExits};
 
 use crate::sequence::{Exit, Place};

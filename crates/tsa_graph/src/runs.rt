@@ -1,7 +1,9 @@
 //! The longest runs of points.
-ghost use Rattle.std.specs.Prelude.{◌≡◌, ◌<◌, ◌∷◌, ◌++◌, ℕ, [], Some, None, true, false, is_some, nat_lt, slice_index_or, reverse, length, IfOk, OnOk};
+ghost use Rattle.std.specs.Prelude.{◌≡◌, ◌<◌, ◌∷◌, ◌++◌, ℕ, [], Some, None, true, false, is_some, nat_lt, slice_index_or, reverse, length};
+ghost use Rattle.std.specs.Prelude.{IfOk, OnOk};
 ghost use Rattle.tsa_graph.specs.Runs.{step as spec_step, last_of, AreWays, IsChain, AreLongest, bit, times_in};
-ghost use Rattle.tsa_graph.specs.Tracing.{is_seen as spec_is_seen, but, IsClosed, IsMarked, IsRound, Keeps, GoesOn, SeesHeads, SeesAll, AreRuns};
+ghost use Rattle.tsa_graph.specs.Tracing.{is_seen as spec_is_seen, but, IsClosed, IsMarked, IsRound, Keeps, GoesOn, SeesHeads, SeesAll};
+ghost use Rattle.tsa_graph.specs.Tracing.{AreRuns};
 
 use crate::membership::{is_seen, mark, step};
 use std::alloc::Global;
@@ -72,7 +74,8 @@ fn path_from(
     requires one { (p q r : ℕ) → spec_step next.now p ≡ Some r → spec_step next.now q ≡ Some r → p ≡ q }
     requires within { (p q : ℕ) → spec_step next.now p ≡ Some q → q < length next.now }
     requires closed { IsClosed next.now seen.old.items }
-    requires head { (head < length next.now) × (spec_is_seen seen.old.items head ≡ false) × ((p : ℕ) → spec_step next.now p ≡ Some head → ⊥) }
+    requires head { (head < length next.now) × (spec_is_seen seen.old.items head ≡ false)
+        × ((p : ℕ) → spec_step next.now p ≡ Some head → ⊥) }
     ensures chain { IfOk result (λ run. IsChain next.now run.items) }
     ensures ends { IfOk result (λ run. spec_step next.now (last_of run.items) ≡ None) }
     ensures marked { IfOk result (λ run. IsMarked run.items seen.old.items seen.new.items) }
@@ -112,12 +115,14 @@ fn way_back(
     requires size { length seen.old.items ≡ length back.now }
     requires one { (p q r : ℕ) → spec_step back.now p ≡ Some r → spec_step back.now q ≡ Some r → p ≡ q }
     requires inside { (p q : ℕ) → spec_step back.now p ≡ Some q → q < length back.now }
-    requires closed { (p q : ℕ) → spec_step back.now q ≡ Some p → spec_is_seen seen.old.items p ≡ true → spec_is_seen seen.old.items q ≡ true }
+    requires closed { (p q : ℕ) → spec_step back.now q ≡ Some p → spec_is_seen seen.old.items p ≡ true
+        → spec_is_seen seen.old.items q ≡ true }
     requires led { (q : ℕ) → q < length back.now → spec_is_seen seen.old.items q ≡ false → is_some (spec_step back.now q) ≡ true }
     requires head { (head < length back.now) × (spec_is_seen seen.old.items head ≡ false) }
     ensures round { IfOk result (λ rest. IsRound back.now head rest.items) }
     ensures marked { IfOk result (λ rest. IsMarked (head ∷ rest.items) seen.old.items seen.new.items) }
-    ensures closed { OnOk result ((p q : ℕ) → spec_step back.now q ≡ Some p → spec_is_seen seen.new.items p ≡ true → spec_is_seen seen.new.items q ≡ true) }
+    ensures closed { OnOk result ((p q : ℕ) → spec_step back.now q ≡ Some p → spec_is_seen seen.new.items p ≡ true
+        → spec_is_seen seen.new.items q ≡ true) }
     ensures size { OnOk result (length seen.new.items ≡ length back.now) }
 {
     let mut rest = Vec::new(alloc);

@@ -67,7 +67,8 @@ fn back_at(arcs: &Arcs, point: u32) -> Option<u32>
 /// Where each of so many points leads alone.
 pub fn nexts(alloc: Global, arcs: &Arcs, points: u32) -> Result<Vec<Option<u32>>, NoMemory>
     ensures len { IfOk result (λ ways. length ways.items ≡ points) }
-    ensures each { IfOk result (λ ways. (p : ℕ) → p < points → slice_index_or ways.items p None ≡ next_in arcs.now.outs.items arcs.now.ins p) }
+    ensures each { IfOk result (λ ways. (p : ℕ) → p < points
+        → slice_index_or ways.items p None ≡ next_in arcs.now.outs.items arcs.now.ins p) }
 {
     let mut ways = Vec::new(alloc);
     'each: for point in 0..points {
@@ -79,7 +80,8 @@ pub fn nexts(alloc: Global, arcs: &Arcs, points: u32) -> Result<Vec<Option<u32>>
 /// From where each of so many points is led to alone.
 pub fn backs(alloc: Global, arcs: &Arcs, points: u32) -> Result<Vec<Option<u32>>, NoMemory>
     ensures len { IfOk result (λ ways. length ways.items ≡ points) }
-    ensures each { IfOk result (λ ways. (p : ℕ) → p < points → slice_index_or ways.items p None ≡ back_in arcs.now.outs.items arcs.now.ins p) }
+    ensures each { IfOk result (λ ways. (p : ℕ) → p < points
+        → slice_index_or ways.items p None ≡ back_in arcs.now.outs.items arcs.now.ins p) }
 {
     let mut ways = Vec::new(alloc);
     'each: for point in 0..points {

@@ -1,5 +1,6 @@
 -- What a walk comes to at a statement, by what it came to in the parts of it.
-use Rattle.std.proofs.Common.{◌≡◌, ◌∙◌, ℕ, zero, suc, ◌+◌, ◌-◌, ◌*◌, ◌<◌, ◌≤◌, arith, Result, Ok, Err, IfOk, get_or, drop, List, [], ◌∷◌, ◌++◌, length, Option, Some, None, refl, sym, ap, ap₂, subst, append_assoc}
+use Rattle.std.proofs.Common.{◌≡◌, ◌∙◌, ℕ, zero, suc, ◌+◌, ◌-◌, ◌*◌, ◌<◌, ◌≤◌, arith, Result, Ok, Err, IfOk, get_or, drop, List, [], ◌∷◌}
+use Rattle.std.proofs.Common.{◌++◌, length, Option, Some, None, refl, sym, ap, ap₂, subst, append_assoc}
 use Rattle.std.proofs.lemmas.List.{append-nil}
 use Rattle.std.proofs.Math.Seq.{drop-cons}
 use Rattle.std.specs.Borrow.{Bor}
@@ -14,15 +15,21 @@ use Rattle.tsa_tree.specs.expressions.Shapes.{shape}
 use Rattle.tsa_tree.specs.expressions.Syntax.{Expression, Identifier}
 use Rattle.tsa_tree.specs.points.Syntax.{points_of_init, points_of_step}
 use Rattle.tsa_tree.specs.statements.Shapes.{stmt_shapes}
-use Rattle.tsa_tree.specs.statements.Syntax.{Simple, ForInit, Statement, block, empty, local, simple, if_alone, if_else, while_loop, do_loop, for_loop, switch, case, otherwise, label, break, continue, goto, return, Statements, none, more}
+use Rattle.tsa_tree.specs.statements.Syntax.{Simple, ForInit, Statement, block, empty, local, simple, if_alone, if_else, while_loop}
+use Rattle.tsa_tree.specs.statements.Syntax.{do_loop, for_loop, switch, case, otherwise, label, break, continue, goto, return, Statements}
+use Rattle.tsa_tree.specs.statements.Syntax.{none, more}
 use Rattle.tsa_tree.specs.types.DeclaredTypes.{value_in}
 use Rattle.tsa_tree.specs.types.Scopes.{Scope, found, context_of, further}
 use Rattle.tsa_tree.specs.types.Statements.{behind, behind_init}
 use Rattle.tsa_tree.specs.types.Targets.{declared_in, Labels}
 use Rattle.tsa_core.proofs.Counts.{count_if, count_do, count_for, count_more}
-use Rattle.tsa_core.specs.Control.{Edge, edge, Next, or_follow, count, count_all, first, first_all, test_at, step_at, inner_at, again_at, labels, labels_all, Cases, a_case, cases, cases_all, Targets, label_at, tested_edges, for_edges, step_edges, switch_edges, edges, edges_all, body_edges}
-use Rattle.tsa_graph_edges.proofs.SameControl.{Kept, kept_same, kept_further, kept_behind, kept_init, edges_alike, all_edges_alike, for_alike, jumps}
-use Rattle.tsa_graph_edges.specs.Successors.{Ahead, ahead, with_edges, with_cases, with_labels, set_edges, set_cases, with_statement, with_statements}
+use Rattle.tsa_core.specs.Control.{Edge, edge, Next, or_follow, count, count_all, first, first_all, test_at, step_at, inner_at, again_at}
+use Rattle.tsa_core.specs.Control.{labels, labels_all, Cases, a_case, cases, cases_all, Targets, label_at, tested_edges, for_edges}
+use Rattle.tsa_core.specs.Control.{step_edges, switch_edges, edges, edges_all, body_edges}
+use Rattle.tsa_graph_edges.proofs.SameControl.{Kept, kept_same, kept_further, kept_behind, kept_init, edges_alike, all_edges_alike}
+use Rattle.tsa_graph_edges.proofs.SameControl.{for_alike, jumps}
+use Rattle.tsa_graph_edges.specs.Successors.{Ahead, ahead, with_edges, with_cases, with_labels, set_edges, set_cases, with_statement}
+use Rattle.tsa_graph_edges.specs.Successors.{with_statements}
 use Rattle.tsa_graph_edges.specs.declared.walk.Spot.{Spot}
 use Rattle.tsa_graph_edges.specs.declared.walk.Start.{Start}
 use Rattle.tsa_graph_edges.specs.Spots.{targets_at, IsPut, ArePut}

@@ -5,7 +5,9 @@ use Rattle.std.specs.Str.{bytes_eq}
 use Rattle.tsa_tree.specs.declarations.Syntax.{Declaration}
 use Rattle.tsa_tree.specs.expressions.Syntax.{Expression}
 use Rattle.tsa_tree.specs.points.Syntax.{points_of_init, points_of_step}
-use Rattle.tsa_tree.specs.statements.Syntax.{ForInit, Statement, block, empty, local, simple, if_alone, if_else, while_loop, do_loop, for_loop, switch, case, otherwise, label, break, continue, goto, return, Statements, none, more}
+use Rattle.tsa_tree.specs.statements.Syntax.{ForInit, Statement, block, empty, local, simple, if_alone, if_else, while_loop, do_loop}
+use Rattle.tsa_tree.specs.statements.Syntax.{for_loop, switch, case, otherwise, label, break, continue, goto, return, Statements, none}
+use Rattle.tsa_tree.specs.statements.Syntax.{more}
 use Rattle.tsa_tree.specs.types.DeclaredTypes.{value_in}
 use Rattle.tsa_tree.specs.types.Locals.{local_entry, unless_taken, behind_local}
 use Rattle.tsa_tree.specs.types.Scopes.{Scope, context_of, further, is_taken, with_name}
@@ -13,7 +15,8 @@ use Rattle.tsa_tree.specs.types.Statements.{behind, behind_init}
 use Rattle.tsa_tree.specs.types.Targets.{declared_in, Labels}
 use Rattle.tsa_core.proofs.EachScope.{statement_past, init_past}
 use Rattle.tsa_core.proofs.SameConstants.{SameConstants, same_value}
-use Rattle.tsa_core.specs.Control.{edge, Next, count, first, first_all, test_at, step_at, inner_at, again_at, a_case, cases, cases_all, Targets, or_else, test_edges, tested_edges, for_edges, step_edges, switch_edges, edges, edges_all}
+use Rattle.tsa_core.specs.Control.{edge, Next, count, first, first_all, test_at, step_at, inner_at, again_at, a_case, cases, cases_all}
+use Rattle.tsa_core.specs.Control.{Targets, or_else, test_edges, tested_edges, for_edges, step_edges, switch_edges, edges, edges_all}
 use Rattle.tsa_base.proofs.Truths.{never}
 use Rattle.tsa_core.proofs.SwitchCases.{same_through, same_with}
 

@@ -1,4 +1,5 @@
--- What a walk through a body from its end on has come by, in order of the text: the edges, the cases of the switch that it is in, and the labels.
+-- What a walk through a body from its end on has come by, in order of the text: the edges, the cases of the switch that it is in, and the
+-- labels.
 use Rattle.std.specs.Prelude.{ℕ, List, ◌++◌}
 use Rattle.tsa_tree.specs.statements.Syntax.{Statement, Statements}
 use Rattle.tsa_tree.specs.types.Scopes.{Scope}

@@ -68,7 +68,8 @@ fn put_fork(ahead: &mut Ahead<'_>, value: Option<Number>, fork: Fork) -> Result<
 impl<'t, 'a> Spot<'t, 'a> {
     /// The same before a statement that begins there.
     pub fn ahead_of(self, start: Start) -> Spot<'t, 'a>
-        ensures { result ≡ record { scope = self.entry.scope; labels = self.entry.labels; end = start.at; follow = start.first; break_to = self.entry.break_to; continue_to = self.entry.continue_to } }
+        ensures { result ≡ record { scope = self.entry.scope; labels = self.entry.labels; end = start.at; follow = start.first; break_to =
+            self.entry.break_to; continue_to = self.entry.continue_to } }
     {
         Spot {
             end: start.at,
@@ -79,14 +80,16 @@ impl<'t, 'a> Spot<'t, 'a> {
 
     /// The same before a point.
     pub fn ending(self, end: u32) -> Spot<'t, 'a>
-        ensures { result ≡ record { scope = self.entry.scope; labels = self.entry.labels; end = end; follow = self.entry.follow; break_to = self.entry.break_to; continue_to = self.entry.continue_to } }
+        ensures { result ≡ record { scope = self.entry.scope; labels = self.entry.labels; end = end; follow = self.entry.follow; break_to =
+            self.entry.break_to; continue_to = self.entry.continue_to } }
     {
         Spot { end, ..self }
     }
 
     /// In a loop that goes on at a point, and ends here.
     pub fn in_loop(self, back: u32) -> Spot<'t, 'a>
-        ensures { result ≡ record { scope = self.entry.scope; labels = self.entry.labels; end = self.entry.end; follow = back; break_to = self.entry.follow; continue_to = back } }
+        ensures { result ≡ record { scope = self.entry.scope; labels = self.entry.labels; end = self.entry.end; follow = back; break_to =
+            self.entry.follow; continue_to = back } }
     {
         Spot {
             follow: back,
@@ -98,7 +101,8 @@ impl<'t, 'a> Spot<'t, 'a> {
 
     /// In a switch that ends here.
     pub fn in_switch(self) -> Spot<'t, 'a>
-        ensures { result ≡ record { scope = self.entry.scope; labels = self.entry.labels; end = self.entry.end; follow = self.entry.follow; break_to = self.entry.follow; continue_to = self.entry.continue_to } }
+        ensures { result ≡ record { scope = self.entry.scope; labels = self.entry.labels; end = self.entry.end; follow = self.entry.follow;
+            break_to = self.entry.follow; continue_to = self.entry.continue_to } }
     {
         Spot {
             break_to: self.follow,
@@ -151,7 +155,8 @@ impl<'t, 'a> Spot<'t, 'a> {
         test: &Expr<'_>,
         fork: Fork,
     ) -> Result<(), NoMemory>
-        ensures { OnOk result (ahead.new ≡ with_edges (tested_edges self.entry.scope.now (shape test.now) fork.at fork.yes_to fork.no_to) ahead.old) }
+        ensures { OnOk result (ahead.new ≡ with_edges (tested_edges self.entry.scope.now (shape test.now) fork.at fork.yes_to fork.no_to)
+            ahead.old) }
     {
         put_fork(ahead, self.value(test)?, fork)
     }
@@ -163,7 +168,8 @@ impl<'t, 'a> Spot<'t, 'a> {
         test: Option<&Expr<'_>>,
         fork: Fork,
     ) -> Result<(), NoMemory>
-        ensures { OnOk result (ahead.new ≡ with_edges (for_edges self.entry.scope.now (option_map (λ x. shape x.now) test.entry) fork.at fork.yes_to fork.no_to) ahead.old) }
+        ensures { OnOk result (ahead.new ≡ with_edges
+            (for_edges self.entry.scope.now (option_map (λ x. shape x.now) test.entry) fork.at fork.yes_to fork.no_to) ahead.old) }
     {
         match test {
             Some(test) => self.put_test(ahead, test, fork),
@@ -178,7 +184,8 @@ impl<'t, 'a> Spot<'t, 'a> {
         value: &Expr<'_>,
         first: u32,
     ) -> Result<(), NoMemory>
-        ensures { OnOk result (ahead.new ≡ with_cases (a_case (value_in (context_of self.entry.scope.now) (shape value.now)) first) ahead.old) }
+        ensures { OnOk result (ahead.new ≡ with_cases (a_case (value_in (context_of self.entry.scope.now) (shape value.now)) first)
+            ahead.old) }
     {
         match self.value(value)? {
             Some(number) => ahead.put_case(Some(int_of(number)), first),
@@ -194,7 +201,10 @@ impl<'t, 'a> Spot<'t, 'a> {
         fork: Fork,
     ) -> Result<u32, NoMemory>
         ensures at { IfOk result (λ at. at + length (points_of_init (init_given head.entry.init)) ≡ fork.at) }
-        ensures put { IfOk result (λ at. ahead.new ≡ with_edges (step_edges (length (points_of_init (init_given head.entry.init))) at fork.at) (with_edges (for_edges self.entry.scope.now (option_map (λ x. shape x.now) head.entry.test) fork.at fork.yes_to fork.no_to) (with_edges (step_edges (length (points_of_step (step_given head.entry.step))) (fork.at + 1) fork.at) ahead.old))) }
+        ensures put { IfOk result (λ at. ahead.new
+            ≡ with_edges (step_edges (length (points_of_init (init_given head.entry.init))) at fork.at)
+            (with_edges (for_edges self.entry.scope.now (option_map (λ x. shape x.now) head.entry.test) fork.at fork.yes_to fork.no_to)
+            (with_edges (step_edges (length (points_of_step (step_given head.entry.step))) (fork.at + 1) fork.at) ahead.old))) }
     {
         let test_at = fork.at;
         put_part(ahead, step_points(head.step), behind(test_at, 1)?, test_at)?;

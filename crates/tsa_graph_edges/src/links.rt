@@ -36,7 +36,8 @@ fn walked<'a>(
     points: u32,
 ) -> Result<Ahead<'a>, NoMemory>
     ensures points { IfOk result (λ a. points ≡ count_all (stmt_shapes body.now)) }
-    ensures walked { IfOk result (λ a. a ≡ with_statements scope.now (stmt_shapes body.now) 0 points (record { break_to = points; continue_to = points; labels = labels.now }) (ahead [] [] [])) }
+    ensures walked { IfOk result (λ a. a ≡ with_statements scope.now (stmt_shapes body.now) 0 points
+        (record { break_to = points; continue_to = points; labels = labels.now }) (ahead [] [] [])) }
 {
     let mut ahead = Ahead::new(scope.allocator());
     let spot = Spot {

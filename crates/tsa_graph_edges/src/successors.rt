@@ -70,7 +70,8 @@ fn case_link(from: u32, case: Case) -> Link
 
 /// Puts the edges of a switch to its cases in front of others.
 fn put_case_links(links: &mut Vec<Link>, from: u32, cases: &[Case]) -> Result<(), NoMemory>
-    ensures { OnOk result (reverse (map edge_of links.new.items) ≡ case_edges from (reverse (map case_of cases.now)) ++ reverse (map edge_of links.old.items)) }
+    ensures { OnOk result (reverse (map edge_of links.new.items) ≡ case_edges from (reverse (map case_of cases.now))
+        ++ reverse (map edge_of links.old.items)) }
 {
     'each: for case in cases {
         put_link(links, case_link(from, *case))?;
@@ -87,7 +88,8 @@ fn has_default(cases: &[Case]) -> bool
 
 /// Puts the edge of a switch without a `default` that goes on behind it in front of others.
 fn put_rest(links: &mut Vec<Link>, cases: &[Case], from: u32, to: u32) -> Result<(), NoMemory>
-    ensures { OnOk result (reverse (map edge_of links.new.items) ≡ rest_edges (spec_has_default (reverse (map case_of cases.now))) from to ++ reverse (map edge_of links.old.items)) }
+    ensures { OnOk result (reverse (map edge_of links.new.items) ≡ rest_edges (spec_has_default (reverse (map case_of cases.now))) from to
+        ++ reverse (map edge_of links.old.items)) }
 {
     if has_default(cases) {
         return Ok(());

@@ -50,7 +50,8 @@ impl<'t, 'a> Spot<'t, 'a> {
         test: &Expr<'a>,
         arm: &Stmt<'a>,
     ) -> Result<Start, NoMemory>
-        ensures { IfOk result (λ start. (span : Place) → IsPut self.entry (if_alone (shape test.now) (stmt_shape arm.now.kind arm.now.span) span) start ahead.old ahead.new) }
+        ensures { IfOk result (λ start. (span : Place)
+            → IsPut self.entry (if_alone (shape test.now) (stmt_shape arm.now.kind arm.now.span) span) start ahead.old ahead.new) }
     {
         let inner = self.put(ahead, arm)?;
         let at = before(inner.at)?;
@@ -68,7 +69,9 @@ impl<'t, 'a> Spot<'t, 'a> {
         test: &Expr<'a>,
         arms: (&Stmt<'a>, &Stmt<'a>),
     ) -> Result<Start, NoMemory>
-        ensures { IfOk result (λ start. (span : Place) → IsPut self.entry (if_else (shape test.now) (stmt_shape arms.entry.0.now.kind arms.entry.0.now.span) (stmt_shape arms.entry.1.now.kind arms.entry.1.now.span) span) start ahead.old ahead.new) }
+        ensures { IfOk result (λ start. (span : Place)
+            → IsPut self.entry (if_else (shape test.now) (stmt_shape arms.entry.0.now.kind arms.entry.0.now.span)
+            (stmt_shape arms.entry.1.now.kind arms.entry.1.now.span) span) start ahead.old ahead.new) }
     {
         let (yes, no) = arms;
         let other = self.put(ahead, no)?;
@@ -88,7 +91,9 @@ impl<'t, 'a> Spot<'t, 'a> {
         head: WhileHead<'_, 'a>,
         body: &Stmt<'a>,
     ) -> Result<Start, NoMemory>
-        ensures { IfOk result (λ start. (span : Place) → IsPut self.entry (while_loop (shape head.entry.test.now) (stmt_shape body.now.kind body.now.span) span) start ahead.old ahead.new) }
+        ensures { IfOk result (λ start. (span : Place)
+            → IsPut self.entry (while_loop (shape head.entry.test.now) (stmt_shape body.now.kind body.now.span) span) start ahead.old
+            ahead.new) }
     {
         let at = head.point.ok_or(NoMemory)?;
         let inner = self.in_loop(at).put(ahead, body)?;
@@ -107,7 +112,8 @@ impl<'t, 'a> Spot<'t, 'a> {
         body: &Stmt<'a>,
         test: &Expr<'a>,
     ) -> Result<Start, NoMemory>
-        ensures { IfOk result (λ start. (span : Place) → IsPut self.entry (do_loop (stmt_shape body.now.kind body.now.span) (shape test.now) span) start ahead.old ahead.new) }
+        ensures { IfOk result (λ start. (span : Place)
+            → IsPut self.entry (do_loop (stmt_shape body.now.kind body.now.span) (shape test.now) span) start ahead.old ahead.new) }
     {
         let at = before(self.end)?;
         let mut links = Vec::new(self.scope.allocator());
@@ -130,7 +136,9 @@ impl<'t, 'a> Spot<'t, 'a> {
         head: ForHead<'_, 'a>,
         body: &Stmt<'a>,
     ) -> Result<Start, NoMemory>
-        ensures { IfOk result (λ start. (span : Place) → IsPut self.entry (for_loop (init_given head.entry.init) (option_map (λ x. shape x.now) head.entry.test) (step_given head.entry.step) (stmt_shape body.now.kind body.now.span) span) start ahead.old ahead.new) }
+        ensures { IfOk result (λ start. (span : Place)
+            → IsPut self.entry (for_loop (init_given head.entry.init) (option_map (λ x. shape x.now) head.entry.test)
+            (step_given head.entry.step) (stmt_shape body.now.kind body.now.span) span) start ahead.old ahead.new) }
     {
         let test_at = head.point.ok_or(NoMemory)?;
         let step_at = behind(test_at, 1)?;
@@ -155,7 +163,8 @@ impl<'t, 'a> Spot<'t, 'a> {
     /// A `switch`, whose cases are those of its body but for those of a switch inside.
     #[cycle(putting)]
     fn put_switch(self, ahead: &mut Ahead<'a>, body: &Stmt<'a>) -> Result<Start, NoMemory>
-        ensures { IfOk result (λ start. (key : Expression) (span : Place) → IsPut self.entry (switch key (stmt_shape body.now.kind body.now.span) span) start ahead.old ahead.new) }
+        ensures { IfOk result (λ start. (key : Expression) (span : Place)
+            → IsPut self.entry (switch key (stmt_shape body.now.kind body.now.span) span) start ahead.old ahead.new) }
     {
         let mut cases = Vec::new(self.scope.allocator());
         ahead.swap_cases(&mut cases);

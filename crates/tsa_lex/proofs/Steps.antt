@@ -1,10 +1,12 @@
 -- What one piece adds to the tokens of a text.
-use Rattle.std.proofs.Common.{◌≡◌, ℕ, zero, suc, ◌+◌, ◌-◌, ◌<◌, ◌≤◌, List, [], ◌∷◌, ◌++◌, length, take, drop, get_or, Option, None, Some, Result, Ok, Err, refl, sym, ap, ◌∙◌, append_assoc, drop-cons, add-one, arith}
+use Rattle.std.proofs.Common.{◌≡◌, ℕ, zero, suc, ◌+◌, ◌-◌, ◌<◌, ◌≤◌, List, [], ◌∷◌, ◌++◌, length, take, drop, get_or, Option, None, Some}
+use Rattle.std.proofs.Common.{Result, Ok, Err, refl, sym, ap, ◌∙◌, append_assoc, drop-cons, add-one, arith}
 use Rattle.std.proofs.lemmas.List.{drop-drop, take_rest, append-nil, drop_all}
 use Rattle.std.specs.Option.{option_map_or}
 use Rattle.tsa_base.specs.declared.token.TokenKind.{TokenKind}
 use Rattle.tsa_base.specs.declared.token.LexCode.{LexCode}
-use Rattle.tsa_base.specs.Tokens.{PieceKind, blank, comment, skipped_line, token, Piece, BadByte, Lexeme, lexeme_of, after, begun, front_of, opens_line, pieces_at, tokens_among, tokens_of}
+use Rattle.tsa_base.specs.Tokens.{PieceKind, blank, comment, skipped_line, token, Piece, BadByte, Lexeme, lexeme_of, after, begun, front_of}
+use Rattle.tsa_base.specs.Tokens.{opens_line, pieces_at, tokens_among, tokens_of}
 use Rattle.tsa_lex.specs.Fronts.{seen}
 
 abbrev pub joined : List Lexeme → Result (List Lexeme) BadByte → Result (List Lexeme) BadByte

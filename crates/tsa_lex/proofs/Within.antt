@@ -1,5 +1,6 @@
 -- What a text begins with has some bytes, and is within the text.
-use Rattle.std.proofs.Common.{◌≡◌, ℕ, zero, suc, ◌<◌, ◌≤◌, Bool, true, false, ◌&&◌, ◌==◌, List, [], ◌∷◌, length, take, Option, None, Some, Result, Ok, Err, refl, arith, cond}
+use Rattle.std.proofs.Common.{◌≡◌, ℕ, zero, suc, ◌<◌, ◌≤◌, Bool, true, false, ◌&&◌, ◌==◌, List, [], ◌∷◌, length, take, Option, None, Some}
+use Rattle.std.proofs.Common.{Result, Ok, Err, refl, arith, cond}
 use Rattle.std.proofs.lemmas.Bool.Decides.{nat_tests}
 use Rattle.std.proofs.lemmas.List.Sums.{prefix_len-le-length}
 use Rattle.std.specs.Prelude.{IfOk}
@@ -7,7 +8,8 @@ use Rattle.tsa_base.specs.declared.token.TokenKind.{TokenKind}
 use Rattle.tsa_base.specs.declared.token.LexCode.{LexCode}
 use Rattle.tsa_base.specs.declared.token.LexCode.TheVariants.{LX4}
 use Rattle.tsa_base.specs.Bytes.{is_blank, is_line_byte}
-use Rattle.tsa_base.specs.Tokens.{PieceKind, skipped_line, front_of, of_kind, token_front, slash_front, block_front, block_end, map_length, kind_of, line_len, line_word, is_skipped, longest}
+use Rattle.tsa_base.specs.Tokens.{PieceKind, skipped_line, front_of, of_kind, token_front, slash_front, block_front, block_end, map_length}
+use Rattle.tsa_base.specs.Tokens.{kind_of, line_len, line_word, is_skipped, longest}
 use Rattle.tsa_lex.specs.Fronts.{seen}
 use Rattle.tsa_lex.proofs.Longest.{longest-within}
 

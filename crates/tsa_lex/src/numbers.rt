@@ -2,7 +2,8 @@
 ghost use Rattle.std.specs.Prelude.{◌≡◌, ◌≤◌, ◌+◌, ◌*◌, ◌^◌, ◌&&◌, true, nat_lt, if◌then◌else◌, Some, None};
 ghost use Rattle.std.specs.List.{list_all};
 ghost use Rattle.tsa_base.specs.Bytes.{is_hexadecimal_digit};
-ghost use Rattle.tsa_base.specs.Numbers.{is_suffix, has_suffix, without_suffix, base_of, digits_of, digit_value, is_digit_in, value_in, number_in, number_of};
+ghost use Rattle.tsa_base.specs.Numbers.{is_suffix, has_suffix, without_suffix, base_of, digits_of, digit_value, is_digit_in, value_in};
+ghost use Rattle.tsa_base.specs.Numbers.{number_in, number_of};
 
 use tsa_base::TokenKind;
 
@@ -80,7 +81,8 @@ fn number_in(suffixed: bool, base: u32, digits: &[u8]) -> Option<TokenKind>
 // The value of digits, where they are digits of the base and it has no more than 32 bits.
 fn value_in(base: u32, digits: &[u8]) -> Option<u32>
     requires base { (1 ≤ base) × (base ≤ 16) }
-    ensures { result ≡ (if list_all (is_digit_in base) digits.now && nat_lt (value_in base 0 digits.now) (2 ^ 32) then Some (value_in base 0 digits.now) else None) }
+    ensures { result ≡ (if list_all (is_digit_in base) digits.now
+        && nat_lt (value_in base 0 digits.now) (2 ^ 32) then Some (value_in base 0 digits.now) else None) }
 {
     let mut value = 0u32;
     'digits: for digit in digits {
@@ -92,7 +94,8 @@ fn value_in(base: u32, digits: &[u8]) -> Option<u32>
 // The value with one digit more.
 fn next_value(base: u32, value: u32, digit: u8) -> Option<u32>
     requires base { (1 ≤ base) × (base ≤ 16) }
-    ensures { result ≡ (if is_digit_in base digit && nat_lt (base * value + digit_value digit) (2 ^ 32) then Some (base * value + digit_value digit) else None) }
+    ensures { result ≡ (if is_digit_in base digit && nat_lt (base * value + digit_value digit) (2 ^ 32) then Some
+        (base * value + digit_value digit) else None) }
 {
     if !is_digit_in(base, digit) {
         return None;

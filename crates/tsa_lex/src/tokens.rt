@@ -23,7 +23,8 @@ pub fn lex<'s>(alloc: Global, source: &'s [u8]) -> Result<Vec<Token<'s>>, LexRef
     requires { length source.now ≤ INPUT_LIMIT }
     ensures tokens { IfOk result (λ tokens. tokens_of source.now ≡ Ok (map lexeme tokens.items)) }
     ensures count { IfOk result (λ tokens. vec_len tokens ≤ length source.now) }
-    ensures bad { (code byte : _) → IsErrOf result (LexRefusal.At code byte) → tokens_of source.now ≡ Err (record { code = code; byte = byte }) }
+    ensures bad { (code byte : _) → IsErrOf result (LexRefusal.At code byte)
+        → tokens_of source.now ≡ Err (record { code = code; byte = byte }) }
 {
     let mut tokens = Vec::new(alloc);
     let mut at = 0;

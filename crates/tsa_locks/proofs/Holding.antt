@@ -1,8 +1,10 @@
 -- What takings and givings do to the holds of threads.
-use Rattle.std.proofs.Common.{◌≡◌, ◌∙◌, ℕ, zero, suc, ◌+◌, ◌<◌, nat_eq, Bool, true, false, List, [], ◌∷◌, Option, Some, None, if◌then◌else◌, refl, sym, ap, subst, arith, true≢false, eq-eqb, eqb-true}
+use Rattle.std.proofs.Common.{◌≡◌, ◌∙◌, ℕ, zero, suc, ◌+◌, ◌<◌, nat_eq, Bool, true, false, List, [], ◌∷◌, Option, Some, None, if◌then◌else◌}
+use Rattle.std.proofs.Common.{refl, sym, ap, subst, arith, true≢false, eq-eqb, eqb-true}
 use Rattle.std.proofs.Math.Decide.{ℕ_discrete}
 use Rattle.tsa_locks.specs.Laws.{HasOneMore, HoldsChange, IsLock}
-use Rattle.tsa_locks.specs.Locks.{blocked, by_owner, count_of, Exclusive, given, holds, Lock, Mode, one_less, one_more, owned, owned_less, Shared, shared_by, sharer_from, take, taken, unless_shared}
+use Rattle.tsa_locks.specs.Locks.{blocked, by_owner, count_of, Exclusive, given, holds, Lock, Mode, one_less, one_more, owned, owned_less}
+use Rattle.tsa_locks.specs.Locks.{Shared, shared_by, sharer_from, take, taken, unless_shared}
 
 pub same_taken : {a b : Lock} → taken a ≡ taken b → a ≡ b
 same_taken e = cc

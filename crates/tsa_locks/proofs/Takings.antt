@@ -1,8 +1,10 @@
 -- Locks are taken exactly where they can be.
-use Rattle.std.proofs.Common.{◌≡◌, ◌∙◌, ◌↔◌, ℕ, ◌+◌, ◌<◌, nat_eq, Bool, true, false, List, Option, Some, None, refl, sym, arith, eq-eqb, eqb-true}
+use Rattle.std.proofs.Common.{◌≡◌, ◌∙◌, ◌↔◌, ℕ, ◌+◌, ◌<◌, nat_eq, Bool, true, false, List, Option, Some, None, refl, sym, arith, eq-eqb}
+use Rattle.std.proofs.Common.{eqb-true}
 use Rattle.std.proofs.Math.Decide.{ℕ_discrete}
 use Rattle.tsa_locks.specs.Laws.{CanBeTaken, IsLock, LocksAreTakenWhereTheyCanBe}
-use Rattle.tsa_locks.specs.Locks.{blocked, by_owner, count_of, Exclusive, holds, Lock, Mode, owned, Shared, shared_by, sharer_from, take, taken, unless_shared}
+use Rattle.tsa_locks.specs.Locks.{blocked, by_owner, count_of, Exclusive, holds, Lock, Mode, owned, Shared, shared_by, sharer_from, take}
+use Rattle.tsa_locks.specs.Locks.{taken, unless_shared}
 use Rattle.tsa_locks.proofs.Holding.{no_sharer, none_holds, owner_holds, sharer_shares}
 
 abbrev Taken : Bool → Mode → ℕ → Lock → Type 0

@@ -2,7 +2,8 @@
 ghost use Rattle.tsa_locks.specs.Examples.{TakingsAreAsWritten};
 ghost use Rattle.tsa_locks.specs.Laws.{HoldsChange, LocksAreTakenWhereTheyCanBe};
 
-/// Whoever takes a lock holds it once more, and whoever gives it back once less; nobody else's holds change. Who is in the way holds the lock.
+/// Whoever takes a lock holds it once more, and whoever gives it back once less; nobody else's holds change. Who is in the way holds the
+/// lock.
 #[tactic(auto, using(crate::proofs::Holding::holds_change))]
 pub fn holds_change_as_taken_and_given()
     ensures { HoldsChange }

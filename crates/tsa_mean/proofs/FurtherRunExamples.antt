@@ -1,6 +1,7 @@
 -- Further runs worked out.
 use Rattle.std.proofs.Common.{refl}
-use Rattle.tsa_mean.specs.FurtherTraces.{AnswersGoWhereCallsStand, CallsAreAnswered, LoopsGoRound, ReadersShareALock, ReturnsAreJudged, ReturnsLeaveWhatIsDeclared, SwitchesGoOn}
+use Rattle.tsa_mean.specs.FurtherTraces.{AnswersGoWhereCallsStand, CallsAreAnswered, LoopsGoRound, ReadersShareALock, ReturnsAreJudged}
+use Rattle.tsa_mean.specs.FurtherTraces.{ReturnsLeaveWhatIsDeclared, SwitchesGoOn}
 use Rattle.tsa_mean.proofs.RunExamples.{quickly, turned}
 
 pub loops_go_round : LoopsGoRound

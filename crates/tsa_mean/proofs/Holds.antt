@@ -1,5 +1,6 @@
 -- Holds change by what events tell.
-use Rattle.std.proofs.Common.{◌≡◌, ◌∙◌, ℕ, ◌+◌, ◌<◌, nat_eq, Bool, true, false, Some, length, slice_index_or, slice_set, if◌then◌else◌, refl, ap, sym, subst, arith, eq-eqb, eqb-true}
+use Rattle.std.proofs.Common.{◌≡◌, ◌∙◌, ℕ, ◌+◌, ◌<◌, nat_eq, Bool, true, false, Some, length, slice_index_or, slice_set, if◌then◌else◌}
+use Rattle.std.proofs.Common.{refl, ap, sym, subst, arith, eq-eqb, eqb-true}
 use Rattle.std.proofs.lemmas.List.{get_or-set_same, get_or-set_other}
 use Rattle.std.proofs.Math.Decide.{ℕ_discrete}
 use Rattle.tsa_core.specs.Programs.{Program}

@@ -1,26 +1,30 @@
 -- What turns keep of states.
-use Rattle.std.proofs.Common.{◌≡◌, ◌∙◌, ℕ, zero, suc, ◌+◌, ◌<◌, nat_eq, nat_lt, ℤ, Bool, true, false, List, [], ◌∷◌, length, map, Option, Some, None, slice_get, slice_index_or, slice_set, if◌then◌else◌, refl, ap, sym, subst, arith}
+use Rattle.std.proofs.Common.{◌≡◌, ◌∙◌, ℕ, zero, suc, ◌+◌, ◌<◌, nat_eq, nat_lt, ℤ, Bool, true, false, List, [], ◌∷◌, length, map, Option}
+use Rattle.std.proofs.Common.{Some, None, slice_get, slice_index_or, slice_set, if◌then◌else◌, refl, ap, sym, subst, arith}
 use Rattle.std.proofs.lemmas.Bool.{ltb-true}
 use Rattle.tsa_base.specs.declared.value.Value.{Value}
 use Rattle.tsa_tree.specs.declared.kind.Kind.{Kind}
 use Rattle.tsa_tree.specs.declared.kind.Kind.TheVariants as type
 use Rattle.tsa_place_model.specs.declared.place.Placed.{Placed}
 use Rattle.tsa_core.specs.Programs.{Program}
-use Rattle.tsa_locks.specs.Locks.{by_owner, free, give, given, holds, Lock, owned, owned_less, shared_by, sharer_from, take, taken, blocked, Taking, unless_shared}
+use Rattle.tsa_locks.specs.Locks.{by_owner, free, give, given, holds, Lock, owned, owned_less, shared_by, sharer_from, take, taken, blocked}
+use Rattle.tsa_locks.specs.Locks.{Taking, unless_shared}
 use Rattle.tsa_sched.specs.declared.event.Mode.TheVariants.{Exclusive, Shared}
 use Rattle.tsa_sched.specs.declared.event.Mode.{Mode}
 use Rattle.tsa_locks.proofs.Holding.{same_some, same_taken}
 use Rattle.tsa_sched.specs.declared.event.EventKind.{EventKind}
 use Rattle.tsa_sched.specs.declared.event.EventKind.TheVariants as event
 use Rattle.tsa_sched.specs.declared.pick.Pick.{Pick}
-use Rattle.tsa_mean.specs.Acts.{Act, act_of, to_read, to_write, to_step, to_set, to_branch, to_choose, to_take, to_try, to_give, to_ask, to_enter, to_leave, to_trap}
+use Rattle.tsa_mean.specs.Acts.{Act, act_of, to_read, to_write, to_step, to_set, to_branch, to_choose, to_take, to_try, to_give, to_ask}
+use Rattle.tsa_mean.specs.Acts.{to_enter, to_leave, to_trap}
 use Rattle.tsa_mean.specs.Laws.{Changes}
 use Rattle.tsa_mean.specs.Runs.{step, turn_of}
 use Rattle.tsa_mean.specs.Sound.{Start}
 use Rattle.tsa_mean.specs.Starts.{Begin, thread_of}
 use Rattle.tsa_mean.specs.StateLaws.{HasItsFrames, IsLockAt, StateIsKept, StatesAreKept}
 use Rattle.tsa_mean.specs.States.{Frame, State, Thread, running, trapped, ended, lock_at, thread_at}
-use Rattle.tsa_mean.specs.Steps.{after_give, after_take, after_try, asking, frame_limit, is_reentrant_at, mode_or_held, perform, thread_below, Turn}
+use Rattle.tsa_mean.specs.Steps.{after_give, after_take, after_try, asking, frame_limit, is_reentrant_at, mode_or_held, perform}
+use Rattle.tsa_mean.specs.Steps.{thread_below, Turn}
 use Rattle.tsa_mean.proofs.Lists.{set_keeps, set_keeps_some}
 use Rattle.tsa_mean.proofs.Turns.{turn_changes}
 

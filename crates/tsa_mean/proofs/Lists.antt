@@ -1,5 +1,6 @@
 -- Tests of all elements, and elements of a list of which one is set.
-use Rattle.std.proofs.Common.{◌≡◌, ℕ, zero, suc, ◌<◌, Bool, true, false, not, ◌&&◌, List, [], ◌∷◌, Option, Some, slice_get, slice_index_or, refl, ap, sym, subst, arith}
+use Rattle.std.proofs.Common.{◌≡◌, ℕ, zero, suc, ◌<◌, Bool, true, false, not, ◌&&◌, List, [], ◌∷◌, Option, Some, slice_get, slice_index_or}
+use Rattle.std.proofs.Common.{refl, ap, sym, subst, arith}
 use Rattle.std.proofs.Math.Decide.{ℕ_discrete}
 use Rattle.std.specs.List.{list_all}
 use Rattle.std.specs.Prelude.{All, slice_set, ◌↔◌}

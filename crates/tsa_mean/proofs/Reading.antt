@@ -1,5 +1,6 @@
 -- A turn over another store that agrees on the cell that it reads.
-use Rattle.std.proofs.Common.{◌≡◌, ℕ, ◌+◌, nat_lt, ℤ, Bool, true, false, List, length, Option, Some, None, if◌then◌else◌, slice_set, refl, ap}
+use Rattle.std.proofs.Common.{◌≡◌, ℕ, ◌+◌, nat_lt, ℤ, Bool, true, false, List, length, Option, Some, None, if◌then◌else◌, slice_set, refl}
+use Rattle.std.proofs.Common.{ap}
 use Rattle.tsa_base.specs.declared.value.Value.{Value}
 use Rattle.tsa_tree.specs.declared.kind.Kind.{Kind}
 use Rattle.tsa_tree.specs.declared.kind.Kind.TheVariants as type
@@ -8,7 +9,8 @@ use Rattle.tsa_locks.specs.Locks.{Lock, Taking, taken, blocked, take, give}
 use Rattle.tsa_sched.specs.declared.event.Mode.{Mode}
 use Rattle.tsa_sched.specs.declared.event.Event.{Event}
 use Rattle.tsa_sched.specs.declared.event.EventKind.TheVariants as event
-use Rattle.tsa_mean.specs.Acts.{Act, act_of, to_read, to_write, to_step, to_set, to_branch, to_choose, to_take, to_try, to_give, to_ask, to_enter, to_leave, to_trap}
+use Rattle.tsa_mean.specs.Acts.{Act, act_of, to_read, to_write, to_step, to_set, to_branch, to_choose, to_take, to_try, to_give, to_ask}
+use Rattle.tsa_mean.specs.Acts.{to_enter, to_leave, to_trap}
 use Rattle.tsa_mean.specs.Frames.{with_work}
 use Rattle.tsa_mean.specs.Laws.{AgreeOn, over}
 use Rattle.tsa_mean.specs.Runs.{event_at, turn_of}

@@ -13,7 +13,8 @@ use Rattle.tsa_mean.specs.Returns.{given_back, taken_over}
 use Rattle.tsa_mean.specs.Runs.{run, step}
 use Rattle.tsa_mean.specs.Starts.{Begin}
 use Rattle.tsa_mean.specs.Texts.{events, events_in}
-use Rattle.tsa_mean.specs.Traces.{AnswersCome, HoldersTakeTheirLockAgain, ThreadsTrap, ThreadsWait, TransfersLockTheirAccounts, UnlockedWritesAreViolations}
+use Rattle.tsa_mean.specs.Traces.{AnswersCome, HoldersTakeTheirLockAgain, ThreadsTrap, ThreadsWait, TransfersLockTheirAccounts}
+use Rattle.tsa_mean.specs.Traces.{UnlockedWritesAreViolations}
 use Rattle.tsa_mean.specs.Violations.{all_below}
 
 -- to unfold this is to unfold all that a run is worked out by

@@ -1,5 +1,6 @@
 -- What is worked out to be no violation is safe.
-use Rattle.std.proofs.Common.{◌≡◌, ℕ, ◌+◌, ◌<◌, nat_eq, nat_lt, Bool, true, false, not, ◌&&◌, ◌||◌, length, Option, Some, None, is_some, refl, eq-eqb, eqb-true}
+use Rattle.std.proofs.Common.{◌≡◌, ℕ, ◌+◌, ◌<◌, nat_eq, nat_lt, Bool, true, false, not, ◌&&◌, ◌||◌, length, Option, Some, None, is_some}
+use Rattle.std.proofs.Common.{refl, eq-eqb, eqb-true}
 use Rattle.std.proofs.lemmas.Bool.{ltb-true, lt-ltb}
 use Rattle.std.specs.List.{list_all}
 use Rattle.std.specs.Prelude.{All, IsSome, ◌↔◌}
@@ -11,12 +12,14 @@ use Rattle.tsa_place_model.specs.declared.place.Guard.TheVariants.{Lock, Nothing
 use Rattle.tsa_core.specs.Programs.{Attr, Program}
 use Rattle.tsa_sched.specs.declared.event.Mode.{Mode}
 use Rattle.tsa_sched.specs.declared.event.Mode.TheVariants.{Exclusive, Shared}
-use Rattle.tsa_mean.specs.Acts.{to_read, to_write, to_step, to_set, to_branch, to_choose, to_take, to_try, to_give, to_ask, to_enter, to_leave, to_trap}
+use Rattle.tsa_mean.specs.Acts.{to_read, to_write, to_step, to_set, to_branch, to_choose, to_take, to_try, to_give, to_ask, to_enter}
+use Rattle.tsa_mean.specs.Acts.{to_leave, to_trap}
 use Rattle.tsa_mean.specs.Laws.{WhatIsNoViolationIsSafe}
 use Rattle.tsa_mean.specs.Returns.{attrs_of, change_in, given_back, lock_of, taken_over}
 use Rattle.tsa_mean.specs.Safe.{CanBeGiven, IsHeld, IsHeldAlone, LeavesAsDeclared}
 use Rattle.tsa_mean.specs.States.{Frame, Holds}
-use Rattle.tsa_mean.specs.Violations.{all_below, can_be_given, is_counted, is_held, is_held_alone, is_held_somehow, leaves_as_declared, names_lock}
+use Rattle.tsa_mean.specs.Violations.{all_below, can_be_given, is_counted, is_held, is_held_alone, is_held_somehow, leaves_as_declared}
+use Rattle.tsa_mean.specs.Violations.{names_lock}
 use Rattle.tsa_mean.proofs.Lists.{all_pass, below_pass, join, not_false}
 
 positive : (n : ℕ) → (nat_lt 0 n ≡ true) ↔ (0 < n)

@@ -8,7 +8,8 @@ use Rattle.tsa_locks.specs.Locks.{Lock, Taking, taken, blocked, take, give}
 use Rattle.tsa_sched.specs.declared.event.Mode.{Mode}
 use Rattle.tsa_sched.specs.declared.event.EventKind.{EventKind}
 use Rattle.tsa_sched.specs.declared.event.EventKind.TheVariants as event
-use Rattle.tsa_mean.specs.Acts.{Act, act_of, to_read, to_write, to_step, to_set, to_branch, to_choose, to_take, to_try, to_give, to_ask, to_enter, to_leave, to_trap, touched_cell}
+use Rattle.tsa_mean.specs.Acts.{Act, act_of, to_read, to_write, to_step, to_set, to_branch, to_choose, to_take, to_try, to_give, to_ask}
+use Rattle.tsa_mean.specs.Acts.{to_enter, to_leave, to_trap, touched_cell}
 use Rattle.tsa_mean.specs.Laws.{cell_in, IsSafeIn, TurnsAreSafeByTheirActs, TurnsTellTheirActs}
 use Rattle.tsa_mean.specs.Runs.{step, turn_of}
 use Rattle.tsa_mean.specs.States.{Frame, State, Thread, running, trapped, ended, holds_of, lock_at, thread_at}

@@ -1,5 +1,6 @@
 -- What a turn leaves as it was, and what it changes.
-use Rattle.std.proofs.Common.{◌≡◌, ◌∙◌, ℕ, ◌+◌, ◌<◌, nat_lt, ℤ, Bool, true, false, List, length, Option, Some, None, if◌then◌else◌, ◌⊎◌, inl, inr, slice_get, slice_set, refl, ap, sym, subst}
+use Rattle.std.proofs.Common.{◌≡◌, ◌∙◌, ℕ, ◌+◌, ◌<◌, nat_lt, ℤ, Bool, true, false, List, length, Option, Some, None, if◌then◌else◌, ◌⊎◌}
+use Rattle.std.proofs.Common.{inl, inr, slice_get, slice_set, refl, ap, sym, subst}
 use Rattle.tsa_tree.specs.declared.kind.Kind.{Kind}
 use Rattle.tsa_tree.specs.declared.kind.Kind.TheVariants as type
 use Rattle.tsa_core.specs.Programs.{Program}
@@ -9,7 +10,8 @@ use Rattle.tsa_sched.specs.declared.event.Mode.{Mode}
 use Rattle.tsa_locks.proofs.Holding.{holds_change}
 use Rattle.tsa_sched.specs.declared.event.Event.{Event}
 use Rattle.tsa_sched.specs.declared.event.EventKind.TheVariants as event
-use Rattle.tsa_mean.specs.Acts.{Act, act_of, to_read, to_write, to_step, to_set, to_branch, to_choose, to_take, to_try, to_give, to_ask, to_enter, to_leave, to_trap}
+use Rattle.tsa_mean.specs.Acts.{Act, act_of, to_read, to_write, to_step, to_set, to_branch, to_choose, to_take, to_try, to_give, to_ask}
+use Rattle.tsa_mean.specs.Acts.{to_enter, to_leave, to_trap}
 use Rattle.tsa_mean.specs.Laws.{Changes, NothingIsDoneWhereNoneRuns, NothingIsDoneWhileWaiting}
 use Rattle.tsa_mean.specs.Runs.{step, turn_of}
 use Rattle.tsa_mean.specs.States.{Frame, State, Thread, running, trapped, ended, lock_at, thread_at}

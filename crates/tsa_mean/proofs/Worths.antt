@@ -1,5 +1,6 @@
 -- Terms worked out read by read, beside what they are worth.
-use Rattle.std.proofs.Common.{◌≡◌, ◌∙◌, ℕ, Bool, true, false, List, [], ◌∷◌, Option, Some, None, Result, Ok, Err, option_map, option_and_then, if◌then◌else◌, refl, ap, sym, subst}
+use Rattle.std.proofs.Common.{◌≡◌, ◌∙◌, ℕ, Bool, true, false, List, [], ◌∷◌, Option, Some, None, Result, Ok, Err, option_map}
+use Rattle.std.proofs.Common.{option_and_then, if◌then◌else◌, refl, ap, sym, subst}
 use Rattle.tsa_base.specs.declared.value.Value.{Value}
 use Rattle.tsa_base.specs.declared.value.Value.TheVariants.{Int, Unsigned, Pointer}
 use Rattle.tsa_tree.specs.declared.expr.BinaryOp.{BinaryOp}
@@ -12,8 +13,10 @@ use Rattle.tsa_tree.specs.declared.number.Trap.TheVariants.{Overflow, Division}
 use Rattle.tsa_tree.specs.types.Arithmetic.{operate, operate_prefix}
 use Rattle.tsa_place_model.specs.Calls.{global_place, index_in, Layout, member_place}
 use Rattle.tsa_place_model.specs.Stores.{Store}
-use Rattle.tsa_core.specs.Terms.{Term, constant, variable, answer, global, member, element, target, load, address, converted, prefixed, joined}
-use Rattle.tsa_path.specs.Values.{at_index, both, in_kind, is_true, join, made, number_in, of_truth, on_pointers, on_values, place_of, pointed_place, prefix_value, values_of, with_first, worth}
+use Rattle.tsa_core.specs.Terms.{Term, constant, variable, answer, global, member, element, target, load, address, converted, prefixed}
+use Rattle.tsa_core.specs.Terms.{joined}
+use Rattle.tsa_path.specs.Values.{at_index, both, in_kind, is_true, join, made, number_in, of_truth, on_pointers, on_values, place_of}
+use Rattle.tsa_path.specs.Values.{pointed_place, prefix_value, values_of, with_first, worth}
 use Rattle.tsa_sched.specs.declared.event.TrapKind.TheVariants as trap
 use Rattle.tsa_mean.specs.Operators.{as_number, converted_to, joined_with, of_result, operate_on, prefix_on, truth_of}
 use Rattle.tsa_mean.specs.Outs.{bind, or_trap, Out, reads, TrapKind, traps, yields}

@@ -31,7 +31,8 @@ pub record LockedWritesCanStart : Type 0 where
   pub start : Start (program_of locked) (first_state (program_of locked) (twice 2))
   pub no_race : Race (program_of locked) (first_state (program_of locked) (twice 2)) → ⊥
 
--- A unit with functions 5 to 15, each with one attribute, with none, or with four parameters; `c` stands at place 3 and is const, and `d` at place 5 and is guarded.
+-- A unit with functions 5 to 15, each with one attribute, with none, or with four parameters; `c` stands at place 3 and is const, and `d`
+-- at place 5 and is guarded.
 abbrev beginners : Program
 beginners = program (
     a_lock_with_tries

@@ -2,7 +2,8 @@
 use Rattle.std.specs.Prelude.{◌≡◌, ℕ, pos, negsuc, true, false, Some, None, List, [], ◌∷◌, ◌++◌, replicate, codes}
 use Rattle.std.specs.List.{repeat}
 use Rattle.tsa_base.specs.declared.value.Value.TheVariants.{Int, Unsigned, Pointer}
-use Rattle.tsa_sched.specs.declared.event.EventKind.TheVariants.{Read, Write, Took, Waits, Tried, Gave, NotHeld, Environment, Called, Returned, Branched, Switched, Stepped, Trap, AlreadyEnded, AlreadyTrapped}
+use Rattle.tsa_sched.specs.declared.event.EventKind.TheVariants.{Read, Write, Took, Waits, Tried, Gave, NotHeld, Environment, Called}
+use Rattle.tsa_sched.specs.declared.event.EventKind.TheVariants.{Returned, Branched, Switched, Stepped, Trap, AlreadyEnded, AlreadyTrapped}
 use Rattle.tsa_sched.specs.declared.event.Mode.TheVariants.{Exclusive, Shared}
 use Rattle.tsa_sched.specs.declared.event.TrapKind.TheVariants.{Division}
 use Rattle.tsa_mean.specs.Texts.{a_lock_with_tries, at, begin, events, turn, turns, violating, without}
@@ -37,7 +38,8 @@ pub record SwitchesGoOn : Type 0 where
   pub behind : events (codes "int n; void w(int x) { switch (x) { case 1: n = 1; } n = 3; }") (begin 0 (Int (pos 5) ∷ []) ∷ []) (turns (replicate 2 0)) ≡
       at 0 0 0 (Switched (Int (pos 5))) ∷ at 0 0 2 (Write 0 (Int (pos 3))) ∷ []
 
--- an account is five places: itself, its lock, the lock's member, `x` and `y`; accounts stand at 3 and 8, and a pointer to the second that never changes at 13
+-- an account is five places: itself, its lock, the lock's member, `x` and `y`; accounts stand at 3 and 8, and a pointer to the second that
+-- never changes at 13
 abbrev accounts : List ℕ
 accounts =
     a_lock_with_tries

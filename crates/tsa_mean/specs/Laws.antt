@@ -32,7 +32,8 @@ pub record NothingIsDoneWhileWaiting : Type 0 where
   pub holder : (u : Program) (s : State) (pick : Pick) (lock holder : ℕ) → IsLock (lock_at s lock) → (step u s pick).1.kind ≡ event.Waits lock holder
       → (mode : Mode) × (0 < holds_of s holder lock mode)
 
--- What a turn does to the store and to the locks, by its event: it writes the one cell, changes the one lock as a taking or a giving does, or leaves all as it was.
+-- What a turn does to the store and to the locks, by its event: it writes the one cell, changes the one lock as a taking or a giving does,
+-- or leaves all as it was.
 pub record Writes (old new : State) (place : ℕ) (v : Value) : Type 0 where
   pub store : new.store ≡ slice_set old.store place v
   pub locks : new.locks ≡ old.locks
@@ -79,7 +80,8 @@ pub record TurnsAreAtomic : Type 0 where
   pub locks : (u : Program) (s : State) (pick : Pick) (store : List Value) → AgreeOn (step u s pick).1.kind s (over s store)
       → (step u (over s store) pick).0.locks ≡ (step u s pick).0.locks
 
--- Each pick has its turn, which tells one event: of its thread, and where that runs, of the point at which it is. A run goes on where the last one ended.
+-- Each pick has its turn, which tells one event: of its thread, and where that runs, of the point at which it is. A run goes on where the
+-- last one ended.
 pub record RunsGoTurnByTurn : Type 0 where
   pub total : (u : Program) (s : State) (pick : Pick) → (after : State) × (told : Event) × (step u s pick ≡ (after, told))
   pub point : (u : Program) (s : State) (pick : Pick) (frame : Frame) (below : List Frame) → thread_at s pick.thread ≡ Some (running frame below)

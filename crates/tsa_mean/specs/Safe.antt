@@ -25,15 +25,15 @@ abbrev pub CanBeGiven : Holds → Option Mode → (lock : ℕ) → Type 0
 CanBeGiven held None lock = (mode : Mode) × (0 < held lock mode)
 CanBeGiven held (Some mode) lock = 0 < held lock mode
 
--- A return leaves the holds of the call, less those that its function gives back, and with those that it takes, counted for each lock and mode; and the paths
--- of its function's attributes name locks.
+-- A return leaves the holds of the call, less those that its function gives back, and with those that it takes, counted for each lock and
+-- mode; and the paths of its function's attributes name locks.
 pub record LeavesAsDeclared (u : Program) (held : Holds) (frame : Frame) (answer : Value) : Type 0 where
   pub names : All (λ a. (change_in a answer).counts ≡ true → IsSome (lock_of u frame a)) (attrs_of u frame)
   pub holds : (lock : ℕ) → lock < length u.layout.places → (m : Mode)
       → held lock m + given_back u frame answer (attrs_of u frame) lock m ≡ frame.at_call lock m + taken_over u frame answer (attrs_of u frame) lock m
 
--- What the next act of a thread with these holds has to be: a read of a cell whose guards are all held, a write of one whose guards are all held alone, a
--- giving of what is held, or a return that leaves the holds as declared. All other acts are safe.
+-- What the next act of a thread with these holds has to be: a read of a cell whose guards are all held, a write of one whose guards are all
+-- held alone, a giving of what is held, or a return that leaves the holds as declared. All other acts are safe.
 abbrev pub IsSafe : Program → Holds → Frame → Act → Type 0
 IsSafe u held frame (to_read place left) = All (IsHeld held) (guards_of u.layout place)
 IsSafe u held frame (to_write place v) = All (IsHeldAlone held) (guards_of u.layout place)

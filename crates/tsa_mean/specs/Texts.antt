@@ -39,8 +39,8 @@ events_in u begins picks = (run u (first_state u begins) picks).1
 unfoldable pub events : List ℕ → List Begin → List Pick → List Event
 events text begins picks = events_in (program_of (unit_in (tokens_of text))) begins picks
 
--- A lock `mu` of a kind with functions 0 and 1 that take and give one, and a number `g` under it: `mu` stands at place 0, and `g` at place 2. Then function 2,
--- which tries a lock, and functions 3 and 4, which take and give one together with others.
+-- A lock `mu` of a kind with functions 0 and 1 that take and give one, and a number `g` under it: `mu` stands at place 0, and `g` at place
+-- 2. Then function 2, which tries a lock, and functions 3 and 4, which take and give one together with others.
 abbrev pub lock_of_kind : List ℕ → List ℕ
 lock_of_kind kind =
     codes "struct CAPABILITY(\"" ++ (kind

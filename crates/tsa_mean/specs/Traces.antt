@@ -1,7 +1,8 @@
 -- Worked runs of whole units, turn by turn.
 use Rattle.std.specs.Prelude.{◌≡◌, ℕ, pos, true, false, Some, None, List, [], ◌∷◌, ◌++◌, replicate, codes}
 use Rattle.tsa_base.specs.declared.value.Value.TheVariants.{Int, Pointer}
-use Rattle.tsa_sched.specs.declared.event.EventKind.TheVariants.{Read, Write, Took, Waits, Tried, Gave, Environment, Called, Returned, Branched, Stepped, Trap, AlreadyEnded, AlreadyTrapped}
+use Rattle.tsa_sched.specs.declared.event.EventKind.TheVariants.{Read, Write, Took, Waits, Tried, Gave, Environment, Called, Returned}
+use Rattle.tsa_sched.specs.declared.event.EventKind.TheVariants.{Branched, Stepped, Trap, AlreadyEnded, AlreadyTrapped}
 use Rattle.tsa_sched.specs.declared.event.Mode.TheVariants.{Exclusive}
 use Rattle.tsa_sched.specs.declared.event.TrapKind.TheVariants.{Overflow, Division, NullPointer, OutOfRange, Depth}
 use Rattle.tsa_mean.specs.Starts.{Begin}

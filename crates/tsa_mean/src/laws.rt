@@ -1,12 +1,16 @@
 //! Laws of the machine.
 ghost use Rattle.tsa_mean.specs.Examples.{LockedWritesCanStart, ThreadsBeginWhereNothingIsAsked, UnlockedWritesAreUnsound};
-ghost use Rattle.tsa_mean.specs.FurtherTraces.{AnswersGoWhereCallsStand, CallsAreAnswered, LoopsGoRound, ReadersShareALock, ReturnsAreJudged, ReturnsLeaveWhatIsDeclared, SwitchesGoOn};
+ghost use Rattle.tsa_mean.specs.FurtherTraces.{AnswersGoWhereCallsStand, CallsAreAnswered, LoopsGoRound, ReadersShareALock};
+ghost use Rattle.tsa_mean.specs.FurtherTraces.{ReturnsAreJudged, ReturnsLeaveWhatIsDeclared, SwitchesGoOn};
 ghost use Rattle.tsa_mean.specs.HoldLaws.{HoldsChangeAsTold};
-ghost use Rattle.tsa_mean.specs.Laws.{FirstStatesAreStarts, NothingIsDoneWhereNoneRuns, NothingIsDoneWhileWaiting, RunsGoTurnByTurn, TurnsAreAtomic, TurnsAreSafeByTheirActs, TurnsTellTheirActs, WhatIsNotHeldIsAViolation, WhatIsNoViolationIsSafe};
+ghost use Rattle.tsa_mean.specs.Laws.{FirstStatesAreStarts, NothingIsDoneWhereNoneRuns, NothingIsDoneWhileWaiting, RunsGoTurnByTurn};
+ghost use Rattle.tsa_mean.specs.Laws.{TurnsAreAtomic, TurnsAreSafeByTheirActs, TurnsTellTheirActs, WhatIsNotHeldIsAViolation};
+ghost use Rattle.tsa_mean.specs.Laws.{WhatIsNoViolationIsSafe};
 ghost use Rattle.tsa_mean.specs.OrderTraces.{NumbersTurnAtTheirEdges, TermsAreWorkedOutInOrder};
 ghost use Rattle.tsa_mean.specs.StateLaws.{StatesAreKept};
 ghost use Rattle.tsa_mean.specs.TracePlaces.{PointsStandAtTheirPlaces};
-ghost use Rattle.tsa_mean.specs.Traces.{AnswersCome, HoldersTakeTheirLockAgain, ThreadsTrap, ThreadsWait, TransfersLockTheirAccounts, UnlockedWritesAreViolations};
+ghost use Rattle.tsa_mean.specs.Traces.{AnswersCome, HoldersTakeTheirLockAgain, ThreadsTrap, ThreadsWait, TransfersLockTheirAccounts};
+ghost use Rattle.tsa_mean.specs.Traces.{UnlockedWritesAreViolations};
 ghost use Rattle.tsa_mean.specs.WorthLaws.{ReadsKeepTheWorth, WhatIsWorkedOutIsWorthIt};
 
 /// A turn of a thread that isn't there, has ended, has stopped for good or waits changes nothing.
@@ -22,7 +26,8 @@ pub fn turns_are_atomic()
     ensures { TurnsAreAtomic }
 {}
 
-/// In every start, and after every turn from a state where that is so, no lock is taken more often than it can be, and no thread has more frames than it may.
+/// In every start, and after every turn from a state where that is so, no lock is taken more often than it can be, and no thread has more
+/// frames than it may.
 #[tactic(auto, using(crate::proofs::Keeping::states_are_kept))]
 pub fn states_are_kept()
     ensures { StatesAreKept }
@@ -46,7 +51,8 @@ pub fn turns_tell_their_acts()
     ensures { TurnsTellTheirActs }
 {}
 
-/// An act is worked out to be no violation exactly where it is safe, and so is a turn; a giving is one exactly where the thread doesn't hold what it gives.
+/// An act is worked out to be no violation exactly where it is safe, and so is a turn; a giving is one exactly where the thread doesn't
+/// hold what it gives.
 #[tactic(auto, using(crate::proofs::Safety::what_is_no_violation_is_safe, crate::proofs::Telling::turns_are_safe_by_their_acts, crate::proofs::Atomic::what_is_not_held_is_a_violation))]
 pub fn violations_are_unsafe()
     ensures acts { WhatIsNoViolationIsSafe }
@@ -54,7 +60,8 @@ pub fn violations_are_unsafe()
     ensures not_held { WhatIsNotHeldIsAViolation }
 {}
 
-/// What is worked out without a read is what a term is worth in any store, and what traps is worth nothing; a read that is replaced by what a store holds keeps what the term is worth there.
+/// What is worked out without a read is what a term is worth in any store, and what traps is worth nothing; a read that is replaced by what
+/// a store holds keeps what the term is worth there.
 #[tactic(auto, using(crate::proofs::Worths::what_is_worked_out_is_worth_it, crate::proofs::Filling::reads_keep_the_worth))]
 pub fn terms_come_to_their_worth()
     ensures worked_out { WhatIsWorkedOutIsWorthIt }
@@ -142,7 +149,8 @@ pub fn returns_are_judged()
     ensures attributes { ReturnsLeaveWhatIsDeclared }
 {}
 
-/// Operands are worked out from left to right, the right side of an assignment before the left one, and numbers trap or wrap at their edges.
+/// Operands are worked out from left to right, the right side of an assignment before the left one, and numbers trap or wrap at their
+/// edges.
 #[tactic(auto, using(crate::proofs::OrderRunExamples::terms_are_worked_out_in_order, crate::proofs::OrderRunExamples::numbers_turn_at_their_edges))]
 pub fn terms_are_worked_out_in_order()
     ensures order { TermsAreWorkedOutInOrder }

@@ -1,5 +1,6 @@
 -- What expressions that lead somewhere do, by one descent, and what the indices on the way are worth.
-use Rattle.std.proofs.Common.{◌≡◌, ◌∙◌, ℕ, pos, negsuc, Bool, true, false, ◌&&◌, nat_lt, List, Option, Some, None, is_some, option_map, option_and_then, slice_get, Result, Ok, Err, if◌then◌else◌, refl, sym, ap, subst}
+use Rattle.std.proofs.Common.{◌≡◌, ◌∙◌, ℕ, pos, negsuc, Bool, true, false, ◌&&◌, nat_lt, List, Option, Some, None, is_some, option_map}
+use Rattle.std.proofs.Common.{option_and_then, slice_get, Result, Ok, Err, if◌then◌else◌, refl, sym, ap, subst}
 use Rattle.tsa_base.specs.declared.value.Value.{Value}
 use Rattle.tsa_base.specs.declared.value.Value.TheVariants.{Pointer}
 use Rattle.tsa_base.proofs.Truths.{never}
@@ -17,7 +18,8 @@ use Rattle.tsa_tree.specs.expressions.Syntax.{Expression, number, null, named, c
 use Rattle.tsa_tree.specs.types.Constants.{constant_of, is_made_of_constants, worked, without_trap}
 use Rattle.tsa_tree.specs.types.DeclaredTypes.{typed_value, value_in}
 use Rattle.tsa_tree.specs.types.Expressions.{type_of, types_of, member_of, member_type, owner}
-use Rattle.tsa_tree.specs.types.Operands.{integer_kind, is_single, struct_of, is_struct_place, lacks, breaks_prefix, breaks_index, prefix_type, element_type, address_of, followed}
+use Rattle.tsa_tree.specs.types.Operands.{integer_kind, is_single, struct_of, is_struct_place, lacks, breaks_prefix, breaks_index}
+use Rattle.tsa_tree.specs.types.Operands.{prefix_type, element_type, address_of, followed}
 use Rattle.tsa_tree.specs.types.Scopes.{Scope, context_of, known_in}
 use Rattle.tsa_place_model.specs.LockPaths as path
 use Rattle.tsa_place_model.specs.LockPaths.{Led, meant, member_step, element_step, in_range, or_variable, index_step, name_way, leads}
@@ -37,7 +39,8 @@ use Rattle.tsa_path.proofs.Bearing.{Bears, Meets}
 use Rattle.tsa_path.specs.Laws.{Locals}
 use Rattle.tsa_path.specs.Values.{made, pointed_place, at_index, place_of, worth}
 use Rattle.tsa_path.proofs.Folding.{folded_value}
-use Rattle.tsa_path.proofs.Leads.{AtPlace, Stands, at_place, at_local, Leads, Points, Does, does_meant, no_object, some_part, field_leads, index_leads, Steps}
+use Rattle.tsa_path.proofs.Leads.{AtPlace, Stands, at_place, at_local, Leads, Points, Does, does_meant, no_object, some_part, field_leads}
+use Rattle.tsa_path.proofs.Leads.{index_leads, Steps}
 
 -- what is made of something that is there
 pub bound : {A B : Type 0} (f : A → Option B) (o : Option A) (b : B) → option_and_then f o ≡ Some b → (a : A) × ((o ≡ Some a) × (f a ≡ Some b))

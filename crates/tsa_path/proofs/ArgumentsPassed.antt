@@ -1,5 +1,6 @@
 -- The paths of a call's arguments say what their values are.
-use Rattle.std.proofs.Common.{◌≡◌, ◌∙◌, ℕ, zero, suc, pos, negsuc, ◌<◌, arith, Bool, true, false, ◌&&◌, ◌||◌, not, List, [], ◌∷◌, Option, Some, None, is_some, is_none, option_map, option_and_then, slice_get, if◌then◌else◌, refl, sym, ap, subst}
+use Rattle.std.proofs.Common.{◌≡◌, ◌∙◌, ℕ, zero, suc, pos, negsuc, ◌<◌, arith, Bool, true, false, ◌&&◌, ◌||◌, not, List, [], ◌∷◌, Option}
+use Rattle.std.proofs.Common.{Some, None, is_some, is_none, option_map, option_and_then, slice_get, if◌then◌else◌, refl, sym, ap, subst}
 use Rattle.std.proofs.lemmas.Bool.Decides.{nat_tests}
 use Rattle.tsa_base.specs.declared.value.Value.{Value}
 use Rattle.tsa_base.specs.declared.value.Value.TheVariants.{Pointer}
@@ -16,7 +17,8 @@ use Rattle.tsa_tree.specs.declared.number.Number.TheVariants as numeral
 use Rattle.tsa_tree.specs.expressions.Syntax.{Expression, Arguments, number, null, named, call, unary, binary, field, index, none, more}
 use Rattle.tsa_tree.specs.types.DeclaredTypes.{value_in}
 use Rattle.tsa_tree.specs.types.Expressions.{type_of, types_of, all_typed, arguments_break}
-use Rattle.tsa_tree.specs.types.Operands.{integer_kind, unsigned_kind, is_integer, is_single, lacks, target_of, same_target, keeps_const, goes_to}
+use Rattle.tsa_tree.specs.types.Operands.{integer_kind, unsigned_kind, is_integer, is_single, lacks, target_of, same_target, keeps_const}
+use Rattle.tsa_tree.specs.types.Operands.{goes_to}
 use Rattle.tsa_tree.specs.types.Scopes.{Scope, context_of, known_in}
 use Rattle.tsa_place_model.specs.Arguments.{argument_way, index_argument, local_argument, or_local, way_of}
 use Rattle.tsa_place_model.specs.LockPaths.{Led, in_range, leads}

@@ -1,5 +1,6 @@
 -- The locals of a callee suit the paths that are handed on with a call.
-use Rattle.std.proofs.Common.{◌≡◌, ℕ, Bool, true, false, ◌||◌, not, List, Option, Some, None, is_some, option_map, slice_get, refl, sym, subst}
+use Rattle.std.proofs.Common.{◌≡◌, ℕ, Bool, true, false, ◌||◌, not, List, Option, Some, None, is_some, option_map, slice_get, refl, sym}
+use Rattle.std.proofs.Common.{subst}
 use Rattle.tsa_base.specs.declared.value.Value.{Value}
 use Rattle.tsa_base.proofs.Truths.{never}
 use Rattle.tsa_tree.specs.declared.expr.BinaryOp.TheVariants as op

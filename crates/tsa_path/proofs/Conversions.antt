@@ -1,5 +1,6 @@
 -- Conversions between `int` and `unsigned` keep the number modulo 2 ^ 32.
-use Rattle.std.proofs.Common.{◌≡◌, ◌∙◌, ℕ, zero, suc, pos, negsuc, ◌-◌, ◌%◌, ◌^◌, ◌<◌, ◌≤◌, arith, ℤ, neg_ℤ, int_le, int_lt, nat_lt, Bool, true, false, if◌then◌else◌, Some, refl, sym, ap, subst}
+use Rattle.std.proofs.Common.{◌≡◌, ◌∙◌, ℕ, zero, suc, pos, negsuc, ◌-◌, ◌%◌, ◌^◌, ◌<◌, ◌≤◌, arith, ℤ, neg_ℤ, int_le, int_lt, nat_lt, Bool}
+use Rattle.std.proofs.Common.{true, false, if◌then◌else◌, Some, refl, sym, ap, subst}
 use Rattle.std.proofs.lemmas.Bool.Decides.{nat_tests}
 use Rattle.std.proofs.Math.Nat.{mod-eq_of_lt}
 use Rattle.tsa_base.specs.declared.value.Value.{Value}

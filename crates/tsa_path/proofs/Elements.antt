@@ -1,5 +1,6 @@
 -- Which elements numbers are indices of.
-use Rattle.std.proofs.Common.{◌≡◌, ◌∙◌, ℕ, zero, suc, pos, negsuc, ◌+◌, ◌-◌, ◌*◌, ◌^◌, ◌<◌, ◌≤◌, arith, nat_eq, nat_lt, Bool, true, false, if◌then◌else◌, [], ◌∷◌, length, Option, Some, None, option_and_then, slice_get, refl, sym, ap}
+use Rattle.std.proofs.Common.{◌≡◌, ◌∙◌, ℕ, zero, suc, pos, negsuc, ◌+◌, ◌-◌, ◌*◌, ◌^◌, ◌<◌, ◌≤◌, arith, nat_eq, nat_lt, Bool, true, false}
+use Rattle.std.proofs.Common.{if◌then◌else◌, [], ◌∷◌, length, Option, Some, None, option_and_then, slice_get, refl, sym, ap}
 use Rattle.std.proofs.lemmas.Bool.Decides.{nat_tests}
 use Rattle.tsa_base.specs.declared.value.Value.{Value}
 use Rattle.tsa_base.specs.declared.value.Value.TheVariants.{Int, Unsigned, Pointer}

@@ -1,5 +1,6 @@
 -- A constant expression is worth what it is worked out to.
-use Rattle.std.proofs.Common.{◌≡◌, ◌∙◌, ℕ, Bool, true, false, ◌&&◌, not, Option, Some, None, option_map, option_and_then, Result, Ok, Err, if◌then◌else◌, refl, sym, ap, ap₂}
+use Rattle.std.proofs.Common.{◌≡◌, ◌∙◌, ℕ, Bool, true, false, ◌&&◌, not, Option, Some, None, option_map, option_and_then, Result, Ok, Err}
+use Rattle.std.proofs.Common.{if◌then◌else◌, refl, sym, ap, ap₂}
 use Rattle.tsa_tree.specs.declared.expr.BinaryOp.{BinaryOp}
 use Rattle.tsa_tree.specs.declared.expr.BinaryOp.TheVariants as op
 use Rattle.tsa_tree.specs.declared.expr.UnaryOp.{UnaryOp}
@@ -15,13 +16,15 @@ use Rattle.tsa_tree.specs.declared.number.Number.TheVariants as numeral
 use Rattle.tsa_tree.specs.declared.number.Trap.{Trap}
 use Rattle.tsa_tree.specs.expressions.Syntax.{Expression, number, null, named, call, unary, binary, field, index}
 use Rattle.tsa_tree.specs.types.Arithmetic.{truth, is_nonzero, operate, operate_prefix}
-use Rattle.tsa_tree.specs.types.Constants.{enumerator, is_known_enumerator, takes_integers, is_made_of_constants, named_value, go_on, worked_binary, worked}
+use Rattle.tsa_tree.specs.types.Constants.{enumerator, is_known_enumerator, takes_integers, is_made_of_constants, named_value, go_on}
+use Rattle.tsa_tree.specs.types.Constants.{worked_binary, worked}
 use Rattle.tsa_tree.specs.types.Expressions.{number_type}
 use Rattle.tsa_tree.specs.types.Operands.{integer_kind, pointer_kind, common, binary_type}
 use Rattle.tsa_tree.specs.types.Scopes.{Scope, context_of, known_in}
 use Rattle.tsa_place_model.specs.Calls.{Layout}
 use Rattle.tsa_place_model.specs.Stores.{Store}
-use Rattle.tsa_core.specs.Meanings.{is_place, is_cell, loaded, null_pointer, of_number, of_name, beside, operands, of_prefix, of_binary, meaning}
+use Rattle.tsa_core.specs.Meanings.{is_place, is_cell, loaded, null_pointer, of_number, of_name, beside, operands, of_prefix, of_binary}
+use Rattle.tsa_core.specs.Meanings.{meaning}
 use Rattle.tsa_core.specs.Terms.{load, joined, Sense}
 use Rattle.tsa_core.proofs.KindTests.{both_true}
 use Rattle.tsa_path.specs.Laws.{Locals}

@@ -1,5 +1,6 @@
 -- Substitution keeps the meaning of a path.
-use Rattle.std.proofs.Common.{◌≡◌, ◌∙◌, ℕ, pos, negsuc, List, [], ◌∷◌, ◌++◌, Option, Some, None, option_map, option_and_then, refl, sym, ap, subst}
+use Rattle.std.proofs.Common.{◌≡◌, ◌∙◌, ℕ, pos, negsuc, List, [], ◌∷◌, ◌++◌, Option, Some, None, option_map, option_and_then, refl, sym, ap}
+use Rattle.std.proofs.Common.{subst}
 use Rattle.tsa_base.specs.declared.value.Value.{Value}
 use Rattle.tsa_base.specs.declared.value.Value.TheVariants.{Int, Unsigned, Pointer}
 use Rattle.tsa_base.proofs.Options.{some_same as the_same}

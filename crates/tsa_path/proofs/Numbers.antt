@@ -1,10 +1,12 @@
 -- What a table of paths keeps.
-use Rattle.std.proofs.Common.{◌≡◌, ◌∙◌, ℕ, zero, suc, ◌+◌, ◌≤◌, arith, nat_le, Bool, true, false, not, ◌&&◌, ◌||◌, if◌then◌else◌, List, [], ◌∷◌, ◌++◌, length, Some, None, slice_get, ◌⊎◌, inl, inr, ap, refl, sym}
+use Rattle.std.proofs.Common.{◌≡◌, ◌∙◌, ℕ, zero, suc, ◌+◌, ◌≤◌, arith, nat_le, Bool, true, false, not, ◌&&◌, ◌||◌, if◌then◌else◌, List, []}
+use Rattle.std.proofs.Common.{◌∷◌, ◌++◌, length, Some, None, slice_get, ◌⊎◌, inl, inr, ap, refl, sym}
 use Rattle.std.proofs.lemmas.Bool.Decides.{nat_tests}
 use Rattle.std.proofs.lemmas.List.{length-append}
 use Rattle.tsa_place_model.specs.Ways.{Way}
 use Rattle.tsa_path.specs.Sameness.{same_way}
-use Rattle.tsa_path.specs.PathTables.{path_limit, is_known, number_of, AreDifferent, TableHoldsDifferentPaths, TableStaysWithinItsLimit, NumbersStay}
+use Rattle.tsa_path.specs.PathTables.{path_limit, is_known, number_of, AreDifferent, TableHoldsDifferentPaths, TableStaysWithinItsLimit}
+use Rattle.tsa_path.specs.PathTables.{NumbersStay}
 use Rattle.tsa_path.proofs.PathsApart.{way_equal, way_itself}
 
 never : {A : Type 0} → true ≡ false → A

@@ -34,8 +34,8 @@ pub record Serves (here : Scope) (k : Setting) (store : Store) (locals : Locals)
   pub constant : KeepsConst k.layout store
   pub held : HoldsKinds k locals
 
--- Where all arguments of a typed call have values, and these are the first locals of the callee, each path of an argument says what its local holds: the
--- local of the caller, the constant, or where the pointer points.
+-- Where all arguments of a typed call have values, and these are the first locals of the callee, each path of an argument says what its
+-- local holds: the local of the caller, the constant, or where the pointer points.
 abbrev pub ArgumentsHaveTheirPaths : Type 0
 ArgumentsHaveTheirPaths = (items : List UnitItem) (here : Scope) (k : Setting) (store : Store) (caller callee : Locals) (owner : Option ℕ) (stable : ℕ → Bool) (params : List ThingType) (args : Arguments)
     (values : List Value) → HasPlaces items k.layout → Serves here k store caller → all_typed (types_of (context_of here) args) ≡ true → arguments_break params (types_of (context_of here) args) ≡ false

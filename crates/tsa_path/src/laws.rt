@@ -7,8 +7,8 @@ ghost use Rattle.tsa_path.specs.ValueExamples.{ValuesAreAsWritten};
 ghost use Rattle.tsa_path.specs.WrittenLocks.{LocksAreAsWritten};
 ghost use Rattle.tsa_path.specs.Sameness.{SameWaysAreEqual};
 
-/// Where a callee's locals are the values of a call's arguments, a path of the callee there and its substituted path in the caller lead to the same
-/// place, or to none both; a number is an index of the same elements before and after its conversion between `int` and `unsigned`.
+/// Where a callee's locals are the values of a call's arguments, a path of the callee there and its substituted path in the caller lead to
+/// the same place, or to none both; a number is an index of the same elements before and after its conversion between `int` and `unsigned`.
 #[tactic(auto, using(crate::proofs::Keeping::keeps_the_meaning, crate::proofs::Elements::same_elements))]
 pub fn substitution_keeps_the_meaning()
     ensures meaning { SubstitutionKeepsTheMeaning }
@@ -41,7 +41,8 @@ pub fn locks_are_as_written()
     ensures { LocksAreAsWritten }
 {}
 
-/// Where the arguments of a typed call have values, each argument's path says what its value is: that of a local, a constant, or where the pointer points.
+/// Where the arguments of a typed call have values, each argument's path says what its value is: that of a local, a constant, or where the
+/// pointer points.
 pub fn arguments_have_their_paths()
     ensures arguments { ArgumentsHaveTheirPaths }
     ensures calls { CallsSuitTheirPaths }

@@ -1,6 +1,8 @@
 //! The arguments of a call in the place of parameters, in a path of the callee (C11 6.5.2.2p4).
 ghost use Rattle.std.specs.Prelude.{◌≡◌, Some, IfOk, option_map, option_and_then};
-ghost use Rattle.tsa_path.specs.Substitution.{given as spec_given, constant as spec_constant, as_index as spec_as_index, as_pointer as spec_as_pointer, step_in as spec_step_in, steps_in, further as spec_further, substituted};
+ghost use Rattle.tsa_path.specs.Substitution.{given as spec_given, constant as spec_constant, as_index as spec_as_index};
+ghost use Rattle.tsa_path.specs.Substitution.{as_pointer as spec_as_pointer, step_in as spec_step_in, steps_in, further as spec_further};
+ghost use Rattle.tsa_path.specs.Substitution.{substituted};
 
 use std::alloc::Global;
 use tsa_base::NoMemory;

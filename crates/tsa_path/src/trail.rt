@@ -2,7 +2,8 @@
 ghost use Rattle.std.specs.Prelude.{◌≡◌, ◌++◌, IfOk, OnOk, option_map, codes};
 ghost use Rattle.std.specs.Fmt.{decimal};
 ghost use Rattle.tsa_path.specs.Labels.{label};
-ghost use Rattle.tsa_path.specs.PathTexts.{name_of, structure_of, link_text, place_text, named as spec_named, to_member as spec_to_member, to_element as spec_to_element, trail_text};
+ghost use Rattle.tsa_path.specs.PathTexts.{name_of, structure_of, link_text, place_text, named as spec_named, to_member as spec_to_member};
+ghost use Rattle.tsa_path.specs.PathTexts.{to_element as spec_to_element, trail_text};
 
 use crate::names::Named;
 use std::alloc::Global;

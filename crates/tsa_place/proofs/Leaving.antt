@@ -1,5 +1,6 @@
 -- What is left for later comes first.
-use Rattle.std.proofs.Common.{◌≡◌, ◌∙◌, ℕ, ◌+◌, ◌*◌, ◌<◌, arith, nat_lt, Bool, true, false, List, [], ◌∷◌, ◌++◌, length, refl, sym, ap, subst}
+use Rattle.std.proofs.Common.{◌≡◌, ◌∙◌, ℕ, ◌+◌, ◌*◌, ◌<◌, arith, nat_lt, Bool, true, false, List, [], ◌∷◌, ◌++◌, length, refl, sym, ap}
+use Rattle.std.proofs.Common.{subst}
 use Rattle.std.proofs.lemmas.Bool.Decides.{nat_tests}
 use Rattle.std.proofs.lemmas.List.{append_assoc}
 use Rattle.tsa_place.specs.declared.filling.Left.{Left}
@@ -7,7 +8,8 @@ use Rattle.tsa_place.specs.declared.filling.Left.TheVariants as left
 use Rattle.tsa_place_model.specs.Layouts.{Part, Structures, kind_size, size_of, members_size}
 use Rattle.tsa_place_model.specs.Places.{Values, elements_places, members_places, places_inside}
 use Rattle.tsa_place_model.specs.declared.place.Placed.{Placed}
-use Rattle.tsa_place.specs.Filling.{given, members_left, size_left, sizes_left, one_left, all_left, things_left, IsDefined, IsLeft, AreLeft, Leaves}
+use Rattle.tsa_place.specs.Filling.{given, members_left, size_left, sizes_left, one_left, all_left, things_left, IsDefined, IsLeft, AreLeft}
+use Rattle.tsa_place.specs.Filling.{Leaves}
 
 module _ (structs : Structures) where
   sizes_behind : (old : List Left) (l : Left) → sizes_left structs (old ++ l ∷ []) ≡ sizes_left structs old + size_left structs l

@@ -1,5 +1,6 @@
 -- Places are put one after another: what each step adds, and what it leaves.
-use Rattle.std.proofs.Common.{◌≡◌, ◌∙◌, ℕ, zero, suc, ◌+◌, ◌-◌, ◌*◌, ◌<◌, ◌≤◌, arith, List, [], ◌∷◌, ◌++◌, drop, take, length, Some, slice_get, Result, Ok, Err, OnOk, sym, ap, subst}
+use Rattle.std.proofs.Common.{◌≡◌, ◌∙◌, ℕ, zero, suc, ◌+◌, ◌-◌, ◌*◌, ◌<◌, ◌≤◌, arith, List, [], ◌∷◌, ◌++◌, drop, take, length, Some}
+use Rattle.std.proofs.Common.{slice_get, Result, Ok, Err, OnOk, sym, ap, subst}
 use Rattle.std.specs.Prelude.{⊤}
 use Rattle.std.proofs.lemmas.List.{append_assoc, length-append, take-append-le}
 use Rattle.tsa_tree.specs.declared.kind.Kind.{Kind}
@@ -14,10 +15,12 @@ use Rattle.tsa_place.specs.declared.filling.Left.TheVariants as left
 use Rattle.tsa_place.specs.declared.filling.Rows.{Rows}
 use Rattle.tsa_place.specs.declared.environment.Known.{Known}
 use Rattle.tsa_place_model.specs.Layouts.{Part, Structures, structure_at, kind_size, thing_size, size_of, members_size}
-use Rattle.tsa_place_model.specs.Places.{Given, Values, a_place, element_of, member_of, kind_places, elements_places, members_places, thing_places, places_inside}
+use Rattle.tsa_place_model.specs.Places.{Given, Values, a_place, element_of, member_of, kind_places, elements_places, members_places}
+use Rattle.tsa_place_model.specs.Places.{thing_places, places_inside}
 use Rattle.tsa_place_model.specs.declared.place.Placed.{Placed}
 use Rattle.tsa_place_model.specs.Standing.{IsWithin, AllBelow, IsOrdered}
-use Rattle.tsa_place.specs.Filling.{given, size_left, one_left, all_left, AreLeft, Leaves, values_by, with_one, with_left, with_thing, IsReady, Puts}
+use Rattle.tsa_place.specs.Filling.{given, size_left, one_left, all_left, AreLeft, Leaves, values_by, with_one, with_left, with_thing}
+use Rattle.tsa_place.specs.Filling.{IsReady, Puts}
 use Rattle.tsa_place_model.proofs.Sizes.{inside_sized, members_sized}
 use Rattle.tsa_place_model.proofs.Standing.{members_below, object_is}
 

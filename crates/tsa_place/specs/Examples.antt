@@ -1,5 +1,7 @@
--- Units with their places: the texts of all, where guards lead, what is const or addressable, values at the start, and where the limit is passed.
-use Rattle.std.specs.Prelude.{◌≡◌, ℕ, suc, pos, negsuc, Bool, true, false, List, [], ◌∷◌, ◌++◌, Option, Some, None, Result, Ok, Err, map, length, codes}
+-- Units with their places: the texts of all, where guards lead, what is const or addressable, values at the start, and where the limit is
+-- passed.
+use Rattle.std.specs.Prelude.{◌≡◌, ℕ, suc, pos, negsuc, Bool, true, false, List, [], ◌∷◌, ◌++◌, Option, Some, None, Result, Ok, Err, map}
+use Rattle.std.specs.Prelude.{length, codes}
 use Rattle.std.specs.Fmt.{decimal}
 use Rattle.tsa_base.specs.Tokens.{tokens_of}
 use Rattle.tsa_base.specs.declared.token.Span.{Span}

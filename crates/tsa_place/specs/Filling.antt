@@ -95,7 +95,8 @@ module _ (k : Known) (rows : Rows) where
   abbrev pub with_thing : Origin → ThingType → List Placed
   with_thing from t = and_left k rows (thing_size (size_of structs) t) (thing_places (places_inside structs values) (size_of structs) values (given from) here t)
 
--- structs hold by value what is defined before them, the places of earlier globals are among those that are there, and something of all that is left has no place
+-- structs hold by value what is defined before them, the places of earlier globals are among those that are there, and something of all
+-- that is left has no place
 pub record IsReady (k : Known) (rows : Rows) : Type 0 where
   pub few : k.count ≤ place_limit
   pub ordered : IsOrdered k.structs.now

@@ -31,7 +31,10 @@ impl<'t, 'a> Known<'t, 'a> {
     /// The place whose address an expression is, among those of earlier globals.
     fn address(self, places: &[Placed], expr: &Expr<'_>) -> Result<Option<u32>, NoMemory>
         requires { length places.now ≤ place_limit }
-        ensures { IfOk result (λ place. place ≡ address_in self.entry.scope.now (record { structs = self.entry.structs.now; globals = self.entry.globals.now; starts = self.entry.starts.now; places = places.now }) (shape expr.now)) }
+        ensures { IfOk result (λ place. place
+            ≡ address_in self.entry.scope.now
+            (record { structs = self.entry.structs.now; globals = self.entry.globals.now; starts = self.entry.starts.now; places =
+            places.now }) (shape expr.now)) }
     {
         let sight = Sight {
             scope: self.scope,
@@ -47,7 +50,10 @@ impl<'t, 'a> Known<'t, 'a> {
     /// What a cell of a kind holds by an expression, where the places of earlier globals are known.
     fn cell(self, places: &[Placed], kind: Kind, expr: &Expr<'_>) -> Result<Value, NoMemory>
         requires { length places.now ≤ place_limit }
-        ensures { IfOk result (λ value. value ≡ cell_value self.entry.scope.now (record { structs = self.entry.structs.now; globals = self.entry.globals.now; starts = self.entry.starts.now; places = places.now }) kind (shape expr.now)) }
+        ensures { IfOk result (λ value. value
+            ≡ cell_value self.entry.scope.now
+            (record { structs = self.entry.structs.now; globals = self.entry.globals.now; starts = self.entry.starts.now; places =
+            places.now }) kind (shape expr.now)) }
     {
         if let Kind::Pointer { .. } = kind {
             return Ok(Value::Pointer(self.address(places, expr)?));

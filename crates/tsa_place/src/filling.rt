@@ -1,8 +1,10 @@
 //! The places of a thing are put one after another (C11 6.2.5p20, 6.7.2.1p15), with a list of what has none yet in place of a recursion.
 ghost use Rattle.std.specs.Prelude.{Some, ◌≡◌, ◌++◌, ◌+◌, ◌≤◌, ◌∷◌, [], nat_lt, length, option_map, slice_get, IfOk, OnOk};
-ghost use Rattle.tsa_place.specs.Filling.{given, things_left, IsDefined, IsLeft, Leaves, values_by, with_one, with_left, with_thing, IsReady, Puts};
+ghost use Rattle.tsa_place.specs.Filling.{given, things_left, IsDefined, IsLeft, Leaves, values_by, with_one, with_left, with_thing};
+ghost use Rattle.tsa_place.specs.Filling.{IsReady, Puts};
 ghost use Rattle.tsa_place_model.specs.Layouts.{size_of, thing_size};
-ghost use Rattle.tsa_place_model.specs.Places.{a_place, item_of as spec_item_of, element_of as spec_element_of, member_of as spec_member_of, places_of};
+ghost use Rattle.tsa_place_model.specs.Places.{a_place, item_of as spec_item_of, element_of as spec_element_of};
+ghost use Rattle.tsa_place_model.specs.Places.{member_of as spec_member_of, places_of};
 ghost use Rattle.tsa_place_model.specs.Standing.{IsBelow, IsOrdered, IsWithin};
 ghost use Rattle.tsa_place_model.specs.Parts.{place_limit};
 ghost use Rattle.tsa_tree.specs.declarations.Shapes.{init_shape};
@@ -158,7 +160,8 @@ impl<'t, 'a> Known<'t, 'a> {
     /// Puts a place alone.
     fn put(self, rows: &mut Rows<'t>, one: One<'t>) -> Result<(), NoMemory>
         requires { self.count ≤ place_limit }
-        ensures put { OnOk result (rows.new.places.items ≡ rows.old.places.items ++ a_place (values_by self.entry rows.old.places.items) (given one.entry.from) one.entry.index one.entry.kind ∷ []) }
+        ensures put { OnOk result (rows.new.places.items ≡ rows.old.places.items
+            ++ a_place (values_by self.entry rows.old.places.items) (given one.entry.from) one.entry.index one.entry.kind ∷ []) }
         ensures same { OnOk result (rows.new.left.items ≡ rows.old.left.items) }
     {
         let initial = self.value(&rows.places, one.kind, one.from.init)?;
@@ -286,7 +289,9 @@ impl<'t, 'a> Known<'t, 'a> {
         requires ready { IsReady self rows.old }
         requires within { IsWithin (length self.structs.now) thing }
         requires alone { rows.old.left.items ≡ [] }
-        ensures all { OnOk result (rows.new.places.items ≡ rows.old.places.items ++ places_of self.entry.structs.now (values_by self.entry rows.old.places.items) (given from.entry) (length rows.old.places.items) thing) }
+        ensures all { OnOk result (rows.new.places.items ≡ rows.old.places.items
+            ++ places_of self.entry.structs.now (values_by self.entry rows.old.places.items) (given from.entry)
+            (length rows.old.places.items) thing) }
         ensures alone { OnOk result (rows.new.left.items ≡ []) }
     {
         self.thing(rows, from, thing)?;
@@ -309,7 +314,8 @@ impl<'t, 'a> Known<'t, 'a> {
         requires ordered { IsOrdered self.structs.now }
         requires within { IsWithin (length self.structs.now) thing }
         ensures many { IfOk result (λ all. length all.items ≡ length places.items + thing_size (size_of self.entry.structs.now) thing) }
-        ensures all { IfOk result (λ all. all.items ≡ places.items ++ places_of self.entry.structs.now (values_by self.entry places.items) (given from.entry) (length places.items) thing) }
+        ensures all { IfOk result (λ all. all.items ≡ places.items ++ places_of self.entry.structs.now (values_by self.entry places.items)
+            (given from.entry) (length places.items) thing) }
     {
         let mut rows = Rows {
             places,

@@ -23,8 +23,8 @@ use tsa_tree::decl::Init;
 use tsa_tree::item::StructDef;
 use tsa_tree::kind::ThingType;
 
-/// The structs of a unit's first items, its globals with the first place of each, and all places so far, of which there are no more than a unit
-/// may have. Contracts see a layout.
+/// The structs of a unit's first items, its globals with the first place of each, and all places so far, of which there are no more than a
+/// unit may have. Contracts see a layout.
 pub struct Globals {
     structs: Structures,
     globals: Vec<Part>,
@@ -95,14 +95,16 @@ impl Globals {
     pub fn define<'a>(&mut self, scope: &mut Scope<'a>, def: &StructDef<'a>) -> Result<(), NoMemory>
         requires { length scope.old.structs ≡ length self.old.structs }
         ensures places { OnOk result (self.new ≡ with_structure (structure_in scope.old (decl_shapes def.now.members.now)) self.old) }
-        ensures scope { OnOk result (scope.new ≡ behind_structure scope.old (option_map name_shape def.now.alias) (decl_shapes def.now.members.now)) }
+        ensures scope { OnOk result (scope.new ≡ behind_structure scope.old (option_map name_shape def.now.alias)
+            (decl_shapes def.now.members.now)) }
     {
         define_struct(&mut self.structs, scope, def)
     }
 
     /// What the next global has.
     fn next<'t>(&self, part: &Part, init: Option<&'t Init<'t>>) -> Result<Origin<'t>, NoMemory>
-        ensures { IfOk result (λ from. given from ≡ given_by part.now (length self.now.globals) (option_map (λ x. init_shape x.now) init.entry)) }
+        ensures { IfOk result (λ from. given from
+            ≡ given_by part.now (length self.now.globals) (option_map (λ x. init_shape x.now) init.entry)) }
     {
         let number = u32::try_from(self.globals.len()).ok().ok_or(NoMemory)?;
         Ok(Origin {
@@ -123,7 +125,8 @@ impl Globals {
         requires within { IsWithin (length self.old.structs) thing }
         requires ordered { IsOrdered self.old.structs }
         requires fits { length self.old.places + thing_size (size_of self.old.structs) thing ≤ place_limit }
-        ensures { OnOk result (self.new ≡ with_places (places_of self.old.structs (values_in scope.now self.old) (given from.entry) (length self.old.places) thing) self.old) }
+        ensures { OnOk result (self.new ≡ with_places
+            (places_of self.old.structs (values_in scope.now self.old) (given from.entry) (length self.old.places) thing) self.old) }
     {
         let count = self.places.len();
         let mut places = Vec::new(scope.allocator());

@@ -1,7 +1,8 @@
 //! Names of types, enumerators and globals, each known behind its declaration where its name isn't taken (C11 6.7.2.2, 6.7.8, 6.9.2).
 ghost use Rattle.std.specs.Prelude.{◌≡◌, pos, option_map, IfOk, OnOk};
 ghost use Rattle.tsa_place_model.specs.Parts.{unless_taken};
-ghost use Rattle.tsa_place_model.specs.Items.{worth as spec_worth, worth_written, enumerators_behind, behind_enumeration, known_global, global_part, behind_data};
+ghost use Rattle.tsa_place_model.specs.Items.{worth as spec_worth, worth_written, enumerators_behind, behind_enumeration, known_global};
+ghost use Rattle.tsa_place_model.specs.Items.{global_part, behind_data};
 ghost use Rattle.tsa_tree.specs.declarations.Shapes.{decl_shape, enumerator_shape, enumerator_shapes, type_shape};
 ghost use Rattle.tsa_tree.specs.expressions.Shapes.{name_shape, shape};
 ghost use Rattle.tsa_tree.specs.types.Enums.{next_after, enumerator_entry as spec_entry};
@@ -71,7 +72,8 @@ fn know_enumerators<'a>(scope: &mut Scope<'a>, values: &[Enumerator<'a>]) -> Res
 
 /// An enum, behind which its enumerators and its name of a type are known.
 pub fn know_enum<'a>(scope: &mut Scope<'a>, def: &EnumDef<'a>) -> Result<(), NoMemory>
-    ensures { OnOk result (scope.new ≡ behind_enumeration scope.old (option_map name_shape def.now.alias) (enumerator_shapes def.now.values.now)) }
+    ensures { OnOk result (scope.new ≡ behind_enumeration scope.old (option_map name_shape def.now.alias)
+        (enumerator_shapes def.now.values.now)) }
 {
     know_enumerators(scope, def.values)?;
     scope.declare_named(def.alias, a_type_name(single(Kind::Int, false)))?;
@@ -80,7 +82,8 @@ pub fn know_enum<'a>(scope: &mut Scope<'a>, def: &EnumDef<'a>) -> Result<(), NoM
 
 /// A name of a type, which is known behind its item.
 pub fn know_alias<'a>(scope: &mut Scope<'a>, alias: &AliasDef<'a>) -> Result<(), NoMemory>
-    ensures { OnOk result (scope.new ≡ behind_data scope.old (alias_item (name_shape alias.now.name) (type_shape alias.now.ctype) alias.now.span)) }
+    ensures { OnOk result (scope.new ≡ behind_data scope.old
+        (alias_item (name_shape alias.now.name) (type_shape alias.now.ctype) alias.now.span)) }
 {
     let thing = declared_thing(scope, &alias.ctype)?;
     scope.declare(alias.name.text, a_type_name(thing))?;

@@ -1,7 +1,8 @@
 //! The places of a unit, with all that is asked of them (C11 6.2.4).
 ghost use Rattle.std.specs.Prelude.{◌≡◌, ◌<◌, length, Some, None, slice_get, option_map, IfOk};
 ghost use Rattle.tsa_place.specs.Answers.{Gives};
-ghost use Rattle.tsa_place_model.specs.Calls.{declarator_of, element_place, evaluated, global_place, guards_of, is_addressable as spec_is_addressable, is_lock_kind, member_place, place_kind, text_of};
+ghost use Rattle.tsa_place_model.specs.Calls.{declarator_of, element_place, evaluated, global_place, guards_of};
+ghost use Rattle.tsa_place_model.specs.Calls.{is_addressable as spec_is_addressable, is_lock_kind, member_place, place_kind, text_of};
 ghost use Rattle.tsa_place_model.specs.Units.{placed_in};
 ghost use Rattle.tsa_tree.specs.units.Shapes.{item_shapes};
 
@@ -165,8 +166,8 @@ impl Places {
         self.globals.layout().guards(alloc, place)
     }
 
-    /// The place that a path leads to with the values of locals, along pointers of the store at the start that never change; none along null or past an
-    /// array's end.
+    /// The place that a path leads to with the values of locals, along pointers of the store at the start that never change; none along
+    /// null or past an array's end.
     pub fn evaluate(&self, locals: &[Value], path: &Path) -> Option<u32>
         ensures { result ≡ evaluated self.now (slice_get locals.now) None path.now }
     {

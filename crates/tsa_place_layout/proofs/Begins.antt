@@ -1,10 +1,12 @@
 -- Where members begin, and structs by their numbers.
-use Rattle.std.proofs.Common.{◌≡◌, ◌∙◌, ℕ, zero, suc, ◌+◌, ◌<◌, ◌≤◌, arith, nat_eq, Bool, true, false, if◌then◌else◌, List, [], ◌∷◌, ◌++◌, drop, length, Option, Some, None, option_map, slice_get, refl, sym, ap}
+use Rattle.std.proofs.Common.{◌≡◌, ◌∙◌, ℕ, zero, suc, ◌+◌, ◌<◌, ◌≤◌, arith, nat_eq, Bool, true, false, if◌then◌else◌, List, [], ◌∷◌, ◌++◌}
+use Rattle.std.proofs.Common.{drop, length, Option, Some, None, option_map, slice_get, refl, sym, ap}
 use Rattle.std.proofs.lemmas.Bool.{eqb-true, eq-eqb}
 use Rattle.std.proofs.lemmas.List.{append-nil, append_assoc}
 use Rattle.tsa_tree.specs.declared.kind.Kind.{Kind}
 use Rattle.tsa_tree.specs.declared.kind.Kind.TheVariants as type
-use Rattle.tsa_place_model.specs.Layouts.{Part, Structure, Structures, structure_at, no_members, kind_size, times, thing_size, members_size, size_of, offset, capped}
+use Rattle.tsa_place_model.specs.Layouts.{Part, Structure, Structures, structure_at, no_members, kind_size, times, thing_size, members_size}
+use Rattle.tsa_place_model.specs.Layouts.{size_of, offset, capped}
 use Rattle.tsa_place_model.specs.Standing.{IsBelow, AllBelow}
 use Rattle.tsa_place_layout.specs.Tables.{shown, latest, begins_from, IsKept}
 use Rattle.tsa_place_layout.specs.declared.structures.Defined.{Defined}

@@ -1,5 +1,6 @@
 -- The paths of guards one after another.
-use Rattle.std.proofs.Common.{◌≡◌, ◌∙◌, ℕ, suc, ◌+◌, arith, Bool, true, false, if◌then◌else◌, List, [], ◌∷◌, ◌++◌, drop, Option, refl, sym, ap}
+use Rattle.std.proofs.Common.{◌≡◌, ◌∙◌, ℕ, suc, ◌+◌, arith, Bool, true, false, if◌then◌else◌, List, [], ◌∷◌, ◌++◌, drop, Option, refl, sym}
+use Rattle.std.proofs.Common.{ap}
 use Rattle.std.proofs.lemmas.List.{append-nil, append_assoc}
 use Rattle.tsa_tree.specs.attributes.Syntax.{attr_shape, attr_shapes}
 use Rattle.tsa_tree.specs.declared.attr.Attr.{Attr}

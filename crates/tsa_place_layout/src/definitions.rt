@@ -22,7 +22,8 @@ pub fn define_struct<'a>(
 ) -> Result<(), NoMemory>
     requires { length scope.old.structs ≡ length structs.old }
     ensures structs { OnOk result (structs.new ≡ structure_in scope.old (decl_shapes def.now.members.now) ∷ structs.old) }
-    ensures scope { OnOk result (scope.new ≡ behind_structure scope.old (option_map name_shape def.now.alias) (decl_shapes def.now.members.now)) }
+    ensures scope { OnOk result (scope.new ≡ behind_structure scope.old (option_map name_shape def.now.alias)
+        (decl_shapes def.now.members.now)) }
 {
     let number = scope.next_struct()?;
     let is_lock = scope.is_lock(Some(number));

@@ -1,6 +1,7 @@
 //! Where a path leads in the start store (C11 6.5.2, 6.5.3.2): from its root step by step, along pointers to what they point to.
 ghost use Rattle.std.specs.Prelude.{◌≡◌, slice_get, option_and_then};
-ghost use Rattle.tsa_place_model.specs.Calls.{index_in as spec_index_in, pointee as spec_pointee, element_place, take_root, take_step, take_steps, evaluated};
+ghost use Rattle.tsa_place_model.specs.Calls.{index_in as spec_index_in, pointee as spec_pointee, element_place, take_root, take_step};
+ghost use Rattle.tsa_place_model.specs.Calls.{take_steps, evaluated};
 
 use crate::layout::Layout;
 use tsa_base::Value;
@@ -74,7 +75,8 @@ impl<'t> Layout<'t> {
         self.step(locals, *step, spot?)
     }
 
-    /// The place that a path leads to with the values of locals, where a struct object has the guard; none along null or past an array's end.
+    /// The place that a path leads to with the values of locals, where a struct object has the guard; none along null or past an array's
+    /// end.
     pub fn evaluate(&self, locals: &[Value], owner: Option<u32>, path: &Path) -> Option<u32>
         ensures { result ≡ evaluated self.now (slice_get locals.now) owner path.now }
     {

@@ -2,7 +2,8 @@
 ghost use Rattle.std.specs.Prelude.{◌≡◌, ◌≤◌, length, slice_get, option_map};
 ghost use Rattle.tsa_place_model.specs.Layouts.{structure_at};
 ghost use Rattle.tsa_place_model.specs.Parts.{place_limit};
-ghost use Rattle.tsa_place_model.specs.Calls.{there, global_place, member_place, element_place, part_of, is_lock_kind, initial_at, declarator_of};
+ghost use Rattle.tsa_place_model.specs.Calls.{there, global_place, member_place, element_place, part_of, is_lock_kind, initial_at};
+ghost use Rattle.tsa_place_model.specs.Calls.{declarator_of};
 
 use crate::parts::Part;
 use tsa_place_model::{Holder, Placed};
@@ -11,8 +12,8 @@ use std::marker::Model;
 use tsa_base::{Span, Value};
 use tsa_tree::kind::Kind;
 
-/// The structs of a unit, its globals with the first place of each, and all places in order, of which there are no more than a unit may have.
-/// Contracts see a layout.
+/// The structs of a unit, its globals with the first place of each, and all places in order, of which there are no more than a unit may
+/// have. Contracts see a layout.
 #[derive(Drop)]
 pub struct Layout<'t> {
     structs: &'t Structures,

@@ -1,4 +1,5 @@
-//! Where things lie among the places of a unit: structs with their members, what a place is, its guards, and where paths lead (C11 6.2.5, 6.7.2.1).
+//! Where things lie among the places of a unit: structs with their members, what a place is, its guards, and where paths lead (C11 6.2.5,
+//! 6.7.2.1).
 #![tactic(auto)]
 
 mod definitions;

@@ -18,7 +18,8 @@ fn guarded<'a>(
     thing: ThingType,
     decl: &Decl<'a>,
 ) -> Result<Part, NoMemory>
-    ensures part { IfOk result (λ part. thing ≡ spec_whole scope.old (thing_type scope.old (decl_shape decl.now).ctype) → part ≡ part_in scope.old (with_owned before.old scope.old) (decl_shape decl.now)) }
+    ensures part { IfOk result (λ part. thing ≡ spec_whole scope.old (thing_type scope.old (decl_shape decl.now).ctype)
+        → part ≡ part_in scope.old (with_owned before.old scope.old) (decl_shape decl.now)) }
     ensures same { scope.new ≡ scope.old }
     ensures same_members { before.new ≡ before.old }
 {

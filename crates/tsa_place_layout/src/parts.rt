@@ -13,7 +13,8 @@ use tsa_place_model::Path;
 use tsa_types_scope::{Scope, Symbols};
 use tsa_types_expressions::View;
 
-/// A member or a global: its name, its type, the paths of its guards in order, of which some may have none, and where its declarator stands.
+/// A member or a global: its name, its type, the paths of its guards in order, of which some may have none, and where its declarator
+/// stands.
 pub struct Part {
     pub name: Vec<u8>,
     pub thing: ThingType,
@@ -69,7 +70,8 @@ pub fn whole(scope: &Scope<'_>, thing: ThingType) -> ThingType
 
 /// A member or a global of a type, where what its guards may name is known.
 pub fn part_of(scope: &Scope<'_>, thing: ThingType, decl: &Decl<'_>) -> Result<Part, NoMemory>
-    ensures { IfOk result (λ part. part ≡ record { name = decl.now.name.text.now; thing = thing; guards = guard_ways scope.now (decl_shape decl.now).attrs; span = decl.now.span }) }
+    ensures { IfOk result (λ part. part ≡ record
+        { name = decl.now.name.text.now; thing = thing; guards = guard_ways scope.now (decl_shape decl.now).attrs; span = decl.now.span }) }
 {
     let mut name = Vec::new(scope.allocator());
     name.extend_from_slice(decl.name.text)?;

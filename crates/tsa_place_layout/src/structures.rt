@@ -1,7 +1,8 @@
 //! Structs with their members, and how many places things take (C11 6.2.5p20, 6.7.2.1). Counts stop at one more than a unit may have.
 ghost use Rattle.std.specs.Prelude.{◌≡◌, MatchOption, ◌∷◌, [], length, slice_get, option_map, IfOk, OnOk, OnErr};
 ghost use Rattle.tsa_place_model.specs.Standing.{AllBelow, IsOrdered};
-ghost use Rattle.tsa_place_model.specs.Layouts.{capped, size_of, kind_size as spec_kind_size, thing_size as spec_thing_size, members_size, structure_at, no_members, offset};
+ghost use Rattle.tsa_place_model.specs.Layouts.{capped, size_of, kind_size as spec_kind_size, thing_size as spec_thing_size, members_size};
+ghost use Rattle.tsa_place_model.specs.Layouts.{structure_at, no_members, offset};
 ghost use Rattle.tsa_place_layout.specs.Tables.{begins_from, IsKept};
 
 use crate::parts::Part;
@@ -17,8 +18,8 @@ fn few(count: u64) -> u32
     if count < 65537 { count as u32 } else { 65537 }
 }
 
-/// A struct: whether it is a lock, its members in order, how far behind the first place of them each begins, and how many places an object of
-/// it takes.
+/// A struct: whether it is a lock, its members in order, how far behind the first place of them each begins, and how many places an object
+/// of it takes.
 pub struct Defined {
     pub(crate) is_lock: bool,
     pub(crate) members: Vec<Part>,
@@ -91,7 +92,8 @@ impl Structures {
 
     /// A struct by its number, where it is defined.
     fn defined(&self, structure: u32) -> Option<&Defined>
-        ensures found { MatchOption result (structure_at self.now structure ≡ no_members × size_of self.now structure ≡ 1) (λ defined. IsKept self.now structure defined.now) }
+        ensures found { MatchOption result (structure_at self.now structure ≡ no_members × size_of self.now structure ≡ 1)
+            (λ defined. IsKept self.now structure defined.now) }
         ensures ordered { IsOrdered self.now }
     {
         match self.list.get(structure as usize) {
@@ -183,7 +185,8 @@ impl Structures {
     /// How far behind the first place of a struct's members the one of a number begins.
     #[tactic(auto, using(crate::proofs::Begins::members))]
     pub fn begin(&self, structure: u32, number: u32) -> Option<u32>
-        ensures { result ≡ option_map (λ part. capped (offset (size_of self.now) (structure_at self.now structure).members number)) (slice_get (structure_at self.now structure).members number) }
+        ensures { result ≡ option_map (λ part. capped (offset (size_of self.now) (structure_at self.now structure).members number))
+            (slice_get (structure_at self.now structure).members number) }
     {
         match self.defined(structure) {
             Some(defined) => defined.begin(number),

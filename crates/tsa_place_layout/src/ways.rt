@@ -1,6 +1,7 @@
 //! What a place lies in, up to its global, and what is told along that: its text (C11 6.5.2.1, 6.5.2.3) and its guards.
 ghost use Rattle.std.specs.Prelude.{◌≡◌, ◌++◌, IfOk, OnOk};
-ghost use Rattle.tsa_place_model.specs.Calls.{owner_at, way_to as spec_way_to, index_text, dot, part_name, part_of, own_text, text_of, guard_by, guards_by, own_guards, guards_of};
+ghost use Rattle.tsa_place_model.specs.Calls.{owner_at, way_to as spec_way_to, index_text, dot, part_name, part_of, own_text, text_of};
+ghost use Rattle.tsa_place_model.specs.Calls.{guard_by, guards_by, own_guards, guards_of};
 
 use crate::layout::Layout;
 use tsa_place_model::{Guard, Holder, Path, Placed};

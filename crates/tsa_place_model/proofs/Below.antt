@@ -1,5 +1,6 @@
 -- Members are of structs that are defined: a struct by value that isn't counts as `int`.
-use Rattle.std.proofs.Common.{◌≡◌, ℕ, ◌<◌, arith, pos, negsuc, nat_lt, nat_le, Bool, true, false, if◌then◌else◌, List, [], ◌∷◌, length, Option, Some, None, refl, sym, subst}
+use Rattle.std.proofs.Common.{◌≡◌, ℕ, ◌<◌, arith, pos, negsuc, nat_lt, nat_le, Bool, true, false, if◌then◌else◌, List, [], ◌∷◌, length}
+use Rattle.std.proofs.Common.{Option, Some, None, refl, sym, subst}
 use Rattle.std.proofs.lemmas.Bool.Decides.{nat_tests}
 use Rattle.tsa_tree.specs.declarations.Syntax.{Declaration, DeclaredType}
 use Rattle.tsa_tree.specs.expressions.Syntax.{Expression}

@@ -1,11 +1,13 @@
 -- What is earlier keeps its places and its size where a later struct is defined, and the members of a struct are of earlier ones.
-use Rattle.std.proofs.Common.{◌≡◌, ◌∙◌, ℕ, zero, suc, ◌+◌, ◌<◌, arith, nat_eq, Bool, true, false, if◌then◌else◌, List, [], ◌∷◌, length, Some, None, slice_get, refl, sym, ap, subst, eqb-true, eq-eqb}
+use Rattle.std.proofs.Common.{◌≡◌, ◌∙◌, ℕ, zero, suc, ◌+◌, ◌<◌, arith, nat_eq, Bool, true, false, if◌then◌else◌, List, [], ◌∷◌, length}
+use Rattle.std.proofs.Common.{Some, None, slice_get, refl, sym, ap, subst, eqb-true, eq-eqb}
 use Rattle.tsa_base.specs.declared.value.Value.TheVariants.{Pointer}
 use Rattle.tsa_tree.specs.declared.kind.ThingType.{ThingType}
 use Rattle.tsa_place_model.specs.Layouts.{Part, Structure, Structures, structure_at, thing_size, members_size, size_of}
 use Rattle.tsa_place_model.specs.Places.{Given, Values, thing_places, places_inside}
 use Rattle.tsa_place_model.specs.Standing.{IsBelow, IsWithin, AllBelow, IsOrdered}
-use Rattle.tsa_place_model.proofs.Standing.{things, thing_sizes, totals, earlier_structure, earlier_size, earlier_places, members_below, other_less}
+use Rattle.tsa_place_model.proofs.Standing.{things, thing_sizes, totals, earlier_structure, earlier_size, earlier_places, members_below}
+use Rattle.tsa_place_model.proofs.Standing.{other_less}
 
 no_values : Values
 no_values kind init = Pointer None

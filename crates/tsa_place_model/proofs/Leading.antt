@@ -1,5 +1,6 @@
 -- What a unit declares leads to its places: each has one way to it, and what is led to bears what leads there.
-use Rattle.std.proofs.Common.{◌≡◌, ◌∙◌, ℕ, zero, suc, ◌+◌, ◌*◌, ◌<◌, arith, nat_lt, Bool, true, false, Option, Some, None, option_and_then, slice_get, refl, sym, ap, subst}
+use Rattle.std.proofs.Common.{◌≡◌, ◌∙◌, ℕ, zero, suc, ◌+◌, ◌*◌, ◌<◌, arith, nat_lt, Bool, true, false, Option, Some, None, option_and_then}
+use Rattle.std.proofs.Common.{slice_get, refl, sym, ap, subst}
 use Rattle.std.proofs.lemmas.Bool.Decides.{nat_tests}
 use Rattle.std.proofs.lemmas.Option.{slice_get_within}
 use Rattle.tsa_tree.specs.declared.kind.Kind.{Kind}
@@ -8,7 +9,8 @@ use Rattle.tsa_place_model.specs.declared.place.Holder.TheVariants.{Global, Memb
 use Rattle.tsa_place_model.specs.declared.place.Placed.{Placed}
 use Rattle.tsa_place_model.specs.Calls.{Layout, element_place, part_of}
 use Rattle.tsa_place_model.specs.Layouts.{Part, kind_size, size_of}
-use Rattle.tsa_place_model.specs.Leading.{first_place, piece, leads_to, Route, from_global, to_member, reached, IsInside, StandsIn, PlacesAreLedTo, WhatIsLedToBears, MembersHavePlaces, ElementsHavePlaces, OneWay}
+use Rattle.tsa_place_model.specs.Leading.{first_place, piece, leads_to, Route, from_global, to_member, reached, IsInside, StandsIn}
+use Rattle.tsa_place_model.specs.Leading.{PlacesAreLedTo, WhatIsLedToBears, MembersHavePlaces, ElementsHavePlaces, OneWay}
 use Rattle.tsa_place_model.specs.Places.{a_place}
 use Rattle.tsa_place_model.specs.Standing.{HasSome}
 use Rattle.tsa_place_model.proofs.Asking.{same_some, none_is_none, element_alone, element_past, alone_some, alone_other}

@@ -1,5 +1,6 @@
 -- Each place of a unit is a piece of a thing that a global or a member declares, and is led to; a thing stands where each of them begins.
-use Rattle.std.proofs.Common.{◌≡◌, ◌∙◌, ℕ, zero, suc, ◌+◌, ◌*◌, ◌<◌, ◌≤◌, arith, nat_lt, true, List, [], ◌∷◌, length, Option, Some, None, option_and_then, slice_get, refl, sym, ap, subst}
+use Rattle.std.proofs.Common.{◌≡◌, ◌∙◌, ℕ, zero, suc, ◌+◌, ◌*◌, ◌<◌, ◌≤◌, arith, nat_lt, true, List, [], ◌∷◌, length, Option, Some, None}
+use Rattle.std.proofs.Common.{option_and_then, slice_get, refl, sym, ap, subst}
 use Rattle.std.proofs.lemmas.Bool.Decides.{nat_tests}
 use Rattle.std.proofs.lemmas.Option.{slice_get_within}
 use Rattle.tsa_tree.specs.declared.kind.Kind.{Kind}
@@ -14,7 +15,8 @@ use Rattle.tsa_place_model.specs.Places.{a_place}
 use Rattle.tsa_place_model.specs.Standing.{IsBelow}
 use Rattle.tsa_place_model.proofs.Asking.{same_some, none_is_none, is_there, member_none, member_other, element_some, alone_some}
 use Rattle.tsa_place_model.proofs.GlobalsInRow.{Block, Belongs, IsLaid}
-use Rattle.tsa_place_model.proofs.Rows.{Thing, Object, PieceAt, Row, object_place, object_alone, object_element, thing_rows, member_begins, member_thing}
+use Rattle.tsa_place_model.proofs.Rows.{Thing, Object, PieceAt, Row, object_place, object_alone, object_element, thing_rows, member_begins}
+use Rattle.tsa_place_model.proofs.Rows.{member_thing}
 
 pub some_at : {A : Type 0} (xs : List A) (n : ℕ) → n < length xs → (x : A) × (slice_get xs n ≡ Some x)
 some_at [] n h = absurd (omega (arith, h))

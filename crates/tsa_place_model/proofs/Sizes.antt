@@ -1,11 +1,13 @@
 -- How many places things take, and where the parts of a thing stand among the places of a unit.
-use Rattle.std.proofs.Common.{◌≡◌, ◌∙◌, ℕ, zero, suc, ◌+◌, ◌*◌, arith, nat_eq, Bool, true, false, if◌then◌else◌, List, [], ◌∷◌, length, Option, Some, None, refl, ap}
+use Rattle.std.proofs.Common.{◌≡◌, ◌∙◌, ℕ, zero, suc, ◌+◌, ◌*◌, arith, nat_eq, Bool, true, false, if◌then◌else◌, List, [], ◌∷◌, length}
+use Rattle.std.proofs.Common.{Option, Some, None, refl, ap}
 use Rattle.std.proofs.lemmas.List.{length-append}
 use Rattle.tsa_tree.specs.declared.kind.Kind.{Kind}
 use Rattle.tsa_tree.specs.declared.kind.Kind.TheVariants as type
 use Rattle.tsa_tree.specs.declared.kind.ThingType.{ThingType}
 use Rattle.tsa_place_model.specs.Layouts.{Part, Structure, Structures, kind_size, times, thing_size, members_size, size_of}
-use Rattle.tsa_place_model.specs.Places.{Given, Values, Inside, element_of, member_of, kind_places, elements_places, pieces, thing_places, members_places, places_inside}
+use Rattle.tsa_place_model.specs.Places.{Given, Values, Inside, element_of, member_of, kind_places, elements_places, pieces, thing_places}
+use Rattle.tsa_place_model.specs.Places.{members_places, places_inside}
 
 -- so many of the same size and one more
 more : (n z x y : ℕ) → x ≡ z → y ≡ n * z → x + y ≡ suc n * z

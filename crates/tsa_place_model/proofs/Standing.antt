@@ -1,11 +1,13 @@
 -- Where the members of a struct object and the elements of an array stand.
-use Rattle.std.proofs.Common.{◌≡◌, ◌∙◌, ℕ, zero, suc, ◌+◌, ◌*◌, ◌<◌, ◌≤◌, arith, nat_eq, Bool, true, false, if◌then◌else◌, List, [], ◌∷◌, ◌++◌, length, drop, Option, Some, None, slice_get, refl, sym, ap, subst, append_assoc, eqb-true, eq-eqb}
+use Rattle.std.proofs.Common.{◌≡◌, ◌∙◌, ℕ, zero, suc, ◌+◌, ◌*◌, ◌<◌, ◌≤◌, arith, nat_eq, Bool, true, false, if◌then◌else◌, List, [], ◌∷◌}
+use Rattle.std.proofs.Common.{◌++◌, length, drop, Option, Some, None, slice_get, refl, sym, ap, subst, append_assoc, eqb-true, eq-eqb}
 use Rattle.std.proofs.lemmas.Bool.Decides.{nat_tests}
 use Rattle.std.proofs.lemmas.List.{drop_at, drop-drop}
 use Rattle.tsa_tree.specs.declared.kind.Kind.{Kind}
 use Rattle.tsa_tree.specs.declared.kind.Kind.TheVariants as type
 use Rattle.tsa_place_model.specs.Layouts.{Part, Structure, Structures, structure_at, kind_size, thing_size, members_size, size_of, offset}
-use Rattle.tsa_place_model.specs.Places.{Placed, Given, Values, Inside, a_place, element_of, member_of, kind_places, elements_places, pieces, thing_places, members_places, places_inside}
+use Rattle.tsa_place_model.specs.Places.{Placed, Given, Values, Inside, a_place, element_of, member_of, kind_places, elements_places}
+use Rattle.tsa_place_model.specs.Places.{pieces, thing_places, members_places, places_inside}
 use Rattle.tsa_place_model.specs.Standing.{StandsAt, IsBelow, AllBelow, IsOrdered, MemberStands, ElementStands}
 use Rattle.tsa_place_model.proofs.Sizes.{kind_sized, thing_sized, inside_sized}
 

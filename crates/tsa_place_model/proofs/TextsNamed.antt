@@ -1,5 +1,6 @@
 -- Names of globals and members: plain by what is sound, apart by what is declared once.
-use Rattle.std.proofs.Common.{◌≡◌, ℕ, zero, suc, arith, pos, negsuc, nat_le, Bool, true, false, ◌&&◌, ◌||◌, List, [], ◌∷◌, ◌++◌, Option, Some, None, slice_get, refl, sym, ap, subst, ◌∙◌}
+use Rattle.std.proofs.Common.{◌≡◌, ℕ, zero, suc, arith, pos, negsuc, nat_le, Bool, true, false, ◌&&◌, ◌||◌, List, [], ◌∷◌, ◌++◌, Option}
+use Rattle.std.proofs.Common.{Some, None, slice_get, refl, sym, ap, subst, ◌∙◌}
 use Rattle.std.specs.List.{list_all}
 use Rattle.std.proofs.lemmas.Bool.Decides.{nat_tests}
 use Rattle.tsa_base.specs.Bytes.{is_letter, is_digit, is_word_byte}

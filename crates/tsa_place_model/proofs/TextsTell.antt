@@ -1,5 +1,6 @@
 -- The text of a place of a typed unit tells which place it is.
-use Rattle.std.proofs.Common.{◌≡◌, ℕ, zero, suc, ◌<◌, arith, nat_eq, Bool, true, false, if◌then◌else◌, List, [], ◌∷◌, ◌++◌, length, Option, Some, None, slice_get, Result, Ok, refl, sym, subst, ◌∙◌}
+use Rattle.std.proofs.Common.{◌≡◌, ℕ, zero, suc, ◌<◌, arith, nat_eq, Bool, true, false, if◌then◌else◌, List, [], ◌∷◌, ◌++◌, length, Option}
+use Rattle.std.proofs.Common.{Some, None, slice_get, Result, Ok, refl, sym, subst, ◌∙◌}
 use Rattle.tsa_base.specs.declared.token.Span.{Span}
 use Rattle.tsa_base.proofs.Truths.{never}
 use Rattle.tsa_tree.specs.attributes.Syntax.{Attribute}
@@ -13,7 +14,8 @@ use Rattle.tsa_tree.specs.types.Scopes.{Scope, is_taken}
 use Rattle.tsa_tree.specs.types.Units.{outset, item_premises, items_premises, behind_item}
 use Rattle.tsa_tree.specs.units.Shapes.{item_shapes}
 use Rattle.tsa_tree.specs.units.Sound.{SoundItem, SoundItems}
-use Rattle.tsa_tree.specs.units.Syntax.{UnitItem, structure_item, alias_item, enumeration_item, global_item, function_item, body_item, names_of_item}
+use Rattle.tsa_tree.specs.units.Syntax.{UnitItem, structure_item, alias_item, enumeration_item, global_item, function_item, body_item}
+use Rattle.tsa_tree.specs.units.Syntax.{names_of_item}
 use Rattle.tsa_tree.proofs.units.Read.{well_read_sound}
 use Rattle.tsa_place_model.specs.Layouts.{Part, Structures, structure_at}
 use Rattle.tsa_place_model.specs.Calls.{Layout, members_of}
@@ -22,7 +24,8 @@ use Rattle.tsa_place_model.specs.GlobalPlaces.{no_places}
 use Rattle.tsa_place_model.specs.Units.{data_placed, too_many_at, or_behind, placed_behind}
 use Rattle.tsa_place_model.specs.Leading.{PlacesAreLedTo, TextsTell}
 use Rattle.tsa_place_model.proofs.TextsTold.{NamesTell, AllNamesTell, texts_told}
-use Rattle.tsa_place_model.proofs.TextsNamed.{NotNamed, AreApart, ArePlain, apart_behind, plain_behind, names_tell, plain_name, type_short, plain_members}
+use Rattle.tsa_place_model.proofs.TextsNamed.{NotNamed, AreApart, ArePlain, apart_behind, plain_behind, names_tell, plain_name, type_short}
+use Rattle.tsa_place_model.proofs.TextsNamed.{plain_members}
 use Rattle.tsa_place_model.proofs.TextsTyped.{Grows, grows_item, none_of_both, global_free, global_taken, members_hold, members_apart}
 
 -- the names of globals are taken

@@ -1,5 +1,6 @@
 -- Where names are plain and tell globals and members apart, texts tell places apart.
-use Rattle.std.proofs.Common.{◌≡◌, ℕ, zero, suc, ◌<◌, ◌≤◌, arith, List, ◌++◌, Option, Some, None, slice_get, option_and_then, option_map, refl, sym, ap, subst, ◌∙◌}
+use Rattle.std.proofs.Common.{◌≡◌, ℕ, zero, suc, ◌<◌, ◌≤◌, arith, List, ◌++◌, Option, Some, None, slice_get, option_and_then, option_map}
+use Rattle.std.proofs.Common.{refl, sym, ap, subst, ◌∙◌}
 use Rattle.tsa_tree.specs.declared.kind.Kind.{Kind}
 use Rattle.tsa_place_model.specs.declared.place.Holder.{Holder}
 use Rattle.tsa_place_model.specs.declared.place.Holder.TheVariants.{Global, Member}

@@ -1,5 +1,6 @@
 -- In a typed unit a global has a name that isn't taken, and a member one that no member before it has.
-use Rattle.std.proofs.Common.{◌≡◌, ℕ, ℤ, pos, ◌+ℤ◌, Bool, true, false, ◌||◌, List, [], ◌∷◌, ◌++◌, length, Option, Some, None, is_some, slice_get, if◌then◌else◌, refl, sym, ap, subst, ◌∙◌}
+use Rattle.std.proofs.Common.{◌≡◌, ℕ, ℤ, pos, ◌+ℤ◌, Bool, true, false, ◌||◌, List, [], ◌∷◌, ◌++◌, length, Option, Some, None, is_some}
+use Rattle.std.proofs.Common.{slice_get, if◌then◌else◌, refl, sym, ap, subst, ◌∙◌}
 use Rattle.std.specs.Str.{bytes_eq}
 use Rattle.std.proofs.lemmas.Slice.Eq.{bytes_eq-Decides}
 use Rattle.tsa_base.specs.declared.token.Span.{Span}
@@ -15,7 +16,8 @@ use Rattle.tsa_tree.specs.declared.premise.TypeCode.{TypeCode}
 use Rattle.tsa_tree.specs.declared.premise.TypeCode.TheVariants.{TY2}
 use Rattle.tsa_tree.specs.expressions.Syntax.{Identifier}
 use Rattle.tsa_tree.specs.types.Attributes.{attributes_premises, attributes_beside}
-use Rattle.tsa_tree.specs.types.DeclaredTypes.{thing_type, resolve, length_premises, type_premise, unknown_tag, typed_premises, declared_premises}
+use Rattle.tsa_tree.specs.types.DeclaredTypes.{thing_type, resolve, length_premises, type_premise, unknown_tag, typed_premises}
+use Rattle.tsa_tree.specs.types.DeclaredTypes.{declared_premises}
 use Rattle.tsa_tree.specs.types.Enums.{enumerator_entry, enumerator_value, behind_enumerators}
 use Rattle.tsa_tree.specs.types.Globals.{global_entry, global_premises, inside_global, with_global}
 use Rattle.tsa_tree.specs.types.Heads.{bodied, again, behind_known, function_entry}
@@ -23,8 +25,10 @@ use Rattle.tsa_tree.specs.declared.meaning.Entry.{Entry}
 use Rattle.tsa_tree.specs.declared.meaning.Meaning.{Meaning}
 use Rattle.tsa_tree.specs.declared.meaning.Meaning.TheVariants.{Global, Local, Function, Owned, Constant, TypeName}
 use Rattle.tsa_tree.specs.types.Premises.{Premise, premise, or_else, failure_of, first}
-use Rattle.tsa_tree.specs.types.Scopes.{Scope, FunctionEntry, Members, found, context_of, tag_in, with_owned, with_name, with_alias, with_struct, a_type_name, is_taken, is_named_taken}
-use Rattle.tsa_tree.specs.types.Structs.{first_place, other_struct, with_member, member_premises, members_premises, members_behind, inside_struct, struct_premises}
+use Rattle.tsa_tree.specs.types.Scopes.{Scope, FunctionEntry, Members, found, context_of, tag_in, with_owned, with_name, with_alias}
+use Rattle.tsa_tree.specs.types.Scopes.{with_struct, a_type_name, is_taken, is_named_taken}
+use Rattle.tsa_tree.specs.types.Structs.{first_place, other_struct, with_member, member_premises, members_premises, members_behind}
+use Rattle.tsa_tree.specs.types.Structs.{inside_struct, struct_premises}
 use Rattle.tsa_tree.specs.types.Units.{behind_item}
 use Rattle.tsa_tree.specs.units.Syntax.{UnitItem, structure_item, alias_item, enumeration_item, global_item, function_item, body_item}
 use Rattle.tsa_tree.proofs.types.NodeLists.{first-append}

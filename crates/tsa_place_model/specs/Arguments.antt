@@ -1,4 +1,5 @@
--- The paths of a call's arguments (C11 6.5.2.2p4): of a pointer that of the place where it points, of a number a constant or a local that never changes.
+-- The paths of a call's arguments (C11 6.5.2.2p4): of a pointer that of the place where it points, of a number a constant or a local that
+-- never changes.
 use Rattle.std.specs.Prelude.{ℕ, Bool, true, Option, Some, None, option_map, if◌then◌else◌}
 use Rattle.tsa_tree.specs.declared.kind.Kind.{Kind}
 use Rattle.tsa_tree.specs.declared.meaning.Entry.{Entry}

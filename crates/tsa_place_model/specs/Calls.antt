@@ -1,5 +1,6 @@
 -- What is asked of the places of a unit: where globals, members and elements stand, the text of a place, and its guards.
-use Rattle.std.specs.Prelude.{ℕ, zero, suc, ◌+◌, ◌*◌, nat_lt, pos, negsuc, Bool, true, false, not, ◌&&◌, List, [], ◌∷◌, ◌++◌, length, Option, Some, None, option_map, option_and_then, map, slice_get, if◌then◌else◌, codes}
+use Rattle.std.specs.Prelude.{ℕ, zero, suc, ◌+◌, ◌*◌, nat_lt, pos, negsuc, Bool, true, false, not, ◌&&◌, List, [], ◌∷◌, ◌++◌, length}
+use Rattle.std.specs.Prelude.{Option, Some, None, option_map, option_and_then, map, slice_get, if◌then◌else◌, codes}
 use Rattle.std.specs.Fmt.{decimal}
 use Rattle.tsa_base.specs.declared.token.Span.{Span}
 use Rattle.tsa_base.specs.declared.value.Value.{Value}
@@ -20,7 +21,8 @@ pub use Rattle.tsa_place_model.specs.declared.place.Guard.TheVariants.{Lock, Not
 pub use Rattle.tsa_place_model.specs.declared.spot.Spot.{Spot}
 pub use Rattle.tsa_place_model.specs.declared.spot.Spot.TheVariants.{Place, Holds}
 
--- what is known of the places of a unit, or of its first items: its structs, the latest first, its globals, where each begins, and all places in order
+-- what is known of the places of a unit, or of its first items: its structs, the latest first, its globals, where each begins, and all
+-- places in order
 pub record Layout : Type 0 where
   pub structs : Structures
   pub globals : List Part
@@ -144,7 +146,8 @@ index_in (Int (negsuc n)) = None
 index_in (Unsigned n) = Some n
 index_in (Pointer p) = None
 
--- Evaluation with the values of locals, where the struct object that has the guard stands at a place: nothing at a null pointer or an index out of range.
+-- Evaluation with the values of locals, where the struct object that has the guard stands at a place: nothing at a null pointer or an index
+-- out of range.
 abbrev pub take_root : Layout → (ℕ → Option Value) → Option ℕ → Root → Option Spot
 take_root l locals owner (root.Global n) = option_map Place (global_place l n)
 take_root l locals owner (root.Local n) = option_map Holds (locals n)
@@ -169,7 +172,8 @@ place_in (Holds v) = None
 abbrev pub evaluated : Layout → (ℕ → Option Value) → Option ℕ → Way → Option ℕ
 evaluated l locals owner w = option_and_then place_in (take_steps l locals w.steps (take_root l locals owner w.root))
 
--- The guards of a place: those that are declared on the way from its global to it, each evaluated with the object whose member has it as its owner.
+-- The guards of a place: those that are declared on the way from its global to it, each evaluated with the object whose member has it as
+-- its owner.
 abbrev pub no_locals : ℕ → Option Value
 no_locals = slice_get []
 

@@ -17,7 +17,8 @@ use Rattle.tsa_tree.specs.units.Syntax.{UnitItem, structure_item, alias_item, en
 use Rattle.tsa_place_model.specs.Layouts.{Part}
 use Rattle.tsa_place_model.specs.Parts.{part_in, unless_taken, unless_named, behind_structure}
 
--- What is known behind an enum: each enumerator behind its own value, which counts on from the last where none is written, and is 0 where it has none.
+-- What is known behind an enum: each enumerator behind its own value, which counts on from the last where none is written, and is 0 where
+-- it has none.
 abbrev pub worth_written : Scope → Option Expression → ℤ → Option ℤ
 worth_written here None next = as_int next
 worth_written here (Some e) next = int_value (value_in (context_of here) e)
@@ -54,7 +55,8 @@ known_global here d = unless_taken d.name.text (global_entry here d) here
 abbrev pub global_part : Scope → Declaration → Part
 global_part here d = part_in here (known_global here d) d
 
--- What is known behind an item. Functions are left out: no length and no initialiser of a global calls one, and a guard that does has no path.
+-- What is known behind an item. Functions are left out: no length and no initialiser of a global calls one, and a guard that does has no
+-- path.
 abbrev pub behind_data : Scope → UnitItem → Scope
 behind_data here (structure_item tag alias attrs members span) = behind_structure here alias members
 behind_data here (alias_item name ctype span) = unless_taken name.text (a_type_name (thing_type here ctype)) here

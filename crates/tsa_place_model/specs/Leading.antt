@@ -1,4 +1,5 @@
--- To which places the globals, members and elements of a unit lead, that each place has one way to it, and that its text tells which place it is.
+-- To which places the globals, members and elements of a unit lead, that each place has one way to it, and that its text tells which place
+-- it is.
 use Rattle.std.specs.Prelude.{◌≡◌, ℕ, ◌+◌, ◌*◌, ◌<◌, List, Option, Some, None, option_and_then, slice_get, length, Ok}
 use Rattle.tsa_tree.specs.declared.item.Item.{Item}
 use Rattle.tsa_tree.specs.types.Units.{refusal_of_types}

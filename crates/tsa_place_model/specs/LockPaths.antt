@@ -1,5 +1,6 @@
 -- The paths of lock expressions (C11 6.5.2.1, 6.5.2.3, 6.5.3.2): where an expression leads along pointers that never change.
-use Rattle.std.specs.Prelude.{ℕ, pos, negsuc, Bool, true, false, ◌&&◌, nat_lt, List, Option, Some, None, option_map, option_and_then, slice_get, if◌then◌else◌}
+use Rattle.std.specs.Prelude.{ℕ, pos, negsuc, Bool, true, false, ◌&&◌, nat_lt, List, Option, Some, None, option_map, option_and_then}
+use Rattle.std.specs.Prelude.{slice_get, if◌then◌else◌}
 use Rattle.tsa_tree.specs.declared.expr.UnaryOp.TheVariants as prefix
 use Rattle.tsa_tree.specs.declared.number.Number.TheVariants as numeral
 use Rattle.tsa_tree.specs.expressions.Syntax.{Expression, named, unary, field, index}

@@ -7,7 +7,8 @@ use Rattle.tsa_tree.specs.declarations.Syntax.{Declaration}
 use Rattle.tsa_tree.specs.expressions.Syntax.{Identifier, Arguments, none, more}
 use Rattle.tsa_tree.specs.types.Attributes.{is_lock}
 use Rattle.tsa_tree.specs.types.DeclaredTypes.{thing_type, is_whole}
-use Rattle.tsa_tree.specs.types.Scopes.{Scope, Members, found, with_owned, with_name, with_named, with_struct, is_taken, is_named_taken, a_type_name}
+use Rattle.tsa_tree.specs.types.Scopes.{Scope, Members, found, with_owned, with_name, with_named, with_struct, is_taken, is_named_taken}
+use Rattle.tsa_tree.specs.types.Scopes.{a_type_name}
 use Rattle.tsa_tree.specs.declared.meaning.Entry.{Entry}
 use Rattle.tsa_tree.specs.types.Structs.{with_member}
 use Rattle.tsa_tree.specs.types.Types.{single}

@@ -1,6 +1,7 @@
--- The places of a thing in order (C11 6.2.5p20, 6.7.2.1p15): a struct object comes before its members, which follow in order of declaration, and the
--- elements of an array follow by index, each whole before the next.
-use Rattle.std.specs.Prelude.{ℕ, zero, suc, ◌+◌, nat_eq, Bool, true, false, ◌||◌, List, [], ◌∷◌, ◌++◌, length, Option, Some, None, if◌then◌else◌}
+-- The places of a thing in order (C11 6.2.5p20, 6.7.2.1p15): a struct object comes before its members, which follow in order of
+-- declaration, and the elements of an array follow by index, each whole before the next.
+use Rattle.std.specs.Prelude.{ℕ, zero, suc, ◌+◌, nat_eq, Bool, true, false, ◌||◌, List, [], ◌∷◌, ◌++◌, length, Option, Some, None}
+use Rattle.std.specs.Prelude.{if◌then◌else◌}
 use Rattle.tsa_base.specs.declared.value.Value.{Value}
 use Rattle.tsa_tree.specs.declarations.Syntax.{Initialiser, Initialisers, value, list, no_more, one_more}
 use Rattle.tsa_tree.specs.declared.kind.Kind.{Kind}

@@ -4,7 +4,8 @@ use Rattle.tsa_tree.specs.declared.kind.Kind.{Kind}
 use Rattle.tsa_tree.specs.declared.kind.Kind.TheVariants as type
 use Rattle.tsa_tree.specs.declared.kind.ThingType.{ThingType}
 use Rattle.tsa_place_model.specs.Layouts.{Part, Structures, structure_at, kind_size, size_of, offset}
-use Rattle.tsa_place_model.specs.Places.{Placed, Given, Values, element_of, member_of, kind_places, elements_places, thing_places, places_inside}
+use Rattle.tsa_place_model.specs.Places.{Placed, Given, Values, element_of, member_of, kind_places, elements_places, thing_places}
+use Rattle.tsa_place_model.specs.Places.{places_inside}
 
 -- from the place of a number on stand some places
 abbrev pub StandsAt : List Placed → ℕ → List Placed → Type 0

@@ -1,4 +1,5 @@
-//! Places and the paths to them: what they are, where they lie and where paths lead (C11 6.2.4, 6.5.2, 6.5.3.2), in definitions, types and laws.
+//! Places and the paths to them: what they are, where they lie and where paths lead (C11 6.2.4, 6.5.2, 6.5.3.2), in definitions, types and
+//! laws.
 #![tactic(auto)]
 
 mod leading_laws;

@@ -10,8 +10,8 @@ pub enum Holder {
     Member { owner: u32, number: u32 },
 }
 
-/// A place: what declares it, its index where it is an array's element, what it is, whether it is `const` by itself or by what it lies in, whether
-/// it or what it lies in has a guard, and of a cell the value at the start.
+/// A place: what declares it, its index where it is an array's element, what it is, whether it is `const` by itself or by what it lies in,
+/// whether it or what it lies in has a guard, and of a cell the value at the start.
 #[derive(Clone, Copy, Debug, PartialEq, Eq)]
 pub struct Placed {
     pub holder: Holder,

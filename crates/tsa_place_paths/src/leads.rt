@@ -95,7 +95,9 @@ impl Led {
 
     /// A step on to an element, which is declared with its array.
     pub fn element(self, step: PathStep) -> Result<Led, NoMemory>
-        ensures { IfOk result (λ led. led ≡ record { way = spec_onward step self.way; thing = spec_single self.thing.kind self.thing.is_const; is_stable = self.is_stable }) }
+        ensures { IfOk result (λ led. led
+            ≡ record { way = spec_onward step self.way; thing = spec_single self.thing.kind self.thing.is_const; is_stable = self.is_stable
+            }) }
     {
         let thing = single(self.thing.kind, self.thing.is_const);
         Ok(Led {

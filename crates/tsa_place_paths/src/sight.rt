@@ -52,9 +52,12 @@ impl<'w, 'a> Sight<'w, 'a> {
     ghost use Rattle.std.specs.Prelude.{None, true, option_and_then};
     ghost use Rattle.tsa_tree.specs.types.Scopes.{known_in, context_of};
     ghost use Rattle.tsa_tree.specs.types.DeclaredTypes.{value_in};
-    ghost use Rattle.tsa_place_model.specs.LockPaths.{stable_in, to_member, name_way, member_step as spec_member_step, element_step as spec_element_step, index_step as spec_index_step, variable as spec_variable, or_variable, leads as spec_leads, lock_way};
+    ghost use Rattle.tsa_place_model.specs.LockPaths.{stable_in, to_member, name_way, member_step as spec_member_step};
+    ghost use Rattle.tsa_place_model.specs.LockPaths.{element_step as spec_element_step, index_step as spec_index_step};
+    ghost use Rattle.tsa_place_model.specs.LockPaths.{variable as spec_variable, or_variable, leads as spec_leads, lock_way};
     ghost use Rattle.tsa_place_model.specs.Ways.{from};
-    ghost use Rattle.tsa_place_model.specs.Arguments.{constant_argument as spec_constant_argument, local_argument as spec_local_argument, or_local, index_argument as spec_index_argument, argument_way};
+    ghost use Rattle.tsa_place_model.specs.Arguments.{constant_argument as spec_constant_argument, local_argument as spec_local_argument};
+    ghost use Rattle.tsa_place_model.specs.Arguments.{or_local, index_argument as spec_index_argument, argument_way};
 
     /// Whether a local never changes.
     fn is_stable(self, local: u32) -> bool
@@ -134,7 +137,8 @@ impl<'w, 'a> Sight<'w, 'a> {
 
     /// The step by an index in an array of a length: a constant in range, or such a local.
     fn index_step(self, length: u32, index: &Expr<'_>) -> Result<Option<PathStep>, NoMemory>
-        ensures { IfOk result (λ step. step ≡ spec_index_step (stable_in self.entry.stable.now) self.entry.scope.now length (shape index.now)) }
+        ensures { IfOk result (λ step. step ≡ spec_index_step (stable_in self.entry.stable.now) self.entry.scope.now length
+            (shape index.now)) }
     {
         let value = self.value_at(index)?;
         match in_range(length, value) {
@@ -145,7 +149,8 @@ impl<'w, 'a> Sight<'w, 'a> {
 
     /// On to an element, where the thing is an array.
     fn element_step(self, led: Led, index: &Expr<'_>) -> Result<Option<Led>, NoMemory>
-        ensures { IfOk result (λ after. after ≡ spec_element_step (stable_in self.entry.stable.now) self.entry.scope.now (shape index.now) led) }
+        ensures { IfOk result (λ after. after ≡ spec_element_step (stable_in self.entry.stable.now) self.entry.scope.now (shape index.now)
+            led) }
     {
         let Some(length) = led.thing().length else {
             return Ok(None);
@@ -158,14 +163,16 @@ impl<'w, 'a> Sight<'w, 'a> {
 
     /// What a name leads to: a global, a local that never changes, or a member of the struct object that has the guard.
     pub fn name(self, name: &[u8]) -> Result<Option<Led>, NoMemory>
-        ensures { IfOk result (λ led. led ≡ option_and_then (name_way (stable_in self.entry.stable.now) self.entry.scope.now name.now) (known_in self.entry.scope.now name.now)) }
+        ensures { IfOk result (λ led. led ≡ option_and_then (name_way (stable_in self.entry.stable.now) self.entry.scope.now name.now)
+            (known_in self.entry.scope.now name.now)) }
     {
         self.known_name(name, self.scope.known(name))
     }
 
     /// The same of a name that was looked up.
     pub fn known_name(self, name: &[u8], entry: Option<Entry>) -> Result<Option<Led>, NoMemory>
-        ensures { IfOk result (λ led. led ≡ option_and_then (name_way (stable_in self.entry.stable.now) self.entry.scope.now name.now) entry) }
+        ensures { IfOk result (λ led. led ≡ option_and_then (name_way (stable_in self.entry.stable.now) self.entry.scope.now name.now)
+            entry) }
     {
         let Some(entry) = entry else {
             return Ok(None);
@@ -194,7 +201,8 @@ impl<'w, 'a> Sight<'w, 'a> {
 
     /// On to an element of what was led to.
     pub fn element_of(self, led: Option<Led>, index: &Expr<'_>) -> Result<Option<Led>, NoMemory>
-        ensures { IfOk result (λ after. after ≡ option_and_then (spec_element_step (stable_in self.entry.stable.now) self.entry.scope.now (shape index.now)) led) }
+        ensures { IfOk result (λ after. after
+            ≡ option_and_then (spec_element_step (stable_in self.entry.stable.now) self.entry.scope.now (shape index.now)) led) }
     {
         match led {
             Some(led) => self.element_step(led, index),
@@ -202,7 +210,8 @@ impl<'w, 'a> Sight<'w, 'a> {
         }
     }
 
-    /// Where an expression leads as a place, or, where it stands as a pointer, to what that points. The recursion is as deep as the tree is high.
+    /// Where an expression leads as a place, or, where it stands as a pointer, to what that points. The recursion is as deep as the tree is
+    /// high.
     #[cycle(leading)]
     #[tactic(auto, unfolding(tsa_place_model::specs::LockPaths::leads))]
     fn leads(self, as_pointer: bool, expr: &Expr<'_>) -> Result<Option<Led>, NoMemory>
@@ -250,7 +259,8 @@ impl<'w, 'a> Sight<'w, 'a> {
 
     /// The path of what a pointer's value is the address of; none where it leads along a pointer that may change or to no place.
     pub fn address_path(self, expr: &Expr<'_>) -> Result<Option<Path>, NoMemory>
-        ensures { IfOk result (λ path. path ≡ option_map (λ led. led.way) (spec_leads (stable_in self.entry.stable.now) self.entry.scope.now true (shape expr.now))) }
+        ensures { IfOk result (λ path. path
+            ≡ option_map (λ led. led.way) (spec_leads (stable_in self.entry.stable.now) self.entry.scope.now true (shape expr.now))) }
     {
         Ok(path_of(self.leads(true, expr)?))
     }
@@ -298,8 +308,8 @@ impl<'w, 'a> Sight<'w, 'a> {
         }
     }
 
-    /// The path of a call's argument for a parameter of a kind: of a pointer that of the place where it points, of a number a constant or a local that
-    /// never changes; none of any other.
+    /// The path of a call's argument for a parameter of a kind: of a pointer that of the place where it points, of a number a constant or a
+    /// local that never changes; none of any other.
     pub fn argument_path(self, kind: Kind, expr: &Expr<'_>) -> Result<Option<Path>, NoMemory>
         ensures { IfOk result (λ path. path ≡ argument_way (stable_in self.entry.stable.now) self.entry.scope.now kind (shape expr.now)) }
     {

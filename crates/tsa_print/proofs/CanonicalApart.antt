@@ -11,10 +11,12 @@ use Rattle.tsa_tree.specs.tokens.Signs.{Aliases, level}
 use Rattle.tsa_tree.specs.expressions.Syntax.{Expression, Arguments, number, null, named, call, unary, binary, field, index, none, more}
 use Rattle.tsa_tree.specs.expressions.Sound.{is_name, is_sound, are_sound}
 use Rattle.tsa_print.specs.declared.mark.Mark.TheVariants as marks
-use Rattle.tsa_print.specs.Canonical.{Piece, word, numeral, quoted, operator, prefix, assigned, access, mark, binds_left, pieces, wrapped, arguments, further}
+use Rattle.tsa_print.specs.Canonical.{Piece, word, numeral, quoted, operator, prefix, assigned, access, mark, binds_left, pieces, wrapped}
+use Rattle.tsa_print.specs.Canonical.{arguments, further}
 use Rattle.tsa_print.specs.Writable.{is_number, has_plain_bases, have_plain_bases, is_writable}
 use Rattle.tsa_print.proofs.Apart.{is_word, is_dot, is_tight, safe_before, Apart}
-use Rattle.tsa_print.proofs.Joins.{begins, begins_dot, Joins, joins_none, joins_loose, joins_apart, joins_append, joins_before, joins_behind, joins_between}
+use Rattle.tsa_print.proofs.Joins.{begins, begins_dot, Joins, joins_none, joins_loose, joins_apart, joins_append, joins_before}
+use Rattle.tsa_print.proofs.Joins.{joins_behind, joins_between}
 use Rattle.tsa_print.proofs.Starts.{is_start, starts, tight, starts-pieces, tight-bare}
 
 both : {a b : Bool} → (a && b) ≡ true → (a ≡ true) × (b ≡ true)

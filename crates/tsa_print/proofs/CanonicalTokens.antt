@@ -1,5 +1,6 @@
 -- The text of pieces that stand apart is read as those pieces, one token for each.
-use Rattle.std.proofs.Common.{◌≡◌, ℕ, zero, suc, ◌-◌, Bool, true, false, ◌||◌, List, [], ◌∷◌, ◌++◌, Ok, if◌then◌else◌, refl, sym, ◌∙◌, ap, append-nil}
+use Rattle.std.proofs.Common.{◌≡◌, ℕ, zero, suc, ◌-◌, Bool, true, false, ◌||◌, List, [], ◌∷◌, ◌++◌, Ok, if◌then◌else◌, refl, sym, ◌∙◌, ap}
+use Rattle.std.proofs.Common.{append-nil}
 use Rattle.std.proofs.lemmas.Bool.{and_parts}
 use Rattle.std.specs.List.{list_all, filter_map}
 use Rattle.tsa_base.specs.Bytes.{is_blank}
@@ -9,7 +10,8 @@ use Rattle.tsa_base.proofs.PieceSteps.{standing}
 use Rattle.tsa_base.proofs.OneWay.{one_way}
 use Rattle.tsa_print.specs.declared.sheet.Behind.{Behind}
 use Rattle.tsa_print.specs.declared.sheet.Behind.TheVariants.{LineStart, Tight, Loose}
-use Rattle.tsa_print.specs.Canonical.{Piece, word, numeral, quoted, operator, prefix, assigned, access, mark, piece_text, binds_left, binds_right, gap, written}
+use Rattle.tsa_print.specs.Canonical.{Piece, word, numeral, quoted, operator, prefix, assigned, access, mark, piece_text, binds_left}
+use Rattle.tsa_print.specs.Canonical.{binds_right, gap, written}
 use Rattle.tsa_print.specs.Layout.{ends_line, closes_level, levels_behind, indentation, behind_of, lead, line_end, laid}
 use Rattle.tsa_print.proofs.Apart.{piece_kind, AreTokens, is_good, follows_first, Apart}
 use Rattle.tsa_print.proofs.Follows.{follows-gap, follows-lead, follows-end}

@@ -7,17 +7,21 @@ use Rattle.tsa_base.specs.Tokens.{Lexeme}
 use Rattle.tsa_tree.specs.declared.expr.UnaryOp.{UnaryOp}
 use Rattle.tsa_tree.specs.declared.expr.BinaryOp.{BinaryOp}
 use Rattle.tsa_tree.specs.declared.expr.BinaryOp.TheVariants as op
-use Rattle.tsa_tree.specs.expressions.Syntax.{Identifier, Expression, Arguments, number, null, named, call, unary, binary, field, index, none, more, nowhere, plain_name, plain, plain_arguments}
+use Rattle.tsa_tree.specs.expressions.Syntax.{Identifier, Expression, Arguments, number, null, named, call, unary, binary, field, index}
+use Rattle.tsa_tree.specs.expressions.Syntax.{none, more, nowhere, plain_name, plain, plain_arguments}
 use Rattle.tsa_tree.specs.tokens.Signs.{Aliases, span_at, span_over, identifier_at, value_at, unsigned_at, level}
 use Rattle.tsa_tree.specs.tokens.Signs as signs
-use Rattle.tsa_tree.specs.expressions.Spelling.{IsExpression, of_unary, of_binary, of_postfix, of_prefix, IsPostfix, of_primary, of_field, of_index, of_number, of_null, of_name, of_call, of_parentheses, IsArguments, of_none, of_some, IsSeries, of_last, of_further}
+use Rattle.tsa_tree.specs.expressions.Spelling.{IsExpression, of_unary, of_binary, of_postfix, of_prefix, IsPostfix, of_primary, of_field}
+use Rattle.tsa_tree.specs.expressions.Spelling.{of_index, of_number, of_null, of_name, of_call, of_parentheses, IsArguments, of_none}
+use Rattle.tsa_tree.specs.expressions.Spelling.{of_some, IsSeries, of_last, of_further}
 use Rattle.tsa_tree.specs.expressions.Answers.{an_expression, Spells}
 use Rattle.tsa_tree.specs.expressions.Sound.{is_name, is_sound, are_sound}
 use Rattle.tsa_grammar.specs.Reading.{all}
 use Rattle.tsa_print.specs.declared.mark.Mark.TheVariants as marks
 use Rattle.tsa_print.specs.Canonical.{Piece, word, numeral, operator, prefix, access, mark, wrapped, pieces, arguments, further}
 use Rattle.tsa_print.proofs.Apart.{AreTokens}
-use Rattle.tsa_print.proofs.PieceSigns.{Shows, shown, as_many, split, seen, name_seen, null_seen, prefix_seen, access_seen, named_so, value_so, unsigned_so}
+use Rattle.tsa_print.proofs.PieceSigns.{Shows, shown, as_many, split, seen, name_seen, null_seen, prefix_seen, access_seen, named_so}
+use Rattle.tsa_print.proofs.PieceSigns.{value_so, unsigned_so}
 
 pub level_below : (o : BinaryOp) → level o ≤ 9
 level_below op.Or = omega arith

@@ -7,22 +7,27 @@ use Rattle.std.specs.Str.{bytes_eq}
 use Rattle.std.proofs.lemmas.Bool.{and_parts}
 use Rattle.std.proofs.lemmas.List.{append_assoc}
 use Rattle.tsa_tree.specs.declared.expr.BinaryOp.{BinaryOp}
-use Rattle.tsa_tree.specs.declarations.Syntax.{Base, int, unsigned, void, structure, enumerated, alias, DeclaredType, Initialiser, value, list, Initialisers, no_more, one_more, Declaration}
+use Rattle.tsa_tree.specs.declarations.Syntax.{Base, int, unsigned, void, structure, enumerated, alias, DeclaredType, Initialiser, value}
+use Rattle.tsa_tree.specs.declarations.Syntax.{list, Initialisers, no_more, one_more, Declaration}
 use Rattle.tsa_tree.specs.expressions.Syntax.{Expression}
 use Rattle.tsa_tree.specs.tokens.Signs.{Aliases}
 use Rattle.tsa_tree.specs.expressions.Sound.{SoundExpression, SoundOptional, is_name}
 use Rattle.tsa_tree.specs.attributes.Sound.{SoundAttributes}
-use Rattle.tsa_tree.specs.declarations.Sound.{SoundBase, SoundType, SoundInitialiser, SoundInitialisers, SoundInit, SoundLocalInit, SoundDeclarator, SoundMembers, SoundGlobal, SoundLocal}
+use Rattle.tsa_tree.specs.declarations.Sound.{SoundBase, SoundType, SoundInitialiser, SoundInitialisers, SoundInit, SoundLocalInit}
+use Rattle.tsa_tree.specs.declarations.Sound.{SoundDeclarator, SoundMembers, SoundGlobal, SoundLocal}
 use Rattle.tsa_tree.specs.statements.Sound.{is_assigning}
 use Rattle.tsa_print.specs.declared.mark.Mark.TheVariants as marks
 use Rattle.tsa_print.specs.Canonical.{Piece, word, assigned, mark, pieces}
-use Rattle.tsa_print.specs.DeclarationPieces.{attributes_pieces, base_pieces, const_pieces, star_pieces, specifier_pieces, type_pieces, length_pieces, initialiser_pieces, initialisers_pieces, further_pieces, init_pieces, declaration_pieces, members_pieces}
+use Rattle.tsa_print.specs.DeclarationPieces.{attributes_pieces, base_pieces, const_pieces, star_pieces, specifier_pieces, type_pieces}
+use Rattle.tsa_print.specs.DeclarationPieces.{length_pieces, initialiser_pieces, initialisers_pieces, further_pieces, init_pieces}
+use Rattle.tsa_print.specs.DeclarationPieces.{declaration_pieces, members_pieces}
 use Rattle.tsa_print.specs.UnitBases.{in_optional, in_attributes, in_initialiser, in_initialisers, in_init, in_declaration, in_declarations}
 use Rattle.tsa_print.specs.Writable.{has_plain_bases}
 use Rattle.tsa_print.proofs.Apart.{is_word, safe, safe_before, Apart}
 use Rattle.tsa_print.proofs.AttributesApart.{ArePlain, plain_parts, plain_first, joins_word, joins_mark_before, joins_attributes}
 use Rattle.tsa_print.proofs.CanonicalApart.{word_of_name, starts_loose, joins_expression}
-use Rattle.tsa_print.proofs.Joins.{begins, begins_dot, dots_append, Joins, joins_none, joins_loose, joins_append, joins_before, joins_between}
+use Rattle.tsa_print.proofs.Joins.{begins, begins_dot, dots_append, Joins, joins_none, joins_loose, joins_append, joins_before}
+use Rattle.tsa_print.proofs.Joins.{joins_between}
 use Rattle.tsa_print.proofs.Starts.{starts-pieces}
 
 -- Types.

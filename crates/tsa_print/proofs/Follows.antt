@@ -10,7 +10,8 @@ use Rattle.tsa_tree.specs.declared.expr.UnaryOp.TheVariants as prefix_op
 use Rattle.tsa_tree.specs.expressions.Sound.{is_value}
 use Rattle.tsa_print.specs.declared.mark.Mark.{Mark}
 use Rattle.tsa_print.specs.declared.mark.Mark.TheVariants as marks
-use Rattle.tsa_print.specs.Canonical.{Piece, word, numeral, quoted, assigned, operator, prefix, access, mark, prefix_text, piece_text, mark_text, gap, binds_left}
+use Rattle.tsa_print.specs.Canonical.{Piece, word, numeral, quoted, assigned, operator, prefix, access, mark, prefix_text, piece_text}
+use Rattle.tsa_print.specs.Canonical.{mark_text, gap, binds_left}
 use Rattle.tsa_print.specs.Layout.{lead, line_end, behind_of}
 use Rattle.tsa_print.proofs.Apart.{is_word, is_good, follows, follows_first, is_dot, is_name_piece, is_tight, is_equality, safe}
 use Rattle.tsa_print.proofs.Longer.{not-of-kind}

@@ -7,10 +7,13 @@ use Rattle.tsa_tree.specs.declarations.Syntax.{DeclaredType, Parameter, EnumCons
 use Rattle.tsa_tree.specs.expressions.Syntax.{Expression, Identifier}
 use Rattle.tsa_tree.specs.tokens.Signs.{Aliases}
 use Rattle.tsa_tree.specs.expressions.Sound.{SoundOptional}
-use Rattle.tsa_tree.specs.declarations.Sound.{SoundType, SoundName, SoundParameter, SoundEachParameter, SoundHead, SoundConstant, SoundEachConstant, SoundConstants}
+use Rattle.tsa_tree.specs.declarations.Sound.{SoundType, SoundName, SoundParameter, SoundEachParameter, SoundHead, SoundConstant}
+use Rattle.tsa_tree.specs.declarations.Sound.{SoundEachConstant, SoundConstants}
 use Rattle.tsa_print.specs.declared.mark.Mark.TheVariants as marks
 use Rattle.tsa_print.specs.Canonical.{Piece, word, mark}
-use Rattle.tsa_print.specs.DeclarationPieces.{name_pieces, attributes_pieces, type_pieces, parameter_pieces, further_parameters, parameters_pieces, head_pieces, value_pieces, constant_pieces, further_constants, constants_pieces}
+use Rattle.tsa_print.specs.DeclarationPieces.{name_pieces, attributes_pieces, type_pieces, parameter_pieces, further_parameters}
+use Rattle.tsa_print.specs.DeclarationPieces.{parameters_pieces, head_pieces, value_pieces, constant_pieces, further_constants}
+use Rattle.tsa_print.specs.DeclarationPieces.{constants_pieces}
 use Rattle.tsa_print.specs.UnitBases.{in_optional, in_attributes, in_constants}
 use Rattle.tsa_print.proofs.AttributesApart.{ArePlain, plain_parts, plain_first, joins_word, joins_mark_before, joins_attributes}
 use Rattle.tsa_print.proofs.CanonicalApart.{word_of_name}

@@ -1,12 +1,14 @@
 -- The pieces of an expression stand in one line: what is put on a page is what is written of them.
-use Rattle.std.proofs.Common.{ℕ, ◌≡◌, ◌+◌, ◌-◌, List, [], ◌∷◌, ◌++◌, Bool, true, false, not, ◌||◌, nat_lt, if◌then◌else◌, refl, sym, ap, ◌∙◌}
+use Rattle.std.proofs.Common.{ℕ, ◌≡◌, ◌+◌, ◌-◌, List, [], ◌∷◌, ◌++◌, Bool, true, false, not, ◌||◌, nat_lt, if◌then◌else◌, refl, sym, ap}
+use Rattle.std.proofs.Common.{◌∙◌}
 use Rattle.std.proofs.lemmas.List.{append_assoc, append-nil}
 use Rattle.tsa_tree.specs.tokens.Signs.{level}
 use Rattle.tsa_tree.specs.expressions.Syntax.{Expression, Arguments, number, null, named, call, unary, binary, field, index, none, more}
 use Rattle.tsa_print.specs.declared.mark.Mark.TheVariants as marks
 use Rattle.tsa_print.specs.declared.sheet.Behind.{Behind}
 use Rattle.tsa_print.specs.declared.sheet.Behind.TheVariants.{LineStart, Tight, Loose}
-use Rattle.tsa_print.specs.Canonical.{Piece, word, numeral, operator, prefix, access, mark, piece_text, gap, binds_left, binds_right, written, pieces, wrapped, arguments, further}
+use Rattle.tsa_print.specs.Canonical.{Piece, word, numeral, operator, prefix, access, mark, piece_text, gap, binds_left, binds_right}
+use Rattle.tsa_print.specs.Canonical.{written, pieces, wrapped, arguments, further}
 use Rattle.tsa_print.specs.Layout.{ends_line, opens_level, closes_level, lead}
 use Rattle.tsa_print.specs.Sheets.{Page, lead_by, put_one, put}
 use Rattle.tsa_print.proofs.Pages.{with_plain}

@@ -1,5 +1,6 @@
 -- Pieces that are put on a page one after another, and the text of a page.
-use Rattle.std.proofs.Common.{ℕ, ◌≡◌, ◌+◌, ◌-◌, List, [], ◌∷◌, ◌++◌, Bool, false, if◌then◌else◌, Option, refl, sym, ap, ◌∙◌, zero, suc, ◌*◌, ◌≤◌, take, replicate, arith}
+use Rattle.std.proofs.Common.{ℕ, ◌≡◌, ◌+◌, ◌-◌, List, [], ◌∷◌, ◌++◌, Bool, false, if◌then◌else◌, Option, refl, sym, ap, ◌∙◌, zero, suc, ◌*◌}
+use Rattle.std.proofs.Common.{◌≤◌, take, replicate, arith}
 use Rattle.std.proofs.lemmas.List.{append_assoc, append-nil, take-replicate, replicate-append-replicate}
 use Rattle.tsa_tree.specs.declared.expr.BinaryOp.{BinaryOp}
 use Rattle.tsa_print.specs.declared.mark.Mark.{Mark}

@@ -1,5 +1,6 @@
 -- What the grammar sees at a token that is a piece of a canonical text.
-use Rattle.std.proofs.Common.{ℕ, suc, ◌+◌, ◌≡◌, ◌∙◌, ap, subst, refl, arith, List, [], ◌∷◌, ◌++◌, Bool, true, false, ◌&&◌, not, Some, None, length, slice_get, codes, add-zero}
+use Rattle.std.proofs.Common.{ℕ, suc, ◌+◌, ◌≡◌, ◌∙◌, ap, subst, refl, arith, List, [], ◌∷◌, ◌++◌, Bool, true, false, ◌&&◌, not, Some, None}
+use Rattle.std.proofs.Common.{length, slice_get, codes, add-zero}
 use Rattle.std.proofs.lemmas.Bool.{and_parts, not-true}
 use Rattle.std.specs.List.{list_all, list_any}
 use Rattle.std.specs.Str.{bytes_eq}
@@ -14,7 +15,8 @@ use Rattle.std.specs.declared.option.Option.{Option}
 use Rattle.tsa_tree.specs.declared.sign.Sign.{Sign}
 use Rattle.tsa_tree.specs.declared.sign.Sign.TheVariants as sign
 use Rattle.tsa_tree.specs.expressions.Syntax.{Identifier, plain_name, nowhere}
-use Rattle.tsa_tree.specs.tokens.Signs.{Aliases, punctuator_signs, punctuator_sign, word_signs, word_sign, sign_of, sign_in, sign_at, identifier_in, identifier_at, value_of, unsigned_of, kind_in, value_at, unsigned_at}
+use Rattle.tsa_tree.specs.tokens.Signs.{Aliases, punctuator_signs, punctuator_sign, word_signs, word_sign, sign_of, sign_in, sign_at}
+use Rattle.tsa_tree.specs.tokens.Signs.{identifier_in, identifier_at, value_of, unsigned_of, kind_in, value_at, unsigned_at}
 use Rattle.tsa_tree.specs.tokens.Signs as signs
 use Rattle.tsa_tree.specs.expressions.Sound.{is_name}
 use Rattle.tsa_tree.specs.statements.Sound.{is_assigning}

@@ -2,13 +2,20 @@
 use Rattle.std.proofs.Common.{ℕ, ◌+◌, ◌≡◌, ap, refl, List, [], ◌∷◌, ◌++◌, Bool, Some, None, map, option_map}
 use Rattle.std.specs.declared.option.Option.{Option}
 use Rattle.tsa_tree.specs.attributes.Syntax.{Attribute, plain_attribute}
-use Rattle.tsa_tree.specs.declarations.Syntax.{Base, int, unsigned, void, structure, enumerated, alias, DeclaredType, Initialiser, value, list, Initialisers, no_more, one_more, Declaration, Parameter, EnumConstant, Head}
-use Rattle.tsa_tree.specs.expressions.Syntax.{Identifier, Expression, Arguments, number, null, named, call, unary, binary, field, index, none, more, plain_name, plain, plain_arguments}
-use Rattle.tsa_tree.specs.declarations.Plain.{plain_base, plain_type, plain_initialiser, plain_initialisers, plain_declaration, plain_parameter, plain_constant, plain_head}
+use Rattle.tsa_tree.specs.declarations.Syntax.{Base, int, unsigned, void, structure, enumerated, alias, DeclaredType, Initialiser, value}
+use Rattle.tsa_tree.specs.declarations.Syntax.{list, Initialisers, no_more, one_more, Declaration, Parameter, EnumConstant, Head}
+use Rattle.tsa_tree.specs.expressions.Syntax.{Identifier, Expression, Arguments, number, null, named, call, unary, binary, field, index}
+use Rattle.tsa_tree.specs.expressions.Syntax.{none, more, plain_name, plain, plain_arguments}
+use Rattle.tsa_tree.specs.declarations.Plain.{plain_base, plain_type, plain_initialiser, plain_initialisers, plain_declaration}
+use Rattle.tsa_tree.specs.declarations.Plain.{plain_parameter, plain_constant, plain_head}
 use Rattle.tsa_tree.specs.tokens.Signs.{level}
 use Rattle.tsa_print.specs.declared.mark.Mark.TheVariants as marks
 use Rattle.tsa_print.specs.Canonical.{mark, pieces, arguments, further}
-use Rattle.tsa_print.specs.DeclarationPieces.{name_pieces, taken, attribute_pieces, attributes_pieces, base_pieces, type_pieces, length_pieces, initialiser_pieces, initialisers_pieces, further_pieces, init_pieces, declaration_pieces, members_pieces, parameter_pieces, further_parameters, parameters_pieces, head_pieces, value_pieces, constant_pieces, further_constants, constants_pieces, typedef_pieces}
+use Rattle.tsa_print.specs.DeclarationPieces.{name_pieces, taken, attribute_pieces, attributes_pieces, base_pieces, type_pieces}
+use Rattle.tsa_print.specs.DeclarationPieces.{length_pieces, initialiser_pieces, initialisers_pieces, further_pieces, init_pieces}
+use Rattle.tsa_print.specs.DeclarationPieces.{declaration_pieces, members_pieces, parameter_pieces, further_parameters, parameters_pieces}
+use Rattle.tsa_print.specs.DeclarationPieces.{head_pieces, value_pieces, constant_pieces, further_constants, constants_pieces}
+use Rattle.tsa_print.specs.DeclarationPieces.{typedef_pieces}
 
 mutual
   pub pieces_of_plain : (x : Expression) (k : ℕ) → pieces (plain x) k ≡ pieces x k

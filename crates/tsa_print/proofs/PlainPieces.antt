@@ -5,15 +5,19 @@ use Rattle.std.specs.declared.option.Option.{Option}
 use Rattle.tsa_tree.specs.expressions.Syntax.{Expression, plain}
 use Rattle.tsa_tree.specs.units.Plain.{plain_item}
 use Rattle.tsa_tree.specs.statements.Plain.{plain_simple, plain_for_init, plain_statement, plain_statements}
-use Rattle.tsa_tree.specs.statements.Syntax.{Simple, evaluation, assignment, ForInit, no_init, simple_init, local_init, Statement, block, empty, local, simple, if_alone, if_else, while_loop, do_loop, for_loop, switch, case, otherwise, label, break, continue, goto, return, Statements, none, more}
+use Rattle.tsa_tree.specs.statements.Syntax.{Simple, evaluation, assignment, ForInit, no_init, simple_init, local_init, Statement, block}
+use Rattle.tsa_tree.specs.statements.Syntax.{empty, local, simple, if_alone, if_else, while_loop, do_loop, for_loop, switch, case}
+use Rattle.tsa_tree.specs.statements.Syntax.{otherwise, label, break, continue, goto, return, Statements, none, more}
 use Rattle.tsa_tree.specs.units.Syntax.{UnitItem, structure_item, alias_item, enumeration_item, global_item, function_item, body_item}
 use Rattle.tsa_print.specs.declared.mark.Mark.{Mark}
 use Rattle.tsa_print.specs.declared.mark.Mark.TheVariants as marks
 use Rattle.tsa_print.specs.declared.sheet.Behind.TheVariants.{LineStart}
 use Rattle.tsa_print.specs.Canonical.{mark}
 use Rattle.tsa_print.specs.Layout.{laid}
-use Rattle.tsa_print.specs.UnitPieces.{simple_pieces, optional_pieces, for_init_pieces, for_step_pieces, statement_pieces, statements_pieces, item_pieces, unit_pieces, canonical_unit}
-use Rattle.tsa_print.proofs.PlainDeclarationPieces.{pieces_of_plain, name_of_plain, typedef_of_plain, attributes_of_plain, type_of_plain, declaration_of_plain, members_of_plain, head_of_plain, constants_of_plain}
+use Rattle.tsa_print.specs.UnitPieces.{simple_pieces, optional_pieces, for_init_pieces, for_step_pieces, statement_pieces}
+use Rattle.tsa_print.specs.UnitPieces.{statements_pieces, item_pieces, unit_pieces, canonical_unit}
+use Rattle.tsa_print.proofs.PlainDeclarationPieces.{pieces_of_plain, name_of_plain, typedef_of_plain, attributes_of_plain, type_of_plain}
+use Rattle.tsa_print.proofs.PlainDeclarationPieces.{declaration_of_plain, members_of_plain, head_of_plain, constants_of_plain}
 
 simple_of_plain : (x : Simple) → simple_pieces (plain_simple x) ≡ simple_pieces x
 simple_of_plain (evaluation x span) = pieces_of_plain x 0

@@ -14,7 +14,8 @@ use Rattle.tsa_tree.specs.statements.Sound.{is_assigning}
 use Rattle.std.specs.declared.option.Option.{Option}
 use Rattle.tsa_print.specs.declared.mark.Mark.{Mark}
 use Rattle.tsa_print.specs.declared.mark.Mark.TheVariants as marks
-use Rattle.tsa_print.specs.Canonical.{Piece, word, numeral, quoted, operator, prefix, assigned, access, mark, operator_text, prefix_text, assign_text, mark_text, piece_text}
+use Rattle.tsa_print.specs.Canonical.{Piece, word, numeral, quoted, operator, prefix, assigned, access, mark, operator_text, prefix_text}
+use Rattle.tsa_print.specs.Canonical.{assign_text, mark_text, piece_text}
 use Rattle.tsa_print.proofs.Apart.{piece_kind, is_good, follows, follows_first}
 use Rattle.tsa_print.proofs.Longer.{closed-longest, no-slash, not-of-kind}
 use Rattle.tsa_print.proofs.PieceTokens.{first-follows}

@@ -3,8 +3,10 @@ use Rattle.std.proofs.Common.{ℕ, ◌+◌, ◌≡◌, ◌∙◌, ap, subst, ref
 use Rattle.std.specs.declared.option.Option.{Option}
 use Rattle.tsa_base.specs.Tokens.{Lexeme}
 use Rattle.tsa_tree.specs.declared.attr.AttrKind.{AttrKind}
-use Rattle.tsa_tree.specs.attributes.Syntax.{Attribute, plain_attribute, Taking, a_text, one_expression, expressions, a_try, taking, negative, unquoted}
-use Rattle.tsa_tree.specs.attributes.Spelling.{attribute, attribute_or, attribute_of, IsAttribute, of_text, of_one, of_expressions, of_try, of_macro, IsAttributes, of_no_group, of_group}
+use Rattle.tsa_tree.specs.attributes.Syntax.{Attribute, plain_attribute, Taking, a_text, one_expression, expressions, a_try, taking}
+use Rattle.tsa_tree.specs.attributes.Syntax.{negative, unquoted}
+use Rattle.tsa_tree.specs.attributes.Spelling.{attribute, attribute_or, attribute_of, IsAttribute, of_text, of_one, of_expressions, of_try}
+use Rattle.tsa_tree.specs.attributes.Spelling.{of_macro, IsAttributes, of_no_group, of_group}
 use Rattle.tsa_tree.specs.expressions.Syntax.{Arguments, none, more, nowhere, plain_arguments}
 use Rattle.tsa_tree.specs.tokens.Signs.{Aliases, identifier_at}
 use Rattle.tsa_tree.specs.expressions.Spelling.{IsExpression}

@@ -4,7 +4,9 @@ use Rattle.std.specs.declared.option.Option.{Option}
 use Rattle.tsa_base.specs.Tokens.{Lexeme}
 use Rattle.tsa_tree.specs.attributes.Syntax.{Attribute, plain_attribute}
 use Rattle.tsa_tree.specs.declarations.Syntax.{Specified, Initialiser, value, list, Declaration, declaration, Declarator, made_of}
-use Rattle.tsa_tree.specs.declarations.Spelling.{Role, a_member, a_global, IsSpecifier, IsDeclarator, of_declarator, IsLength, of_rest, IsDeclarators, of_last_declarator, IsMembers, no_member, of_members, IsVariable, of_unset, of_set}
+use Rattle.tsa_tree.specs.declarations.Spelling.{Role, a_member, a_global, IsSpecifier, IsDeclarator, of_declarator, IsLength, of_rest}
+use Rattle.tsa_tree.specs.declarations.Spelling.{IsDeclarators, of_last_declarator, IsMembers, no_member, of_members, IsVariable, of_unset}
+use Rattle.tsa_tree.specs.declarations.Spelling.{of_set}
 use Rattle.tsa_tree.specs.expressions.Syntax.{Expression, plain_name}
 use Rattle.tsa_tree.specs.declarations.Plain.{plain_type, plain_initialiser, plain_declaration}
 use Rattle.tsa_tree.specs.tokens.Signs.{Aliases, identifier_at, span_over}
@@ -13,7 +15,8 @@ use Rattle.tsa_tree.specs.declarations.Sound.{SoundDeclarator, SoundLocalInit, S
 use Rattle.tsa_grammar.specs.Reading.{all}
 use Rattle.tsa_print.specs.declared.mark.Mark.TheVariants as marks
 use Rattle.tsa_print.specs.Canonical.{word, mark}
-use Rattle.tsa_print.specs.DeclarationPieces.{type_pieces, length_pieces, attributes_pieces, init_pieces, declaration_pieces, members_pieces}
+use Rattle.tsa_print.specs.DeclarationPieces.{type_pieces, length_pieces, attributes_pieces, init_pieces, declaration_pieces}
+use Rattle.tsa_print.specs.DeclarationPieces.{members_pieces}
 use Rattle.tsa_print.proofs.PieceSigns.{seen, name_seen, named_so}
 use Rattle.tsa_print.proofs.Runs.{Run, run_split}
 use Rattle.tsa_print.proofs.SpelledAttributes.{attributes_spelled}

@@ -6,7 +6,8 @@ use Rattle.tsa_tree.specs.attributes.Syntax.{plain_attribute}
 use Rattle.tsa_tree.specs.declarations.Syntax.{Declarator, Head, head_of, EnumConstant}
 use Rattle.tsa_tree.specs.declarations.Spelling.{of_declarator}
 use Rattle.tsa_tree.specs.expressions.Syntax.{Identifier, Expression, plain, plain_name}
-use Rattle.tsa_tree.specs.declarations.ItemSpelling.{no_storage, of_signature, IsHead, of_head, IsConstant, of_name_alone, of_name_and_value, IsConstants, of_last_constant, of_further_constant}
+use Rattle.tsa_tree.specs.declarations.ItemSpelling.{no_storage, of_signature, IsHead, of_head, IsConstant, of_name_alone}
+use Rattle.tsa_tree.specs.declarations.ItemSpelling.{of_name_and_value, IsConstants, of_last_constant, of_further_constant}
 use Rattle.tsa_tree.specs.declarations.Plain.{plain_type, plain_parameter, plain_constant, plain_head}
 use Rattle.tsa_tree.specs.tokens.Signs.{Aliases, identifier_at}
 use Rattle.tsa_tree.specs.expressions.Sound.{SoundOptional, is_name}
@@ -14,7 +15,8 @@ use Rattle.tsa_tree.specs.declarations.Sound.{SoundHead, SoundEachConstant, Soun
 use Rattle.tsa_grammar.specs.Reading.{all}
 use Rattle.tsa_print.specs.declared.mark.Mark.TheVariants as marks
 use Rattle.tsa_print.specs.Canonical.{word, mark}
-use Rattle.tsa_print.specs.DeclarationPieces.{type_pieces, attributes_pieces, parameters_pieces, head_pieces, value_pieces, constant_pieces, further_constants, constants_pieces}
+use Rattle.tsa_print.specs.DeclarationPieces.{type_pieces, attributes_pieces, parameters_pieces, head_pieces, value_pieces, constant_pieces}
+use Rattle.tsa_print.specs.DeclarationPieces.{further_constants, constants_pieces}
 use Rattle.tsa_print.proofs.PieceSigns.{seen, name_seen, named_so}
 use Rattle.tsa_print.proofs.Runs.{Run, run_split}
 use Rattle.tsa_print.proofs.SpelledAttributes.{attributes_spelled}

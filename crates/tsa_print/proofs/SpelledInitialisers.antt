@@ -5,7 +5,8 @@ use Rattle.tsa_base.specs.Tokens.{Lexeme}
 use Rattle.tsa_base.specs.declared.token.Span.{Span}
 use Rattle.tsa_tree.specs.declared.sign.Sign.TheVariants as sign
 use Rattle.tsa_tree.specs.declarations.Syntax.{Initialiser, value, list, Initialisers, no_more, one_more}
-use Rattle.tsa_tree.specs.declarations.Spelling.{Role, a_member, a_global, IsInitialiser, of_value, of_no_values, of_values, IsInitialisers, of_last_value, of_further_value, IsInit, no_init, of_init}
+use Rattle.tsa_tree.specs.declarations.Spelling.{Role, a_member, a_global, IsInitialiser, of_value, of_no_values, of_values, IsInitialisers}
+use Rattle.tsa_tree.specs.declarations.Spelling.{of_last_value, of_further_value, IsInit, no_init, of_init}
 use Rattle.tsa_tree.specs.declarations.Plain.{plain_initialiser, plain_initialisers}
 use Rattle.tsa_tree.specs.tokens.Signs.{Aliases, punctuator_signs, punctuator_sign, sign_at, span_over}
 use Rattle.tsa_tree.specs.declarations.Sound.{SoundInitialiser, SoundInitialisers, SoundInit}

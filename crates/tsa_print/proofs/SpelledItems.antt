@@ -10,7 +10,9 @@ use Rattle.tsa_tree.specs.attributes.Spelling.{of_no_group}
 use Rattle.tsa_tree.specs.declarations.Syntax.{DeclaredType, Declaration, EnumConstant, Head, StructBody, made_of}
 use Rattle.tsa_tree.specs.declarations.Spelling.{of_declarator}
 use Rattle.tsa_tree.specs.expressions.Syntax.{Identifier, plain, plain_name, nowhere}
-use Rattle.tsa_tree.specs.declarations.ItemSpelling.{no_storage, IsTag, no_tag, of_tag, IsStructBody, of_struct_body, IsEnumBody, of_enum_body, IsItem, of_structure, of_structure_alias, of_enumeration, of_enumeration_alias, of_alias_item, of_globals, of_function, of_body_item}
+use Rattle.tsa_tree.specs.declarations.ItemSpelling.{no_storage, IsTag, no_tag, of_tag, IsStructBody, of_struct_body, IsEnumBody}
+use Rattle.tsa_tree.specs.declarations.ItemSpelling.{of_enum_body, IsItem, of_structure, of_structure_alias, of_enumeration}
+use Rattle.tsa_tree.specs.declarations.ItemSpelling.{of_enumeration_alias, of_alias_item, of_globals, of_function, of_body_item}
 use Rattle.tsa_tree.specs.declarations.Plain.{plain_type, plain_declaration, plain_constant, plain_head}
 use Rattle.tsa_tree.specs.units.Plain.{plain_item}
 use Rattle.tsa_tree.specs.statements.Plain.{plain_statements}
@@ -25,7 +27,8 @@ use Rattle.tsa_tree.specs.units.Sound.{SoundTag, SoundItem}
 use Rattle.tsa_grammar.specs.Reading.{all}
 use Rattle.tsa_print.specs.declared.mark.Mark.TheVariants as marks
 use Rattle.tsa_print.specs.Canonical.{Piece, word, mark}
-use Rattle.tsa_print.specs.DeclarationPieces.{name_pieces, attributes_pieces, type_pieces, declaration_pieces, members_pieces, head_pieces, constants_pieces}
+use Rattle.tsa_print.specs.DeclarationPieces.{name_pieces, attributes_pieces, type_pieces, declaration_pieces, members_pieces, head_pieces}
+use Rattle.tsa_print.specs.DeclarationPieces.{constants_pieces}
 use Rattle.tsa_print.specs.UnitPieces.{statements_pieces, item_pieces}
 use Rattle.tsa_print.proofs.PieceSigns.{seen, name_seen, named_so}
 use Rattle.tsa_print.proofs.Runs.{Run, run_split}

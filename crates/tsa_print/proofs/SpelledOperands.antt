@@ -2,7 +2,8 @@
 use Rattle.std.proofs.Common.{ℕ, ◌+◌, ◌≤◌, ◌≡◌, ap, subst, refl, arith, List, ◌∷◌, ◌++◌, true, nat_lt}
 use Rattle.std.proofs.lemmas.Bool.{and_parts, lt-ltb}
 use Rattle.tsa_base.specs.Tokens.{Lexeme}
-use Rattle.tsa_tree.specs.expressions.Syntax.{Expression, Arguments, number, null, named, call, unary, binary, field, index, more, nowhere, plain, plain_arguments}
+use Rattle.tsa_tree.specs.expressions.Syntax.{Expression, Arguments, number, null, named, call, unary, binary, field, index, more, nowhere}
+use Rattle.tsa_tree.specs.expressions.Syntax.{plain, plain_arguments}
 use Rattle.tsa_tree.specs.tokens.Signs.{Aliases, span_over, level}
 use Rattle.tsa_tree.specs.expressions.Spelling.{IsUnary, of_postfix, of_prefix, IsSeries}
 use Rattle.tsa_tree.specs.expressions.Sound.{is_sound, are_sound}

@@ -1,19 +1,22 @@
 -- A run of the pieces of parameters spells them up to spans.
-use Rattle.std.proofs.Common.{ℕ, ◌+◌, ◌≡◌, ◌∙◌, ap, subst, sym, refl, List, [], ◌∷◌, ◌++◌, map, Bool, true, false, ◌&&◌, Some, None, option_map}
+use Rattle.std.proofs.Common.{ℕ, ◌+◌, ◌≡◌, ◌∙◌, ap, subst, sym, refl, List, [], ◌∷◌, ◌++◌, map, Bool, true, false, ◌&&◌, Some, None}
+use Rattle.std.proofs.Common.{option_map}
 use Rattle.std.specs.declared.option.Option.{Option}
 use Rattle.tsa_base.specs.Tokens.{Lexeme}
 use Rattle.tsa_tree.specs.declared.sign.Keyword.TheVariants as key
 use Rattle.tsa_tree.specs.declared.sign.Sign.TheVariants as sign
 use Rattle.tsa_tree.specs.declarations.Syntax.{Base, int, unsigned, void, structure, enumerated, alias, DeclaredType, Parameter}
 use Rattle.tsa_tree.specs.expressions.Syntax.{Identifier, plain, plain_name, nowhere}
-use Rattle.tsa_tree.specs.declarations.ItemSpelling.{parameter_start, parameter, IsParameter, of_named, of_unnamed, IsParameterList, of_last_parameter, of_further_parameter, IsParameters, of_lone_void, of_parameters}
+use Rattle.tsa_tree.specs.declarations.ItemSpelling.{parameter_start, parameter, IsParameter, of_named, of_unnamed, IsParameterList}
+use Rattle.tsa_tree.specs.declarations.ItemSpelling.{of_last_parameter, of_further_parameter, IsParameters, of_lone_void, of_parameters}
 use Rattle.tsa_tree.specs.declarations.Plain.{plain_type, plain_parameter}
 use Rattle.tsa_tree.specs.tokens.Signs.{Aliases, sign_at, identifier_at, is_void, is_close, is_lone_void}
 use Rattle.tsa_tree.specs.declarations.Sound.{SoundBase, SoundType, SoundName, SoundEachParameter, SoundParameters, is_bare_void}
 use Rattle.tsa_tree.specs.declarations.Sound as sound
 use Rattle.tsa_print.specs.declared.mark.Mark.TheVariants as marks
 use Rattle.tsa_print.specs.Canonical.{mark}
-use Rattle.tsa_print.specs.DeclarationPieces.{name_pieces, base_pieces, const_pieces, star_pieces, type_pieces, parameter_pieces, further_parameters, parameters_pieces}
+use Rattle.tsa_print.specs.DeclarationPieces.{name_pieces, base_pieces, const_pieces, star_pieces, type_pieces, parameter_pieces}
+use Rattle.tsa_print.specs.DeclarationPieces.{further_parameters, parameters_pieces}
 use Rattle.tsa_print.proofs.PieceSigns.{seen, name_seen, named_so}
 use Rattle.tsa_print.proofs.Runs.{Run, run_split}
 use Rattle.tsa_print.proofs.SpelledTypes.{made_plain, type_spelled}

@@ -8,7 +8,9 @@ use Rattle.tsa_tree.specs.expressions.Syntax.{Expression, plain, nowhere}
 use Rattle.tsa_tree.specs.statements.Plain.{plain_simple, plain_for_init}
 use Rattle.tsa_tree.specs.tokens.Signs.{Aliases, sign_at, span_over}
 use Rattle.tsa_tree.specs.statements.Syntax.{Simple, evaluation, assignment, ForInit, no_init, simple_init, local_init}
-use Rattle.tsa_tree.specs.statements.Spelling.{IsSimple, of_evaluation, of_assignment, IsOptional, no_expression, an_expression, IsTest, of_test, IsForInit, of_no_init, of_simple_init, of_local_init, IsForStep, of_no_step, of_step}
+use Rattle.tsa_tree.specs.statements.Spelling.{IsSimple, of_evaluation, of_assignment, IsOptional, no_expression, an_expression, IsTest}
+use Rattle.tsa_tree.specs.statements.Spelling.{of_test, IsForInit, of_no_init, of_simple_init, of_local_init, IsForStep, of_no_step}
+use Rattle.tsa_tree.specs.statements.Spelling.{of_step}
 use Rattle.tsa_tree.specs.expressions.Sound.{SoundExpression, SoundOptional}
 use Rattle.tsa_tree.specs.statements.Sound.{SoundSimple, SoundForInit, SoundForStep}
 use Rattle.tsa_grammar.specs.Reading.{all}

@@ -4,7 +4,8 @@ use Rattle.tsa_base.specs.Tokens.{Lexeme}
 use Rattle.tsa_tree.specs.declared.sign.Keyword.TheVariants as key
 use Rattle.tsa_tree.specs.declared.sign.Sign.TheVariants as sign
 use Rattle.tsa_tree.specs.tokens.Signs.{Aliases}
-use Rattle.tsa_tree.specs.statements.Syntax.{Statement, block, empty, local, simple, if_alone, if_else, while_loop, do_loop, for_loop, switch, case, otherwise, label, break, continue, goto, return, Statements, none, more}
+use Rattle.tsa_tree.specs.statements.Syntax.{Statement, block, empty, local, simple, if_alone, if_else, while_loop, do_loop, for_loop}
+use Rattle.tsa_tree.specs.statements.Syntax.{switch, case, otherwise, label, break, continue, goto, return, Statements, none, more}
 use Rattle.tsa_tree.specs.statements.Spelling.{no_statement}
 use Rattle.tsa_tree.specs.statements.Sound.{SoundStatement, SoundStatements}
 use Rattle.tsa_print.specs.declared.mark.Mark.{Mark}
@@ -15,7 +16,9 @@ use Rattle.tsa_print.proofs.PieceSigns.{piece_sign, seen, name_seen, named_so}
 use Rattle.tsa_print.proofs.Runs.{Run, run_split}
 use Rattle.tsa_print.proofs.SpelledOperands.{expression_spelled}
 use Rattle.tsa_print.proofs.SpelledSimples.{tested, optional_spelled, for_init_spelled, for_step_spelled}
-use Rattle.tsa_print.proofs.StatementSteps.{Read, All, anywhere, local_first, simple_step, block_step, if_step, if_else_step, while_step, do_step, for_step, switch_step, case_step, default_step, label_step, empty_step, break_step, continue_step, goto_step, return_step}
+use Rattle.tsa_print.proofs.StatementSteps.{Read, All, anywhere, local_first, simple_step, block_step, if_step, if_else_step, while_step}
+use Rattle.tsa_print.proofs.StatementSteps.{do_step, for_step, switch_step, case_step, default_step, label_step, empty_step, break_step}
+use Rattle.tsa_print.proofs.StatementSteps.{continue_step, goto_step, return_step}
 use Rattle.tsa_print.proofs.WordSigns.{keyword_seen}
 
 module _ (aliases : Aliases) (ts : List Lexeme) where

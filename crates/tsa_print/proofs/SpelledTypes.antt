@@ -4,7 +4,9 @@ use Rattle.std.specs.declared.option.Option.{Option}
 use Rattle.tsa_base.specs.Tokens.{Lexeme}
 use Rattle.tsa_tree.specs.declared.sign.Keyword.TheVariants as key
 use Rattle.tsa_tree.specs.declarations.Syntax.{Base, int, unsigned, void, structure, enumerated, alias, Specified, DeclaredType, made_of}
-use Rattle.tsa_tree.specs.declarations.Spelling.{no_const, of_const, IsBase, of_int, of_unsigned, of_void, of_struct, of_enum, of_alias, IsSpecifier, of_specifier, IsStar, no_star, of_star, of_const_star, IsLength, no_length, of_length}
+use Rattle.tsa_tree.specs.declarations.Spelling.{no_const, of_const, IsBase, of_int, of_unsigned, of_void, of_struct, of_enum, of_alias}
+use Rattle.tsa_tree.specs.declarations.Spelling.{IsSpecifier, of_specifier, IsStar, no_star, of_star, of_const_star, IsLength, no_length}
+use Rattle.tsa_tree.specs.declarations.Spelling.{of_length}
 use Rattle.tsa_tree.specs.expressions.Syntax.{Expression, plain}
 use Rattle.tsa_tree.specs.declarations.Plain.{plain_base, plain_type}
 use Rattle.tsa_tree.specs.tokens.Signs.{Aliases, identifier_at}

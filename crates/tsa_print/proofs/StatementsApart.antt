@@ -5,7 +5,9 @@ use Rattle.std.specs.declared.option.Option.{Option}
 use Rattle.tsa_tree.specs.declarations.Syntax.{Declaration}
 use Rattle.tsa_tree.specs.expressions.Syntax.{Expression}
 use Rattle.tsa_tree.specs.tokens.Signs.{Aliases}
-use Rattle.tsa_tree.specs.statements.Syntax.{Simple, evaluation, assignment, ForInit, no_init, simple_init, local_init, Statement, block, empty, local, simple, if_alone, if_else, while_loop, do_loop, for_loop, switch, case, otherwise, label, break, continue, goto, return, Statements, none, more}
+use Rattle.tsa_tree.specs.statements.Syntax.{Simple, evaluation, assignment, ForInit, no_init, simple_init, local_init, Statement, block}
+use Rattle.tsa_tree.specs.statements.Syntax.{empty, local, simple, if_alone, if_else, while_loop, do_loop, for_loop, switch, case}
+use Rattle.tsa_tree.specs.statements.Syntax.{otherwise, label, break, continue, goto, return, Statements, none, more}
 use Rattle.tsa_tree.specs.expressions.Sound.{SoundExpression, SoundOptional}
 use Rattle.tsa_tree.specs.statements.Sound.{SoundSimple, SoundForInit, SoundForStep, SoundLocalIn, SoundStatement, SoundStatements}
 use Rattle.tsa_print.specs.declared.mark.Mark.{Mark}
@@ -13,7 +15,8 @@ use Rattle.tsa_print.specs.declared.mark.Mark.TheVariants as marks
 use Rattle.tsa_print.specs.Canonical.{Piece, word, assigned, mark, pieces}
 use Rattle.tsa_print.specs.DeclarationPieces.{declaration_pieces}
 use Rattle.tsa_print.specs.UnitBases.{in_optional, in_declaration, in_simple, in_for_init, in_for_step, in_statement, in_statements}
-use Rattle.tsa_print.specs.UnitPieces.{simple_pieces, optional_pieces, test_pieces, for_init_pieces, for_step_pieces, statement_pieces, statements_pieces}
+use Rattle.tsa_print.specs.UnitPieces.{simple_pieces, optional_pieces, test_pieces, for_init_pieces, for_step_pieces, statement_pieces}
+use Rattle.tsa_print.specs.UnitPieces.{statements_pieces}
 use Rattle.tsa_print.specs.Writable.{has_plain_bases}
 use Rattle.tsa_print.proofs.Apart.{is_word}
 use Rattle.tsa_print.proofs.AttributesApart.{ArePlain, plain_parts, plain_first, joins_word, joins_mark_before}

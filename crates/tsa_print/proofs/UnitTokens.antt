@@ -8,13 +8,15 @@ use Rattle.tsa_tree.specs.attributes.Syntax.{Attribute}
 use Rattle.tsa_tree.specs.declarations.Syntax.{Declaration, EnumConstant}
 use Rattle.tsa_tree.specs.expressions.Syntax.{Identifier}
 use Rattle.tsa_tree.specs.tokens.Signs.{Aliases}
-use Rattle.tsa_tree.specs.units.Syntax.{UnitItem, structure_item, alias_item, enumeration_item, global_item, function_item, body_item, names_of_item}
+use Rattle.tsa_tree.specs.units.Syntax.{UnitItem, structure_item, alias_item, enumeration_item, global_item, function_item, body_item}
+use Rattle.tsa_tree.specs.units.Syntax.{names_of_item}
 use Rattle.tsa_tree.specs.declarations.Sound.{SoundName}
 use Rattle.tsa_tree.specs.units.Sound.{SoundTag, SoundTags, SoundItem, SoundItems}
 use Rattle.tsa_print.specs.declared.mark.Mark.TheVariants as marks
 use Rattle.tsa_print.specs.declared.sheet.Behind.TheVariants.{LineStart}
 use Rattle.tsa_print.specs.Canonical.{word, mark}
-use Rattle.tsa_print.specs.DeclarationPieces.{name_pieces, attributes_pieces, type_pieces, declaration_pieces, members_pieces, head_pieces, constants_pieces, typedef_pieces}
+use Rattle.tsa_print.specs.DeclarationPieces.{name_pieces, attributes_pieces, type_pieces, declaration_pieces, members_pieces, head_pieces}
+use Rattle.tsa_print.specs.DeclarationPieces.{constants_pieces, typedef_pieces}
 use Rattle.tsa_print.specs.UnitBases.{in_attributes, in_declarations, in_constants, in_statements, in_item, expressions_of, HasPlainBases}
 use Rattle.tsa_print.specs.UnitPieces.{statements_pieces, item_pieces, unit_pieces, canonical_unit}
 use Rattle.tsa_print.proofs.Apart.{AreTokens}

@@ -1,5 +1,6 @@
 -- What the grammar sees at a keyword, the word of an attribute, a tag, the name of a type, a text and the result of a try.
-use Rattle.std.proofs.Common.{ℕ, ◌-◌, ◌≡◌, ◌∙◌, ap, refl, arith, List, [], ◌∷◌, ◌++◌, Bool, true, false, ◌&&◌, not, Some, length, take, codes, if◌then◌else◌}
+use Rattle.std.proofs.Common.{ℕ, ◌-◌, ◌≡◌, ◌∙◌, ap, refl, arith, List, [], ◌∷◌, ◌++◌, Bool, true, false, ◌&&◌, not, Some, length, take}
+use Rattle.std.proofs.Common.{codes, if◌then◌else◌}
 use Rattle.std.proofs.Math.Seq.{take-append_seam}
 use Rattle.std.proofs.lemmas.Bool.{and_parts, not-true}
 use Rattle.std.proofs.lemmas.Fmt.{decimal_digit}

@@ -1,13 +1,15 @@
 -- What is written of an expression is written of its parts, with the texts of the signs between them: the blanks depend on
 -- neighbours alone.
-use Rattle.std.proofs.Common.{ℕ, ◌≡◌, ◌+◌, List, [], ◌∷◌, ◌++◌, Bool, true, false, not, ◌||◌, nat_lt, if◌then◌else◌, codes, refl, sym, ap, ◌∙◌}
+use Rattle.std.proofs.Common.{ℕ, ◌≡◌, ◌+◌, List, [], ◌∷◌, ◌++◌, Bool, true, false, not, ◌||◌, nat_lt, if◌then◌else◌, codes, refl, sym, ap}
+use Rattle.std.proofs.Common.{◌∙◌}
 use Rattle.std.proofs.lemmas.List.{append_assoc, append-nil}
 use Rattle.tsa_tree.specs.declared.expr.UnaryOp.{UnaryOp}
 use Rattle.tsa_tree.specs.declared.expr.BinaryOp.{BinaryOp}
 use Rattle.tsa_tree.specs.tokens.Signs.{level}
 use Rattle.tsa_tree.specs.expressions.Syntax.{Expression, Arguments, number, null, named, call, unary, binary, field, index, none, more}
 use Rattle.tsa_print.specs.declared.mark.Mark.TheVariants as marks
-use Rattle.tsa_print.specs.Canonical.{Piece, word, numeral, quoted, assigned, operator, prefix, access, mark, piece_text, operator_text, prefix_text, gap, binds_left, binds_right, written, pieces, wrapped, arguments, further}
+use Rattle.tsa_print.specs.Canonical.{Piece, word, numeral, quoted, assigned, operator, prefix, access, mark, piece_text, operator_text}
+use Rattle.tsa_print.specs.Canonical.{prefix_text, gap, binds_left, binds_right, written, pieces, wrapped, arguments, further}
 use Rattle.tsa_print.proofs.Starts.{starts, starts-append, starts-pieces}
 
 -- the last piece is one that a blank may stand after

@@ -6,7 +6,8 @@ ghost use Rattle.tsa_tree.specs.expressions.Syntax.{nowhere};
 ghost use Rattle.tsa_tree.specs.declarations.Shapes.{base_shape, type_shape, init_shape, init_shapes, decl_shape, decl_shapes};
 ghost use Rattle.tsa_tree.specs.expressions.Shapes.{shape};
 ghost use Rattle.tsa_print.specs.Canonical.{word};
-ghost use Rattle.tsa_print.specs.DeclarationPieces.{base_pieces, const_pieces, star_pieces, type_pieces, length_pieces, initialiser_pieces, initialisers_pieces, further_pieces, init_pieces, declaration_pieces, members_pieces};
+ghost use Rattle.tsa_print.specs.DeclarationPieces.{base_pieces, const_pieces, star_pieces, type_pieces, length_pieces, initialiser_pieces};
+ghost use Rattle.tsa_print.specs.DeclarationPieces.{initialisers_pieces, further_pieces, init_pieces, declaration_pieces, members_pieces};
 ghost use Rattle.tsa_print.specs.Sheets.{page_of, put};
 
 use crate::attributes::put_attributes;

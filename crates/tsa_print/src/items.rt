@@ -3,13 +3,15 @@ ghost use Rattle.std.specs.Prelude.{◌≡◌, ◌++◌, ◌∷◌, [], OnOk, If
 ghost use Rattle.std.specs.Option.{option_map};
 ghost use Rattle.tsa_tree.specs.attributes.Syntax.{attr_shapes};
 ghost use Rattle.tsa_tree.specs.expressions.Syntax.{nowhere};
-ghost use Rattle.tsa_tree.specs.declarations.Shapes.{type_shape, decl_shape, decl_shapes, param_shape, param_shapes, enumerator_shape, enumerator_shapes, head_shape};
+ghost use Rattle.tsa_tree.specs.declarations.Shapes.{type_shape, decl_shape, decl_shapes, param_shape, param_shapes, enumerator_shape};
+ghost use Rattle.tsa_tree.specs.declarations.Shapes.{enumerator_shapes, head_shape};
 ghost use Rattle.tsa_tree.specs.expressions.Shapes.{name_shape, shape};
 ghost use Rattle.tsa_tree.specs.units.Shapes.{function_shape, item_shape, item_shapes};
 ghost use Rattle.tsa_tree.specs.units.Syntax.{structure_item, alias_item, enumeration_item, global_item};
 ghost use Rattle.tsa_print.specs.Canonical.{mark};
 ghost use Rattle.tsa_print.specs.declared.mark.Mark.TheVariants as marks;
-ghost use Rattle.tsa_print.specs.DeclarationPieces.{name_pieces, parameter_pieces, further_parameters, parameters_pieces, head_pieces, value_pieces, constant_pieces, further_constants, constants_pieces, typedef_pieces};
+ghost use Rattle.tsa_print.specs.DeclarationPieces.{name_pieces, parameter_pieces, further_parameters, parameters_pieces, head_pieces};
+ghost use Rattle.tsa_print.specs.DeclarationPieces.{value_pieces, constant_pieces, further_constants, constants_pieces, typedef_pieces};
 ghost use Rattle.tsa_print.specs.UnitPieces.{item_pieces, unit_pieces, canonical_unit};
 ghost use Rattle.tsa_print.specs.Sheets.{page_of, put};
 
@@ -131,7 +133,8 @@ fn put_typedef(sheet: &mut Sheet, alias: Option<Name<'_>>) -> Result<(), NoMemor
 // Puts an alias, where there is one, and the semicolon after it.
 #[tactic(auto, using(crate::proofs::Pages::put_append))]
 fn put_alias_end(sheet: &mut Sheet, alias: Option<Name<'_>>) -> Result<(), NoMemory>
-    ensures { OnOk result (page_of sheet.new ≡ put (page_of sheet.old) (name_pieces (option_map name_shape alias.entry) ++ mark marks.Semicolon ∷ [])) }
+    ensures { OnOk result (page_of sheet.new
+        ≡ put (page_of sheet.old) (name_pieces (option_map name_shape alias.entry) ++ mark marks.Semicolon ∷ [])) }
 {
     put_name(sheet, alias)?;
     sheet.put_mark(Mark::Semicolon)
@@ -139,7 +142,10 @@ fn put_alias_end(sheet: &mut Sheet, alias: Option<Name<'_>>) -> Result<(), NoMem
 
 #[tactic(auto, using(crate::proofs::Pages::put_append))]
 fn put_structure(sheet: &mut Sheet, structure: &StructDef<'_>) -> Result<(), NoMemory>
-    ensures { let s = structure.now in OnOk result (page_of sheet.new ≡ put (page_of sheet.old) (item_pieces (structure_item (option_map name_shape s.tag) (option_map name_shape s.alias) (attr_shapes s.attrs.now) (decl_shapes s.members.now) nowhere))) }
+    ensures { let s = structure.now in OnOk result
+        (page_of sheet.new ≡ put (page_of sheet.old)
+        (item_pieces (structure_item (option_map name_shape s.tag) (option_map name_shape s.alias) (attr_shapes s.attrs.now)
+        (decl_shapes s.members.now) nowhere))) }
 {
     put_typedef(sheet, structure.alias)?;
     sheet.put_word(b"struct")?;
@@ -153,7 +159,10 @@ fn put_structure(sheet: &mut Sheet, structure: &StructDef<'_>) -> Result<(), NoM
 
 #[tactic(auto, using(crate::proofs::Pages::put_append))]
 fn put_enumeration(sheet: &mut Sheet, enumeration: &EnumDef<'_>) -> Result<(), NoMemory>
-    ensures { let e = enumeration.now in OnOk result (page_of sheet.new ≡ put (page_of sheet.old) (item_pieces (enumeration_item (option_map name_shape e.tag) (option_map name_shape e.alias) (enumerator_shapes e.values.now) nowhere))) }
+    ensures { let e = enumeration.now in OnOk result
+        (page_of sheet.new ≡ put (page_of sheet.old)
+        (item_pieces (enumeration_item (option_map name_shape e.tag) (option_map name_shape e.alias) (enumerator_shapes e.values.now)
+        nowhere))) }
 {
     put_typedef(sheet, enumeration.alias)?;
     sheet.put_word(b"enum")?;
@@ -166,7 +175,8 @@ fn put_enumeration(sheet: &mut Sheet, enumeration: &EnumDef<'_>) -> Result<(), N
 
 #[tactic(auto, using(crate::proofs::Pages::put_append))]
 fn put_alias(sheet: &mut Sheet, alias: &AliasDef<'_>) -> Result<(), NoMemory>
-    ensures { let a = alias.now in OnOk result (page_of sheet.new ≡ put (page_of sheet.old) (item_pieces (alias_item (name_shape a.name) (type_shape a.ctype) nowhere))) }
+    ensures { let a = alias.now in OnOk result
+        (page_of sheet.new ≡ put (page_of sheet.old) (item_pieces (alias_item (name_shape a.name) (type_shape a.ctype) nowhere))) }
 {
     sheet.put_word(b"typedef")?;
     put_type(sheet, &alias.ctype)?;

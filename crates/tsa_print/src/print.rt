@@ -2,7 +2,8 @@
 ghost use Rattle.std.specs.Prelude.{◌≡◌, ◌++◌, [], if◌then◌else◌, IfOk, OnOk};
 ghost use Rattle.tsa_tree.specs.expressions.Syntax.{call, unary, binary, field, index, nowhere};
 ghost use Rattle.tsa_tree.specs.expressions.Shapes.{name_shape, shape, shapes};
-ghost use Rattle.tsa_print.specs.Canonical.{numeral, piece_text, operator_text as spec_operator_text, prefix_text as spec_prefix_text, pieces, arguments, written, canonical};
+ghost use Rattle.tsa_print.specs.Canonical.{numeral, piece_text, operator_text as spec_operator_text, prefix_text as spec_prefix_text};
+ghost use Rattle.tsa_print.specs.Canonical.{pieces, arguments, written, canonical};
 
 use itoa::Buffer;
 use std::alloc::Global;
@@ -169,7 +170,8 @@ fn write_field(
     name: Name<'_>,
     arrow: bool,
 ) -> Result<(), NoMemory>
-    ensures { OnOk result (out.new.items ≡ out.old.items ++ written (pieces (field (shape base.now) (name_shape name.entry) arrow nowhere) 0)) }
+    ensures { OnOk result (out.new.items ≡ out.old.items
+        ++ written (pieces (field (shape base.now) (name_shape name.entry) arrow nowhere) 0)) }
 {
     write_expr(out, base, 11)?;
     let sign: &'static [u8] = if arrow { b"->" } else { b"." };

@@ -8,7 +8,8 @@ ghost use Rattle.tsa_tree.specs.statements.Syntax.{assignment, do_loop};
 ghost use Rattle.tsa_tree.specs.statements.Shapes.{init_given, step_given, stmt_shape, stmt_shapes};
 ghost use Rattle.tsa_print.specs.Canonical.{word, pieces, mark};
 ghost use Rattle.tsa_print.specs.declared.mark.Mark.TheVariants as marks;
-ghost use Rattle.tsa_print.specs.UnitPieces.{simple_pieces, optional_pieces, test_pieces, for_init_pieces, for_step_pieces, statement_pieces, statements_pieces};
+ghost use Rattle.tsa_print.specs.UnitPieces.{simple_pieces, optional_pieces, test_pieces, for_init_pieces, for_step_pieces};
+ghost use Rattle.tsa_print.specs.UnitPieces.{statement_pieces, statements_pieces};
 ghost use Rattle.tsa_print.specs.DeclarationPieces.{declaration_pieces};
 ghost use Rattle.tsa_print.specs.Sheets.{page_of, put, for_pieces, if_pieces};
 
@@ -28,7 +29,8 @@ fn put_assignment(
     op: Option<BinaryOp>,
     right: &Expr<'_>,
 ) -> Result<(), NoMemory>
-    ensures { OnOk result (page_of sheet.new ≡ put (page_of sheet.old) (simple_pieces (assignment (shape left.now) op (shape right.now) nowhere))) }
+    ensures { OnOk result (page_of sheet.new
+        ≡ put (page_of sheet.old) (simple_pieces (assignment (shape left.now) op (shape right.now) nowhere))) }
 {
     sheet.put_expr(left, 10)?;
     sheet.put_assigned(op)?;
@@ -82,7 +84,8 @@ fn put_for(
     test: Option<&Expr<'_>>,
     step: Option<&Stmt<'_>>,
 ) -> Result<(), NoMemory>
-    ensures { OnOk result (page_of sheet.new ≡ put (page_of sheet.old) (for_pieces (init_given init.entry) (option_map (λ x. shape x.now) test.entry) (step_given step.entry))) }
+    ensures { OnOk result (page_of sheet.new
+        ≡ put (page_of sheet.old) (for_pieces (init_given init.entry) (option_map (λ x. shape x.now) test.entry) (step_given step.entry))) }
 {
     sheet.put_word(b"for")?;
     sheet.put_mark(Mark::OpenParenthesis)?;
@@ -116,7 +119,8 @@ fn put_labelled(sheet: &mut Sheet, text: &[u8]) -> Result<(), NoMemory>
 // Puts a `case` with its value and a colon.
 #[tactic(auto, using(crate::proofs::Pages::put_append))]
 fn put_case(sheet: &mut Sheet, value: &Expr<'_>) -> Result<(), NoMemory>
-    ensures { OnOk result (page_of sheet.new ≡ put (page_of sheet.old) (word (codes "case") ∷ (pieces (shape value.now) 0 ++ mark marks.Colon ∷ []))) }
+    ensures { OnOk result (page_of sheet.new
+        ≡ put (page_of sheet.old) (word (codes "case") ∷ (pieces (shape value.now) 0 ++ mark marks.Colon ∷ []))) }
 {
     sheet.put_word(b"case")?;
     sheet.put_expr(value, 0)?;
@@ -126,7 +130,8 @@ fn put_case(sheet: &mut Sheet, value: &Expr<'_>) -> Result<(), NoMemory>
 // Puts a declaration as a statement.
 #[tactic(auto, using(crate::proofs::Pages::put_append))]
 fn put_local(sheet: &mut Sheet, decl: &Decl<'_>) -> Result<(), NoMemory>
-    ensures { OnOk result (page_of sheet.new ≡ put (page_of sheet.old) (declaration_pieces (decl_shape decl.now) ++ mark marks.Semicolon ∷ [])) }
+    ensures { OnOk result (page_of sheet.new
+        ≡ put (page_of sheet.old) (declaration_pieces (decl_shape decl.now) ++ mark marks.Semicolon ∷ [])) }
 {
     put_declaration(sheet, decl)?;
     sheet.put_mark(Mark::Semicolon)
@@ -149,7 +154,8 @@ fn put_changed(
     op: Option<BinaryOp>,
     right: &Expr<'_>,
 ) -> Result<(), NoMemory>
-    ensures { OnOk result (page_of sheet.new ≡ put (page_of sheet.old) (simple_pieces (assignment (shape left.now) op (shape right.now) nowhere) ++ mark marks.Semicolon ∷ [])) }
+    ensures { OnOk result (page_of sheet.new
+        ≡ put (page_of sheet.old) (simple_pieces (assignment (shape left.now) op (shape right.now) nowhere) ++ mark marks.Semicolon ∷ [])) }
 {
     put_assignment(sheet, left, op, right)?;
     sheet.put_mark(Mark::Semicolon)
@@ -165,7 +171,8 @@ fn put_jump(sheet: &mut Sheet, text: &[u8]) -> Result<(), NoMemory>
 
 // Puts a `goto` with its label and a semicolon.
 fn put_goto(sheet: &mut Sheet, name: Name<'_>) -> Result<(), NoMemory>
-    ensures { OnOk result (page_of sheet.new ≡ put (page_of sheet.old) (word (codes "goto") ∷ (word name.entry.text.now ∷ (mark marks.Semicolon ∷ [])))) }
+    ensures { OnOk result (page_of sheet.new
+        ≡ put (page_of sheet.old) (word (codes "goto") ∷ (word name.entry.text.now ∷ (mark marks.Semicolon ∷ [])))) }
 {
     sheet.put_word(b"goto")?;
     put_jump(sheet, name.text)
@@ -174,7 +181,9 @@ fn put_goto(sheet: &mut Sheet, name: Name<'_>) -> Result<(), NoMemory>
 // Puts a `return` with its value, where it has one, and a semicolon.
 #[tactic(auto, using(crate::proofs::Pages::put_append))]
 fn put_return(sheet: &mut Sheet, value: Option<&Expr<'_>>) -> Result<(), NoMemory>
-    ensures { OnOk result (page_of sheet.new ≡ put (page_of sheet.old) (word (codes "return") ∷ (optional_pieces (option_map (λ x. shape x.now) value.entry) ++ mark marks.Semicolon ∷ []))) }
+    ensures { OnOk result (page_of sheet.new
+        ≡ put (page_of sheet.old) (word (codes "return") ∷
+        (optional_pieces (option_map (λ x. shape x.now) value.entry) ++ mark marks.Semicolon ∷ []))) }
 {
     sheet.put_word(b"return")?;
     put_optional(sheet, value)?;
@@ -185,7 +194,8 @@ fn put_return(sheet: &mut Sheet, value: Option<&Expr<'_>>) -> Result<(), NoMemor
 #[cycle(statements)]
 #[tactic(auto, using(crate::proofs::Pages::put_append))]
 fn put_statement(sheet: &mut Sheet, stmt: &Stmt<'_>, closing: Mark) -> Result<(), NoMemory>
-    ensures { OnOk result (page_of sheet.new ≡ put (page_of sheet.old) (statement_pieces closing (stmt_shape stmt.now.kind stmt.now.span))) }
+    ensures { OnOk result (page_of sheet.new ≡ put (page_of sheet.old) (statement_pieces closing (stmt_shape stmt.now.kind stmt.now.span)))
+        }
 {
     match &stmt.kind {
         StmtKind::Block(items) => put_block(sheet, items, closing),
@@ -225,7 +235,9 @@ fn put_under_test(
     test: &Expr<'_>,
     body: &Stmt<'_>,
 ) -> Result<(), NoMemory>
-    ensures { OnOk result (page_of sheet.new ≡ put (page_of sheet.old) (word text.now ∷ (test_pieces (shape test.now) ++ statement_pieces marks.CloseBlock (stmt_shape body.now.kind body.now.span)))) }
+    ensures { OnOk result (page_of sheet.new
+        ≡ put (page_of sheet.old) (word text.now ∷
+        (test_pieces (shape test.now) ++ statement_pieces marks.CloseBlock (stmt_shape body.now.kind body.now.span)))) }
 {
     put_tested(sheet, text, test)?;
     put_statement(sheet, body, Mark::CloseBlock)
@@ -234,7 +246,9 @@ fn put_under_test(
 // Puts a word, a colon, and a statement.
 #[cycle(statements)]
 fn put_under_label(sheet: &mut Sheet, text: &[u8], body: &Stmt<'_>) -> Result<(), NoMemory>
-    ensures { OnOk result (page_of sheet.new ≡ put (page_of sheet.old) (word text.now ∷ (mark marks.Colon ∷ statement_pieces marks.CloseBlock (stmt_shape body.now.kind body.now.span)))) }
+    ensures { OnOk result (page_of sheet.new
+        ≡ put (page_of sheet.old) (word text.now ∷
+        (mark marks.Colon ∷ statement_pieces marks.CloseBlock (stmt_shape body.now.kind body.now.span)))) }
 {
     put_labelled(sheet, text)?;
     put_statement(sheet, body, Mark::CloseBlock)
@@ -244,7 +258,9 @@ fn put_under_label(sheet: &mut Sheet, text: &[u8], body: &Stmt<'_>) -> Result<()
 #[cycle(statements)]
 #[tactic(auto, using(crate::proofs::Pages::put_append))]
 fn put_under_case(sheet: &mut Sheet, value: &Expr<'_>, body: &Stmt<'_>) -> Result<(), NoMemory>
-    ensures { OnOk result (page_of sheet.new ≡ put (page_of sheet.old) (word (codes "case") ∷ (pieces (shape value.now) 0 ++ (mark marks.Colon ∷ statement_pieces marks.CloseBlock (stmt_shape body.now.kind body.now.span))))) }
+    ensures { OnOk result (page_of sheet.new
+        ≡ put (page_of sheet.old) (word (codes "case") ∷
+        (pieces (shape value.now) 0 ++ (mark marks.Colon ∷ statement_pieces marks.CloseBlock (stmt_shape body.now.kind body.now.span))))) }
 {
     put_case(sheet, value)?;
     put_statement(sheet, body, Mark::CloseBlock)
@@ -259,7 +275,8 @@ fn put_if(
     arm: &Stmt<'_>,
     other: Option<&Stmt<'_>>,
 ) -> Result<(), NoMemory>
-    ensures { OnOk result (page_of sheet.new ≡ put (page_of sheet.old) (if_pieces (shape test.now) (stmt_shape arm.now.kind arm.now.span) other.entry)) }
+    ensures { OnOk result (page_of sheet.new
+        ≡ put (page_of sheet.old) (if_pieces (shape test.now) (stmt_shape arm.now.kind arm.now.span) other.entry)) }
 {
     put_under_test(sheet, b"if", test, arm)?;
     match other {
@@ -275,7 +292,9 @@ fn put_if(
 #[cycle(statements)]
 #[tactic(auto, using(crate::proofs::Pages::put_append))]
 fn put_do(sheet: &mut Sheet, body: &Stmt<'_>, test: &Expr<'_>) -> Result<(), NoMemory>
-    ensures { OnOk result (page_of sheet.new ≡ put (page_of sheet.old) (statement_pieces marks.CloseBlock (do_loop (stmt_shape body.now.kind body.now.span) (shape test.now) nowhere))) }
+    ensures { OnOk result (page_of sheet.new
+        ≡ put (page_of sheet.old) (statement_pieces marks.CloseBlock
+        (do_loop (stmt_shape body.now.kind body.now.span) (shape test.now) nowhere))) }
 {
     sheet.put_word(b"do")?;
     put_statement(sheet, body, Mark::CloseBody)?;
@@ -287,7 +306,8 @@ fn put_do(sheet: &mut Sheet, body: &Stmt<'_>, test: &Expr<'_>) -> Result<(), NoM
 #[cycle(statements)]
 #[tactic(auto, using(crate::proofs::Pages::put_append))]
 pub fn put_block(sheet: &mut Sheet, items: &[Stmt<'_>], closing: Mark) -> Result<(), NoMemory>
-    ensures { OnOk result (page_of sheet.new ≡ put (page_of sheet.old) (mark marks.OpenBlock ∷ (statements_pieces (stmt_shapes items.now) ++ mark closing ∷ []))) }
+    ensures { OnOk result (page_of sheet.new
+        ≡ put (page_of sheet.old) (mark marks.OpenBlock ∷ (statements_pieces (stmt_shapes items.now) ++ mark closing ∷ []))) }
 {
     sheet.put_mark(Mark::OpenBlock)?;
     put_statements(sheet, items)?;

@@ -1,5 +1,6 @@
 -- The paths at the points of a body are those at the points of the core program, by the functions that are declared up to there.
-use Rattle.std.proofs.Common.{◌≡◌, ◌∙◌, ℕ, Bool, List, [], ◌∷◌, ◌++◌, All, map, Option, Some, None, option_map, option_and_then, unwrap_or, slice_get, refl, sym, ap, ap₂, subst}
+use Rattle.std.proofs.Common.{◌≡◌, ◌∙◌, ℕ, Bool, List, [], ◌∷◌, ◌++◌, All, map, Option, Some, None, option_map, option_and_then, unwrap_or}
+use Rattle.std.proofs.Common.{slice_get, refl, sym, ap, ap₂, subst}
 use Rattle.std.proofs.lemmas.List.Elements.{All-head, All-tail}
 use Rattle.std.specs.List.{flat_map}
 use Rattle.tsa_base.specs.declared.token.Span.{Span}

@@ -1,5 +1,7 @@
 -- A constant place of an initialiser is a place of an earlier global, const and guarded as its expression is.
-use Rattle.std.proofs.Common.{◌≡◌, ◌∙◌, ℕ, zero, suc, ◌<◌, ◌≤◌, arith, pos, negsuc, nat_lt, nat_eq, Bool, true, false, not, ◌||◌, List, [], ◌∷◌, ◌++◌, length, map, Option, Some, None, is_some, option_map, option_and_then, slice_get, refl, sym, ap, ap₂, subst, if◌then◌else◌, eqb-true}
+use Rattle.std.proofs.Common.{◌≡◌, ◌∙◌, ℕ, zero, suc, ◌<◌, ◌≤◌, arith, pos, negsuc, nat_lt, nat_eq, Bool, true, false, not, ◌||◌, List, []}
+use Rattle.std.proofs.Common.{◌∷◌, ◌++◌, length, map, Option, Some, None, is_some, option_map, option_and_then, slice_get, refl, sym, ap}
+use Rattle.std.proofs.Common.{ap₂, subst, if◌then◌else◌, eqb-true}
 use Rattle.std.proofs.lemmas.Bool.Decides.{nat_tests}
 use Rattle.tsa_tree.specs.declared.kind.ExpressionType.{ExpressionType}
 use Rattle.tsa_tree.specs.declared.kind.Kind.{Kind}
@@ -39,7 +41,8 @@ use Rattle.tsa_core.proofs.ScopesAlike.{Alike, no_function, known_alike}
 use Rattle.tsa_core.proofs.TypedTerms.{some_same, terms_have_types, member_numbered}
 use Rattle.tsa_path.proofs.ArgumentPaths.{bound}
 use Rattle.tsa_path.proofs.Pointers.{spot_of, spot_onward}
-use Rattle.tsa_path.proofs.StandDeclared.{Marks, marks, part_marks, inner_marks, StandsAs, Heads, global_marked, member_marked, element_marked}
+use Rattle.tsa_path.proofs.StandDeclared.{Marks, marks, part_marks, inner_marks, StandsAs, Heads, global_marked, member_marked}
+use Rattle.tsa_path.proofs.StandDeclared.{element_marked}
 use Rattle.tsa_path.proofs.StepsBehind.{Inner, member_by, Piece, element_by}
 use Rattle.tsa_profile_accesses.specs.Locks.{is_empty}
 use Rattle.tsa_base.proofs.Truths.{never}

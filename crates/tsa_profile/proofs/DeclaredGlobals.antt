@@ -1,5 +1,6 @@
 -- A global that is declared behind all items of a unit holds at the start what its initialiser is worth there.
-use Rattle.std.proofs.Common.{◌≡◌, ◌∙◌, ℕ, suc, Bool, true, false, not, ◌&&◌, List, [], ◌∷◌, ◌++◌, length, Option, Some, None, Ok, is_none, slice_get, if◌then◌else◌, refl, sym, ap, ap₂, subst}
+use Rattle.std.proofs.Common.{◌≡◌, ◌∙◌, ℕ, suc, Bool, true, false, not, ◌&&◌, List, [], ◌∷◌, ◌++◌, length, Option, Some, None, Ok, is_none}
+use Rattle.std.proofs.Common.{slice_get, if◌then◌else◌, refl, sym, ap, ap₂, subst}
 use Rattle.std.specs.declared.result.Result.{Result}
 use Rattle.tsa_base.specs.declared.token.Span.{Span}
 use Rattle.tsa_base.specs.declared.value.Value.{Value}

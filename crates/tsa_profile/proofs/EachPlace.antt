@@ -1,5 +1,6 @@
 -- What holds of each piece that its initialiser fits holds of all the places of a thing that its initialiser fits.
-use Rattle.std.proofs.Common.{◌≡◌, ℕ, zero, suc, ◌+◌, ◌<◌, ◌≤◌, arith, List, [], ◌∷◌, ◌++◌, length, Option, Some, None, slice_get, refl, sym, subst}
+use Rattle.std.proofs.Common.{◌≡◌, ℕ, zero, suc, ◌+◌, ◌<◌, ◌≤◌, arith, List, [], ◌∷◌, ◌++◌, length, Option, Some, None, slice_get, refl}
+use Rattle.std.proofs.Common.{sym, subst}
 use Rattle.tsa_tree.specs.declarations.Syntax.{Initialiser}
 use Rattle.tsa_tree.specs.declared.kind.Kind.{Kind}
 use Rattle.tsa_tree.specs.declared.kind.Kind.TheVariants as type
@@ -7,7 +8,8 @@ use Rattle.tsa_tree.specs.declared.kind.ThingType.{ThingType}
 use Rattle.tsa_tree.specs.types.Types.{single}
 use Rattle.tsa_place_model.specs.declared.place.Placed.{Placed}
 use Rattle.tsa_place_model.specs.Layouts.{Part, Structures, kind_size, size_of, thing_size, structure_at}
-use Rattle.tsa_place_model.specs.Places.{Given, Values, item_of, a_place, element_of, member_of, kind_places, elements_places, thing_places, members_places, places_inside}
+use Rattle.tsa_place_model.specs.Places.{Given, Values, item_of, a_place, element_of, member_of, kind_places, elements_places, thing_places}
+use Rattle.tsa_place_model.specs.Places.{members_places, places_inside}
 use Rattle.tsa_place_model.specs.Standing.{IsBelow, IsOrdered}
 use Rattle.tsa_place_model.proofs.Standing.{below_more, object_is}
 use Rattle.tsa_place_model.proofs.LaterStructs.{own_members_below, all_at}

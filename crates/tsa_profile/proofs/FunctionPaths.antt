@@ -12,7 +12,8 @@ use Rattle.tsa_tree.specs.units.Syntax.{UnitItem}
 use Rattle.tsa_place_model.specs.LockPaths.{stable_in}
 use Rattle.tsa_place_model.specs.Ways.{Way}
 use Rattle.tsa_core.specs.Bodies.{known_in_body, body_of}
-use Rattle.tsa_core.specs.Programs.{Bodied, Declared, Function, Program, attrs_of, bodied_function, declared_functions, function_in, function_of, program_of, stable_locals}
+use Rattle.tsa_core.specs.Programs.{Bodied, Declared, Function, Program, attrs_of, bodied_function, declared_functions, function_in}
+use Rattle.tsa_core.specs.Programs.{function_of, program_of, stable_locals}
 use Rattle.tsa_core.specs.Uses.{uses_of}
 use Rattle.tsa_profile_points.specs.Ways.{each_once, named_ways, present, unless_many}
 use Rattle.tsa_profile.specs.Paths.{paths_if, paths_of, points_ways}

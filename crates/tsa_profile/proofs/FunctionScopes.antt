@@ -1,5 +1,6 @@
 -- Functions are known by their names, with their numbers, and with whether their bodies came.
-use Rattle.std.proofs.Common.{◌≡◌, ◌∙◌, ℕ, zero, suc, ◌+◌, arith, Bool, true, false, ◌&&◌, List, [], ◌∷◌, ◌++◌, length, Option, Some, None, is_some, slice_get, slice_set, if◌then◌else◌, refl, sym, ap, subst}
+use Rattle.std.proofs.Common.{◌≡◌, ◌∙◌, ℕ, zero, suc, ◌+◌, arith, Bool, true, false, ◌&&◌, List, [], ◌∷◌, ◌++◌, length, Option, Some, None}
+use Rattle.std.proofs.Common.{is_some, slice_get, slice_set, if◌then◌else◌, refl, sym, ap, subst}
 use Rattle.std.proofs.lemmas.List.{append-nil, length-append, length-set}
 use Rattle.std.proofs.lemmas.Slice.Eq.{bytes_eq-Decides}
 use Rattle.std.specs.Str.{bytes_eq}
@@ -7,7 +8,8 @@ use Rattle.tsa_tree.specs.declarations.Syntax.{Head}
 use Rattle.tsa_tree.specs.declared.meaning.Entry.{Entry}
 use Rattle.tsa_tree.specs.declared.meaning.Meaning.{Meaning}
 use Rattle.tsa_tree.specs.declared.meaning.Meaning.TheVariants as meant
-use Rattle.tsa_tree.specs.types.Heads.{is_another, by_meaning, differs, declares_function, function_entry, or_body, bodied, again, behind_known, behind_head}
+use Rattle.tsa_tree.specs.types.Heads.{is_another, by_meaning, differs, declares_function, function_entry, or_body, bodied, again}
+use Rattle.tsa_tree.specs.types.Heads.{behind_known, behind_head}
 use Rattle.tsa_tree.specs.types.Scopes.{Scope, FunctionEntry, found}
 use Rattle.tsa_tree.specs.types.Symbols.{function_or_next, meant_function, number_of}
 use Rattle.tsa_place_model.proofs.GlobalsInRow.{front_at, last_at, by_last}

@@ -1,5 +1,6 @@
 -- What the profile asks of attributes and of functions by their heads is what the machine wants of them.
-use Rattle.std.proofs.Common.{◌≡◌, ◌∙◌, ℕ, nat_eq, Bool, true, false, not, ◌&&◌, ◌||◌, List, [], ◌∷◌, ◌++◌, length, None, is_some, is_none, refl}
+use Rattle.std.proofs.Common.{◌≡◌, ◌∙◌, ℕ, nat_eq, Bool, true, false, not, ◌&&◌, ◌||◌, List, [], ◌∷◌, ◌++◌, length, None, is_some, is_none}
+use Rattle.std.proofs.Common.{refl}
 use Rattle.std.specs.List.{list_any}
 use Rattle.tsa_tree.specs.attributes.Syntax.{Attribute}
 use Rattle.tsa_tree.specs.declarations.Syntax.{Parameter, Head}
@@ -10,7 +11,8 @@ use Rattle.tsa_tree.specs.expressions.Syntax.{Expression, Arguments, none, more}
 use Rattle.tsa_tree.specs.points.Syntax.{expression_span}
 use Rattle.tsa_tree.specs.types.DeclaredTypes.{thing_type}
 use Rattle.tsa_tree.specs.types.Heads.{with_param}
-use Rattle.tsa_tree.specs.types.Runnable.{has_call, have_call, is_free, are_free, is_small, is_lock_function, is_environment, has_body, no_generic, params_run, kind_runs, first_runs, head_runs, is_generic}
+use Rattle.tsa_tree.specs.types.Runnable.{has_call, have_call, is_free, are_free, is_small, is_lock_function, is_environment, has_body}
+use Rattle.tsa_tree.specs.types.Runnable.{no_generic, params_run, kind_runs, first_runs, head_runs, is_generic}
 use Rattle.tsa_tree.specs.types.Runnable as run
 use Rattle.tsa_tree.specs.types.Scopes.{Scope, found}
 use Rattle.tsa_tree.specs.units.Syntax.{UnitItem}
@@ -21,7 +23,9 @@ use Rattle.tsa_profile_accesses.specs.declared.premise.ProfileCode.TheVariants.{
 use Rattle.tsa_profile_accesses.specs.Premises.{premise, first}
 use Rattle.tsa_profile_accesses.specs.declared.standing.Standing.TheVariants.{Inside}
 use Rattle.tsa_profile_accesses.specs.Expressions.{View, own, parts}
-use Rattle.tsa_profile_declarations.specs.Declarations.{way, is_order, is_named_once, is_among, is_call, argument, with_way, ways_behind, attribute_arguments, guard_premises, misfits, attribute_premises, param_premises, is_nothing, head_premises}
+use Rattle.tsa_profile_declarations.specs.Declarations.{way, is_order, is_named_once, is_among, is_call, argument, with_way, ways_behind}
+use Rattle.tsa_profile_declarations.specs.Declarations.{attribute_arguments, guard_premises, misfits, attribute_premises, param_premises}
+use Rattle.tsa_profile_declarations.specs.Declarations.{is_nothing, head_premises}
 use Rattle.tsa_profile_guards.proofs.NoneFails.{none_of_both, none_of_first}
 use Rattle.tsa_profile.proofs.CallsStand.{neither_has, keeps_free}
 use Rattle.tsa_base.proofs.Truths.{never}

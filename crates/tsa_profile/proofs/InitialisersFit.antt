@@ -1,5 +1,6 @@
 -- What a typed initialiser gives to a cell is a value of its kind.
-use Rattle.std.proofs.Common.{◌≡◌, ◌∙◌, ℕ, zero, suc, ◌<◌, arith, true, List, [], ◌∷◌, drop, map, Option, Some, None, slice_get, refl, sym, ap}
+use Rattle.std.proofs.Common.{◌≡◌, ◌∙◌, ℕ, zero, suc, ◌<◌, arith, true, List, [], ◌∷◌, drop, map, Option, Some, None, slice_get, refl, sym}
+use Rattle.std.proofs.Common.{ap}
 use Rattle.tsa_tree.specs.declarations.Sound.{SoundInit, SoundInitialisers}
 use Rattle.tsa_tree.specs.declarations.Syntax.{Initialiser, Initialisers, value, list, no_more, one_more}
 use Rattle.tsa_tree.specs.declared.kind.Kind.TheVariants as type

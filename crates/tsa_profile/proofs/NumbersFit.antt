@@ -1,5 +1,6 @@
 -- An `int` that a constant expression is worked out to is in the range of `int`, where the enumerators that are known are.
-use Rattle.std.proofs.Common.{◌≡◌, ℕ, zero, suc, ◌-◌, ◌/◌, ◌%◌, ◌^◌, ◌≤◌, ℤ, pos, negsuc, neg_ℤ, ◌+ℤ◌, ◌-ℤ◌, ◌*ℤ◌, int_div, int_rem, arith, nat_lt, nat_le, List, Bool, true, false, Option, Some, None, Result, Ok, Err, if◌then◌else◌, refl, subst}
+use Rattle.std.proofs.Common.{◌≡◌, ℕ, zero, suc, ◌-◌, ◌/◌, ◌%◌, ◌^◌, ◌≤◌, ℤ, pos, negsuc, neg_ℤ, ◌+ℤ◌, ◌-ℤ◌, ◌*ℤ◌, int_div, int_rem, arith}
+use Rattle.std.proofs.Common.{nat_lt, nat_le, List, Bool, true, false, Option, Some, None, Result, Ok, Err, if◌then◌else◌, refl, subst}
 use Rattle.std.proofs.lemmas.Bool.Decides.{nat_tests}
 use Rattle.tsa_tree.specs.declared.expr.BinaryOp.{BinaryOp}
 use Rattle.tsa_tree.specs.declared.expr.BinaryOp.TheVariants as op
@@ -11,8 +12,10 @@ use Rattle.tsa_tree.specs.declared.number.Number.TheVariants as numeral
 use Rattle.tsa_tree.specs.declared.number.Trap.{Trap}
 use Rattle.tsa_tree.specs.declared.number.Trap.TheVariants.{Overflow}
 use Rattle.tsa_tree.specs.expressions.Syntax.{Expression, number, null, named, call, unary, binary, field, index}
-use Rattle.tsa_tree.specs.types.Arithmetic.{exactly, truth, unsigned_of, int_of, is_nonzero, is_int, on_int, on_unsigned, operate, operate_prefix, divided}
-use Rattle.tsa_tree.specs.types.Constants.{enumerator, number_value, named_value, go_on, as_truth, worked, worked_binary, without_trap, is_made_of_constants, constant_of}
+use Rattle.tsa_tree.specs.types.Arithmetic.{exactly, truth, unsigned_of, int_of, is_nonzero, is_int, on_int, on_unsigned, operate}
+use Rattle.tsa_tree.specs.types.Arithmetic.{operate_prefix, divided}
+use Rattle.tsa_tree.specs.types.Constants.{enumerator, number_value, named_value, go_on, as_truth, worked, worked_binary, without_trap}
+use Rattle.tsa_tree.specs.types.Constants.{is_made_of_constants, constant_of}
 use Rattle.tsa_tree.specs.types.DeclaredTypes.{typed_value, value_in}
 use Rattle.tsa_tree.specs.types.Expressions.{type_of}
 use Rattle.tsa_tree.specs.types.Known.{Context}

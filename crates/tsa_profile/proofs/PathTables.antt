@@ -1,5 +1,6 @@
 -- Behind the items of a typed unit the table of paths is that of the core program's functions.
-use Rattle.std.proofs.Common.{◌≡◌, ◌∙◌, ℕ, zero, suc, arith, Bool, true, false, List, [], ◌∷◌, ◌++◌, map, Option, Some, None, is_some, slice_get, slice_set, refl, sym, ap, ap₂, subst, append_assoc}
+use Rattle.std.proofs.Common.{◌≡◌, ◌∙◌, ℕ, zero, suc, arith, Bool, true, false, List, [], ◌∷◌, ◌++◌, map, Option, Some, None, is_some}
+use Rattle.std.proofs.Common.{slice_get, slice_set, refl, sym, ap, ap₂, subst, append_assoc}
 use Rattle.std.proofs.lemmas.List.{append-nil, map-append}
 use Rattle.std.proofs.lemmas.Slice.Eq.{bytes_eq-Decides}
 use Rattle.std.specs.Str.{bytes_eq}
@@ -20,7 +21,8 @@ use Rattle.tsa_tree.specs.types.Units.{outset, around_body, body_premises, behin
 use Rattle.tsa_tree.specs.units.Syntax.{UnitItem, structure_item, alias_item, enumeration_item, global_item, function_item, body_item}
 use Rattle.tsa_tree.proofs.types.UnitNodes.{premises_tell_it}
 use Rattle.tsa_place_model.specs.Ways.{Way}
-use Rattle.tsa_core.specs.Programs.{Bodied, Declared, Program, unless_known, first_head, declared_by, declared_functions, bodied_by, bodied_function, function_in, function_of, program_of}
+use Rattle.tsa_core.specs.Programs.{Bodied, Declared, Program, unless_known, first_head, declared_by, declared_functions, bodied_by}
+use Rattle.tsa_core.specs.Programs.{bodied_function, function_in, function_of, program_of}
 use Rattle.tsa_core.specs.Programs as program
 use Rattle.tsa_core.proofs.NoFailure.{none_of_both}
 use Rattle.tsa_core.proofs.TypedTerms.{some_same}
@@ -32,7 +34,8 @@ use Rattle.tsa_profile.specs.Tables.{PathsAreThoseOfTheCore}
 use Rattle.tsa_profile_context.specs.Units.{Unit, attributes_by, attributes_behind, paths_at, points_in, unit_of}
 use Rattle.tsa_profile.proofs.AddedNames.{adds_structure, adds_alias, adds_enumeration, adds_global}
 use Rattle.tsa_profile.proofs.FunctionPaths.{functions_are, body_paths}
-use Rattle.tsa_profile.proofs.FunctionScopes.{Bodies, IsMarked, Stands, TellsBody, stands_data, one_meant, head_stands, none_came, body_told}
+use Rattle.tsa_profile.proofs.FunctionScopes.{Bodies, IsMarked, Stands, TellsBody, stands_data, one_meant, head_stands, none_came}
+use Rattle.tsa_profile.proofs.FunctionScopes.{body_told}
 
 -- Lists whose parts are mapped.
 mapped_same : {A B : Type 0} (f g : A → B) (xs : List A) → ((n : ℕ) (x : A) → slice_get xs n ≡ Some x → g x ≡ f x) → map f xs ≡ map g xs

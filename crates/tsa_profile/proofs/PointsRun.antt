@@ -7,7 +7,9 @@ use Rattle.tsa_tree.specs.declared.kind.ThingType.{ThingType}
 use Rattle.tsa_tree.specs.declared.premise.TypeCode.TheVariants.{TY2, TY3, TY7, TY9}
 use Rattle.tsa_tree.specs.expressions.Syntax.{Expression}
 use Rattle.tsa_tree.specs.points.Syntax.{declares, switches, returns, expression_span}
-use Rattle.tsa_tree.specs.statements.Syntax.{Simple, evaluation, assignment, ForInit, no_init, simple_init, local_init, Statement, block, empty, local, simple, if_alone, if_else, while_loop, do_loop, for_loop, switch, case, otherwise, label, break, continue, goto, return, Statements, none, more}
+use Rattle.tsa_tree.specs.statements.Syntax.{Simple, evaluation, assignment, ForInit, no_init, simple_init, local_init, Statement, block}
+use Rattle.tsa_tree.specs.statements.Syntax.{empty, local, simple, if_alone, if_else, while_loop, do_loop, for_loop, switch, case}
+use Rattle.tsa_tree.specs.statements.Syntax.{otherwise, label, break, continue, goto, return, Statements, none, more}
 use Rattle.tsa_tree.specs.types.Constants.{constant_of}
 use Rattle.tsa_tree.specs.types.DeclaredTypes.{thing_type, value_in, constant_premises}
 use Rattle.tsa_tree.specs.types.Expressions.{type_of, premises_of, known_and}
@@ -15,17 +17,21 @@ use Rattle.tsa_tree.specs.types.Known.{Context}
 use Rattle.tsa_tree.specs.types.Locals.{init_breaks, local_premises}
 use Rattle.tsa_tree.specs.types.Operands.{is_scalar, is_integer, lacks}
 use Rattle.tsa_tree.specs.types.Premises as types
-use Rattle.tsa_tree.specs.types.Runnable.{has_call, is_free, is_whole, is_condition, is_condition_given, is_whole_given, is_whole_init, is_small, local_runs, simple_runs, init_runs, step_runs, statement_runs, statements_run}
+use Rattle.tsa_tree.specs.types.Runnable.{has_call, is_free, is_whole, is_condition, is_condition_given, is_whole_given, is_whole_init}
+use Rattle.tsa_tree.specs.types.Runnable.{is_small, local_runs, simple_runs, init_runs, step_runs, statement_runs, statements_run}
 use Rattle.tsa_tree.specs.types.Scopes.{Scope, context_of, further}
 use Rattle.tsa_tree.specs.types.Simple.{tested_premises}
 use Rattle.tsa_tree.specs.types.Statements as stated
-use Rattle.tsa_tree.specs.types.Statements.{statement_premises, statements_premises, case_premises, default_premises, label_premises, for_premises, for_test, unless_again, is_again, simple_premises, step_premises, test_premises, init_premises, in_a_loop, in_a_switch, is_case_again, behind, behind_init}
+use Rattle.tsa_tree.specs.types.Statements.{statement_premises, statements_premises, case_premises, default_premises, label_premises}
+use Rattle.tsa_tree.specs.types.Statements.{for_premises, for_test, unless_again, is_again, simple_premises, step_premises, test_premises}
+use Rattle.tsa_tree.specs.types.Statements.{init_premises, in_a_loop, in_a_switch, is_case_again, behind, behind_init}
 use Rattle.tsa_tree.specs.types.Targets.{declared_in}
 use Rattle.tsa_core.proofs.DeedsTold.{init_told}
 use Rattle.tsa_core.proofs.KindTests.{not_false, and_true}
 use Rattle.tsa_core.proofs.NoFailure as typing
 use Rattle.tsa_core.proofs.ValuesServe.{constant_free}
-use Rattle.tsa_core_points.specs.Points.{PlacedPoint, placed, placed_simple, placed_init, placed_step, placed_test, placed_for, placed_in, placed_all}
+use Rattle.tsa_core_points.specs.Points.{PlacedPoint, placed, placed_simple, placed_init, placed_step, placed_test, placed_for, placed_in}
+use Rattle.tsa_core_points.specs.Points.{placed_all}
 use Rattle.tsa_profile_accesses.specs.declared.premise.ProfileCode.TheVariants.{PF4, PF7}
 use Rattle.tsa_profile_accesses.specs.Premises.{first}
 use Rattle.tsa_profile_accesses.specs.declared.standing.Standing.TheVariants.{Whole, Inside}

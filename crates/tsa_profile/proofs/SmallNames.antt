@@ -1,5 +1,6 @@
 -- The enumerators that are known behind the items of a unit are in the range of `int`.
-use Rattle.std.proofs.Common.{◌≡◌, ℕ, ℤ, pos, ◌+ℤ◌, Bool, true, false, List, [], ◌∷◌, All, IfSome, Option, Some, None, if◌then◌else◌, refl, sym, subst}
+use Rattle.std.proofs.Common.{◌≡◌, ℕ, ℤ, pos, ◌+ℤ◌, Bool, true, false, List, [], ◌∷◌, All, IfSome, Option, Some, None, if◌then◌else◌, refl}
+use Rattle.std.proofs.Common.{sym, subst}
 use Rattle.std.proofs.lemmas.List.Elements.{All-append, All-cons, All-nil}
 use Rattle.std.proofs.lemmas.Map.Entries.{All-lookup}
 use Rattle.std.specs.Str.{bytes_eq}
@@ -17,7 +18,8 @@ use Rattle.tsa_tree.specs.types.Constants.{enumerator}
 use Rattle.tsa_tree.specs.types.DeclaredTypes.{thing_type, value_in}
 use Rattle.tsa_tree.specs.types.Enums.{int_value, value_or_zero, enumerator_entry}
 use Rattle.tsa_tree.specs.types.Globals.{global_entry}
-use Rattle.tsa_tree.specs.types.Scopes.{Scope, Members, found, context_of, known_in, with_name, with_named, with_struct, a_type_name, is_taken, is_named_taken}
+use Rattle.tsa_tree.specs.types.Scopes.{Scope, Members, found, context_of, known_in, with_name, with_named, with_struct, a_type_name}
+use Rattle.tsa_tree.specs.types.Scopes.{is_taken, is_named_taken}
 use Rattle.tsa_tree.specs.types.Types.{single}
 use Rattle.tsa_tree.specs.units.Syntax.{UnitItem, structure_item, alias_item, enumeration_item, global_item, function_item, body_item}
 use Rattle.tsa_place_model.specs.Parts.{members_after, unless, unless_taken, unless_named}

@@ -1,5 +1,7 @@
 -- Behind each item of a typed unit the cells so far hold values of their kinds at the start.
-use Rattle.std.proofs.Common.{◌≡◌, ◌∙◌, ℕ, zero, suc, ◌<◌, arith, nat_eq, Bool, true, false, not, All, IfSome, List, [], ◌∷◌, ◌++◌, length, slice_index_or, Option, Some, None, is_some, option_map, slice_get, Result, Ok, refl, sym, ap, subst, if◌then◌else◌}
+use Rattle.std.proofs.Common.{◌≡◌, ◌∙◌, ℕ, zero, suc, ◌<◌, arith, nat_eq, Bool, true, false, not, All, IfSome, List, [], ◌∷◌, ◌++◌, length}
+use Rattle.std.proofs.Common.{slice_index_or, Option, Some, None, is_some, option_map, slice_get, Result, Ok, refl, sym, ap, subst}
+use Rattle.std.proofs.Common.{if◌then◌else◌}
 use Rattle.std.proofs.lemmas.List.Elements.{All-append, All-cons, All-nil}
 use Rattle.std.proofs.lemmas.Map.Entries.{All-lookup}
 use Rattle.std.specs.Str.{bytes_eq}
@@ -18,14 +20,16 @@ use Rattle.tsa_tree.specs.declared.meaning.Meaning.TheVariants as meant
 use Rattle.tsa_tree.specs.declared.premise.Bearer.TheVariants as on
 use Rattle.tsa_tree.specs.tokens.Signs.{Aliases}
 use Rattle.tsa_tree.specs.types.Attributes.{attributes_premises}
-use Rattle.tsa_tree.specs.types.DeclaredTypes.{is_whole, is_nothing, may_be, is_refused, resolve, length_of, length_premises, typed_premises, declared_premises, with_length, thing_type}
+use Rattle.tsa_tree.specs.types.DeclaredTypes.{is_whole, is_nothing, may_be, is_refused, resolve, length_of, length_premises}
+use Rattle.tsa_tree.specs.types.DeclaredTypes.{typed_premises, declared_premises, with_length, thing_type}
 use Rattle.tsa_tree.specs.types.Globals.{global_entry, global_init, global_premises, inside_global, with_global, bearer_of}
 use Rattle.tsa_tree.specs.types.Premises.{first}
 use Rattle.tsa_tree.specs.types.Scopes.{Scope, Members, found, context_of, known_in, with_name, with_owned, is_taken}
 use Rattle.tsa_tree.specs.types.Structs.{with_member, member_premises, members_premises}
 use Rattle.tsa_tree.specs.types.Units.{item_premises, items_premises, behind_item}
 use Rattle.tsa_tree.specs.units.Sound.{SoundItem, SoundItems}
-use Rattle.tsa_tree.specs.units.Syntax.{UnitItem, names_of_item, structure_item, alias_item, enumeration_item, global_item, function_item, body_item}
+use Rattle.tsa_tree.specs.units.Syntax.{UnitItem, names_of_item, structure_item, alias_item, enumeration_item, global_item, function_item}
+use Rattle.tsa_tree.specs.units.Syntax.{body_item}
 use Rattle.tsa_place_model.specs.declared.place.Placed.{Placed}
 use Rattle.tsa_place_model.specs.Calls.{Layout}
 use Rattle.tsa_place_model.specs.Layouts.{Part, Structure, Structures, structure_at}

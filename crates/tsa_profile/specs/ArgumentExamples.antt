@@ -12,7 +12,8 @@ use Rattle.tsa_tree.specs.types.ExpressionExamples.{read_in}
 use Rattle.tsa_core.specs.Programs.{program_of}
 use Rattle.tsa_profile.specs.Arguments.{argument_of}
 
--- Locks `m` and `k`, of which `k` never changes, and `g`, which is guarded; an array `c` of two cells that have a lock each; and a function `f`.
+-- Locks `m` and `k`, of which `k` never changes, and `g`, which is guarded; an array `c` of two cells that have a lock each; and a function
+-- `f`.
 abbrev text : List ℕ
 text =
     codes "struct CAPABILITY(\"m\") lock { int s; }; struct cell { struct lock mu; int v GUARDED_BY(mu); }; enum { E = 3 }; "

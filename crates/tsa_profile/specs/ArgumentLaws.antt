@@ -18,7 +18,8 @@ abbrev pub ParametersAreThoseOfTheCore : Type 0
 ParametersAreThoseOfTheCore = (items : List UnitItem) (l : Layout) (p : Parameter)
     → parameter_type (behind_unit items) p ≡ option_and_then (λ f. slice_get f.params p.number) (slice_get (program_with l items).functions p.function)
 
--- A global that is declared behind all items, where the unit with it is typed and has places, holds this value at the start in the first of its places.
+-- A global that is declared behind all items, where the unit with it is typed and has places, holds this value at the start in the first of
+-- its places.
 abbrev pub DeclaredGlobalsHoldIt : Type 0
 DeclaredGlobalsHoldIt = (items : List UnitItem) (d : Declaration) (e : Expression) (l m : Layout) (p : Placed) (x : Value)
     → refusal_of_types (items ++ global_item d ∷ []) ≡ None → d.init ≡ Some (value e) → placed_in items ≡ Ok l → placed_in (items ++ global_item d ∷ []) ≡ Ok m

@@ -1,4 +1,5 @@
--- The value that an expression has as the initialiser of a global of a parameter's type, which is declared behind all items of a unit (C11 6.7.9).
+-- The value that an expression has as the initialiser of a global of a parameter's type, which is declared behind all items of a unit (C11
+-- 6.7.9).
 use Rattle.std.specs.Prelude.{Bool, false, ◌&&◌, List, [], ◌∷◌, map, Option, Some, None, option_and_then, is_none, slice_get, if◌then◌else◌}
 use Rattle.tsa_base.specs.declared.value.Value.{Value}
 use Rattle.tsa_tree.specs.declarations.Syntax.{value}
@@ -19,7 +20,8 @@ use Rattle.tsa_profile_accesses.specs.Expressions.{View}
 use Rattle.tsa_profile_declarations.specs.Declarations.{given_init}
 use Rattle.tsa_profile.specs.declared.items_end.Parameter.{Parameter}
 
--- What is known behind all items of a unit: there every global of the unit is an earlier one. The global's own name is none that the expression names.
+-- What is known behind all items of a unit: there every global of the unit is an earlier one. The global's own name is none that the
+-- expression names.
 unfoldable pub behind_items : Scope → List UnitItem → Scope
 behind_items here [] = here
 behind_items here (item ∷ rest) = behind_items (behind_item here item) rest

@@ -1,5 +1,5 @@
--- The paths of a function, each once: those of its own attributes, argument by argument, and then, point by point, those of the guards of what the point
--- reads and writes, in order of the text, and those that the function which it calls names, as they are here.
+-- The paths of a function, each once: those of its own attributes, argument by argument, and then, point by point, those of the guards of
+-- what the point reads and writes, in order of the text, and those that the function which it calls names, as they are here.
 use Rattle.std.specs.Prelude.{List, [], ◌∷◌, ◌++◌, map, Option, Some, None, option_and_then, slice_get}
 use Rattle.std.specs.List.{flat_map}
 use Rattle.tsa_place_model.specs.Ways.{Way}

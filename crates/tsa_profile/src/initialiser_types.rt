@@ -11,7 +11,8 @@ use tsa_tree::decl::Init;
 use tsa_tree::expr::Expr;
 use tsa_tree::kind::ThingType;
 
-/// Whether no premise of types fails for an expression as the initialiser of the next global, which has a type. Its names are noted nowhere.
+/// Whether no premise of types fails for an expression as the initialiser of the next global, which has a type. Its names are noted
+/// nowhere.
 pub fn is_typed(scope: &Scope<'_>, thing: ThingType, expr: &Expr<'_>) -> Result<bool, NoMemory>
     ensures { IfOk result (λ typed. typed ≡ spec_is_typed scope.now thing (shape expr.now)) }
 {

@@ -47,15 +47,16 @@ impl<'t, 'a> Unit<'t, 'a> {
         behind_unit(alloc, self.items)
     }
 
-    /// The value that an expression has as the initialiser of a global of a parameter's type, which is declared behind all items. None where a premise of
-    /// types or of the profile fails for such an initialiser.
+    /// The value that an expression has as the initialiser of a global of a parameter's type, which is declared behind all items. None
+    /// where a premise of types or of the profile fails for such an initialiser.
     pub fn argument(
         self,
         alloc: Global,
         parameter: Parameter,
         expr: &Expr<'_>,
     ) -> Result<Option<Value>, NoMemory>
-        ensures { IfOk result (λ value. value ≡ argument_of (item_shapes self.entry.items.now) self.entry.layout.now parameter (shape expr.now)) }
+        ensures { IfOk result (λ value. value ≡ argument_of (item_shapes self.entry.items.now) self.entry.layout.now parameter
+            (shape expr.now)) }
     {
         let scope = self.scope(alloc)?;
         let Some(thing) = parameter_type(&scope, parameter) else {

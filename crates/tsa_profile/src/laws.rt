@@ -10,8 +10,8 @@ pub fn profiles_are_as_written()
     ensures { ProfilesAreAsWritten }
 {}
 
-/// In a typed unit each cell holds at the start a number in the range of its type, or a pointer that is null or points to an object of its struct, which is
-/// const only where the pointer's type says so.
+/// In a typed unit each cell holds at the start a number in the range of its type, or a pointer that is null or points to an object of its
+/// struct, which is const only where the pointer's type says so.
 pub fn start_values_have_their_kinds()
     ensures { StartValuesHaveTheirKinds }
 {}
@@ -31,7 +31,8 @@ pub fn attributes_are_those_of_the_core()
     ensures { AttributesAreThoseOfTheCore }
 {}
 
-/// Behind the items of a typed unit the paths of its bodies, by the numbers of their functions, are those of the functions of its core program.
+/// Behind the items of a typed unit the paths of its bodies, by the numbers of their functions, are those of the functions of its core
+/// program.
 pub fn paths_are_those_of_the_core()
     ensures { PathsAreThoseOfTheCore }
 {}

@@ -33,7 +33,8 @@ fn tables(
 ) -> Result<Vec<Option<PathTable>>, ProfileRefusal>
     requires placed { placed_in (item_shapes unit.now.unit.now.items.now) ≡ Ok places.now }
     ensures judged { Judges (refusal_with outside.now (item_shapes unit.now.unit.now.items.now)) (forget result) }
-    ensures tables { IfOk result (λ tables. tables.items ≡ map (paths_if (program_of (item_shapes unit.now.unit.now.items.now))) (program_of (item_shapes unit.now.unit.now.items.now)).functions) }
+    ensures tables { IfOk result (λ tables. tables.items ≡ map (paths_if (program_of (item_shapes unit.now.unit.now.items.now)))
+        (program_of (item_shapes unit.now.unit.now.items.now)).functions) }
 {
     let items = unit.unit().items;
     let layout = places.layout();
@@ -47,8 +48,8 @@ fn tables(
     judge(alloc, &ground)
 }
 
-/// A typed unit that is in the profile, or its first failing node with the smallest code that fails there, or the first function that passes a limit. The
-/// places are those of the unit, and of the functions of some numbers no body is asked for.
+/// A typed unit that is in the profile, or its first failing node with the smallest code that fails there, or the first function that
+/// passes a limit. The places are those of the unit, and of the functions of some numbers no body is asked for.
 pub fn fit_with<'a>(
     alloc: Global,
     unit: Typed<'a>,

@@ -17,8 +17,8 @@ use tsa_place::Places;
 use tsa_tree::expr::Expr;
 use tsa_tree::item::UnitTree;
 
-/// A typed unit of which no premise of the profile fails, where the functions of some numbers may have their bodies elsewhere, with the paths of its
-/// functions.
+/// A typed unit of which no premise of the profile fails, where the functions of some numbers may have their bodies elsewhere, with the
+/// paths of its functions.
 pub struct Fit<'a> {
     pub(crate) typed: Typed<'a>,
     pub(crate) outside: Vec<u32>,
@@ -56,7 +56,9 @@ impl<'a> Fit<'a> {
     /// The paths of a function by its number, numbered in their order: first those of its attributes. None where it has no body.
     #[tactic(auto, using(crate::proofs::TableLists::tables))]
     pub fn paths(&self, function: u32) -> Option<&PathTable>
-        ensures { option_map (λ table. table.now) result ≡ option_and_then (paths_if (program_of (item_shapes self.now.typed.unit.now.items.now))) (slice_get (program_of (item_shapes self.now.typed.unit.now.items.now)).functions function) }
+        ensures { option_map (λ table. table.now) result
+            ≡ option_and_then (paths_if (program_of (item_shapes self.now.typed.unit.now.items.now)))
+            (slice_get (program_of (item_shapes self.now.typed.unit.now.items.now)).functions function) }
     {
         match self.tables.get(function as usize) {
             Some(Some(table)) => Some(table),
@@ -64,9 +66,9 @@ impl<'a> Fit<'a> {
         }
     }
 
-    /// The value that an expression has as the initialiser of a global of the type of a function's parameter, by the numbers of both, where the global is
-    /// declared behind all items. Its names are looked up by their texts, and its spans aren't used. None where a premise of types or of the profile fails
-    /// for such an initialiser, or where there is no such parameter. The places are those of the unit.
+    /// The value that an expression has as the initialiser of a global of the type of a function's parameter, by the numbers of both, where
+    /// the global is declared behind all items. Its names are looked up by their texts, and its spans aren't used. None where a premise of
+    /// types or of the profile fails for such an initialiser, or where there is no such parameter. The places are those of the unit.
     pub fn argument(
         &self,
         alloc: Global,
@@ -76,7 +78,8 @@ impl<'a> Fit<'a> {
         expr: &Expr<'_>,
     ) -> Result<Option<Value>, NoMemory>
         requires placed { placed_in (item_shapes self.now.typed.unit.now.items.now) ≡ Ok places.now }
-        ensures { IfOk result (λ value. value ≡ argument_of (item_shapes self.now.typed.unit.now.items.now) places.now (record { function = function; number = number }) (shape expr.now)) }
+        ensures { IfOk result (λ value. value ≡ argument_of (item_shapes self.now.typed.unit.now.items.now) places.now
+            (record { function = function; number = number }) (shape expr.now)) }
     {
         let layout = places.layout();
         let unit = Unit {

@@ -26,9 +26,11 @@ pub struct Ending<'w, 'a> {
 }
 
 impl<'w, 'a> Ending<'w, 'a> {
-    /// Whether no premise of the profile fails for an initialiser. Which attributes functions have makes no difference: in an initialiser none is called.
+    /// Whether no premise of the profile fails for an initialiser. Which attributes functions have makes no difference: in an initialiser
+    /// none is called.
     fn is_in_profile(self, expr: &Expr<'_>) -> Result<bool, NoMemory>
-        ensures { IfOk result (λ allows. (attributes : List (List Attr)) → allows ≡ spec_is_in_profile (view_with attributes self.entry.layout.now self.entry.scope.now) (shape expr.now)) }
+        ensures { IfOk result (λ allows. (attributes : List (List Attr))
+            → allows ≡ spec_is_in_profile (view_with attributes self.entry.layout.now self.entry.scope.now) (shape expr.now)) }
     {
         let body = Body {
             sight: Sight {
@@ -73,7 +75,8 @@ impl<'w, 'a> Ending<'w, 'a> {
 
     /// The value of an expression as the initialiser of a global of a type; none where a premise fails for it.
     pub fn value_seen(self, thing: ThingType, expr: &Expr<'_>) -> Result<Option<Value>, NoMemory>
-        ensures { IfOk result (λ held. (attributes : List (List Attr)) → held ≡ spec_value_seen (view_with attributes self.entry.layout.now self.entry.scope.now) thing (shape expr.now)) }
+        ensures { IfOk result (λ held. (attributes : List (List Attr))
+            → held ≡ spec_value_seen (view_with attributes self.entry.layout.now self.entry.scope.now) thing (shape expr.now)) }
     {
         if !is_typed(self.scope, thing, expr)? {
             return Ok(None);

@@ -1,5 +1,6 @@
 -- What the profile asks of expressions.
-use Rattle.std.specs.Prelude.{ℕ, pos, Bool, true, false, not, ◌&&◌, ◌||◌, nat_eq, List, [], ◌∷◌, ◌++◌, Option, Some, None, option_and_then, unwrap_or, is_some, is_none, slice_get}
+use Rattle.std.specs.Prelude.{ℕ, pos, Bool, true, false, not, ◌&&◌, ◌||◌, nat_eq, List, [], ◌∷◌, ◌++◌, Option, Some, None, option_and_then}
+use Rattle.std.specs.Prelude.{unwrap_or, is_some, is_none, slice_get}
 use Rattle.std.specs.List.{list_any}
 use Rattle.tsa_tree.specs.declared.expr.BinaryOp.TheVariants as op
 use Rattle.tsa_tree.specs.declared.expr.UnaryOp.TheVariants as prefix
@@ -22,8 +23,8 @@ use Rattle.tsa_profile_accesses.specs.declared.standing.Standing.{Standing}
 use Rattle.tsa_profile_accesses.specs.declared.standing.Standing.TheVariants.{Inside}
 use Rattle.tsa_profile_accesses.specs.Standing.{may_call, may_try, under_not, beside}
 
--- What an expression stands in: the layout of its unit, the attributes of the functions that are declared so far, by their numbers, what is known
--- there, which locals never change, and whether a thread works it out: an attribute is none that does.
+-- What an expression stands in: the layout of its unit, the attributes of the functions that are declared so far, by their numbers, what is
+-- known there, which locals never change, and whether a thread works it out: an attribute is none that does.
 pub record View : Type 0 where
   pub layout : Layout
   pub attributes : List (List Attr)

@@ -8,7 +8,8 @@ use std::marker::Model;
 use tsa_base::{NoMemory, Span};
 use tsa_place_model::Path;
 
-/// A cell as it is read or written: where the expression stands that stands for it, and the paths of its guards in order, of which some may have none.
+/// A cell as it is read or written: where the expression stands that stands for it, and the paths of its guards in order, of which some may
+/// have none.
 pub struct Access {
     pub span: Span,
     pub is_write: bool,

@@ -20,7 +20,8 @@ impl<'w, 'a> Body<'w, 'a> {
         params: &[ThingType],
         args: &[Expr<'_>],
     ) -> Result<Vec<Option<Path>>, NoMemory>
-        ensures { IfOk result (λ paths. paths.items ≡ argument_ways (stable_in self.entry.sight.stable.now) self.entry.sight.scope.now params.now (shapes args.now)) }
+        ensures { IfOk result (λ paths. paths.items ≡ argument_ways (stable_in self.entry.sight.stable.now) self.entry.sight.scope.now
+            params.now (shapes args.now)) }
     {
         let mut paths = Vec::new(self.sight.scope.allocator());
         let mut number = 0;
@@ -40,7 +41,8 @@ impl<'w, 'a> Body<'w, 'a> {
         entry: Option<Entry>,
         args: &[Expr<'_>],
     ) -> Result<Option<Vec<Option<Path>>>, NoMemory>
-        ensures { IfOk result (λ paths. option_map (λ paths. paths.items) paths ≡ called_ways (stable_in self.entry.sight.stable.now) self.entry.sight.scope.now (shapes args.now) entry) }
+        ensures { IfOk result (λ paths. option_map (λ paths. paths.items) paths
+            ≡ called_ways (stable_in self.entry.sight.stable.now) self.entry.sight.scope.now (shapes args.now) entry) }
     {
         let Some(entry) = entry else {
             return Ok(None);
@@ -57,7 +59,8 @@ impl<'w, 'a> Body<'w, 'a> {
     /// Those of the call of an expression: the whole of it, or in a condition behind `!` or beside `==` or `!=`.
     #[tactic(auto, unfolding(tsa_core::specs::Uses::call_ways))]
     fn call_paths(self, expr: &Expr<'_>) -> Result<Option<Vec<Option<Path>>>, NoMemory>
-        ensures { IfOk result (λ paths. option_map (λ paths. paths.items) paths ≡ call_ways (stable_in self.entry.sight.stable.now) self.entry.sight.scope.now (shape expr.now)) }
+        ensures { IfOk result (λ paths. option_map (λ paths. paths.items) paths
+            ≡ call_ways (stable_in self.entry.sight.stable.now) self.entry.sight.scope.now (shape expr.now)) }
     {
         match &expr.kind {
             ExprKind::Call { callee, args } => {
@@ -81,7 +84,8 @@ impl<'w, 'a> Body<'w, 'a> {
 
     /// Where the arguments of an expression's call lead; none where it has no call.
     pub fn argument_paths(self, expr: &Expr<'_>) -> Result<Vec<Option<Path>>, NoMemory>
-        ensures { IfOk result (λ paths. paths.items ≡ arguments_of (stable_in self.entry.sight.stable.now) self.entry.sight.scope.now (shape expr.now)) }
+        ensures { IfOk result (λ paths. paths.items ≡ arguments_of (stable_in self.entry.sight.stable.now) self.entry.sight.scope.now
+            (shape expr.now)) }
     {
         match self.call_paths(expr)? {
             Some(paths) => Ok(paths),

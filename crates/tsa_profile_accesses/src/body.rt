@@ -39,8 +39,8 @@ struct Member {
     number: usize,
 }
 
-/// What an expression sees: what lock expressions see there, the layout of the unit, the locks that the functions name which are declared so far, by
-/// their numbers, and whether a thread works it out: an attribute is none that does.
+/// What an expression sees: what lock expressions see there, the layout of the unit, the locks that the functions name which are declared
+/// so far, by their numbers, and whether a thread works it out: an attribute is none that does.
 #[derive(Clone, Copy)]
 pub struct Body<'w, 'a> {
     pub sight: Sight<'w, 'a>,
@@ -57,7 +57,8 @@ impl<'w, 'a> Body<'w, 'a> {
         owner: Option<&Path>,
         member: Member,
     ) -> Result<(), NoMemory>
-        ensures { OnOk result (guards.new.items ≡ guards.old.items ++ guards_owned (option_map (λ path. path.now) owner.entry) (part_guards (slice_get (structure_at self.entry.layout.now.structs member.structure).members member.number))) }
+        ensures { OnOk result (guards.new.items ≡ guards.old.items ++ guards_owned (option_map (λ path. path.now) owner.entry)
+            (part_guards (slice_get (structure_at self.entry.layout.now.structs member.structure).members member.number))) }
     {
         let number = u32::try_from(member.number).ok().ok_or(NoMemory)?;
         match self.layout.member_part(member.structure, number) {
@@ -78,7 +79,8 @@ impl<'w, 'a> Body<'w, 'a> {
 
     /// The guards that are declared with a member of the struct object that has the guard that is written.
     fn owned_guards(self, name: &[u8]) -> Result<Vec<Option<Path>>, NoMemory>
-        ensures { IfOk result (λ guards. guards.items ≡ member_guards self.entry.layout.now (Some (from root.Owner)) (length self.entry.sight.scope.now.structs) (numbered self.entry.sight.scope.now.owned name.now 0)) }
+        ensures { IfOk result (λ guards. guards.items ≡ member_guards self.entry.layout.now (Some (from root.Owner))
+            (length self.entry.sight.scope.now.structs) (numbered self.entry.sight.scope.now.owned name.now 0)) }
     {
         let mut guards = Vec::new(self.sight.scope.allocator());
         if let Some((number, _)) = self.sight.scope.find_owned(name) {
@@ -117,7 +119,8 @@ impl<'w, 'a> Body<'w, 'a> {
         owner: Owner<'_>,
         member: Option<(usize, ThingType)>,
     ) -> Result<(), NoMemory>
-        ensures { OnOk result (guards.new.items ≡ guards.old.items ++ found_guards self.entry.layout.now (option_map (λ path. path.now) owner.entry.path) owner.entry.structure member) }
+        ensures { OnOk result (guards.new.items ≡ guards.old.items
+            ++ found_guards self.entry.layout.now (option_map (λ path. path.now) owner.entry.path) owner.entry.structure member) }
     {
         let Some(structure) = owner.structure else {
             return Ok(());
@@ -130,7 +133,11 @@ impl<'w, 'a> Body<'w, 'a> {
 
     /// What a name is, as a place.
     pub fn name(self, name: &[u8]) -> Result<Seen, NoMemory>
-        ensures { IfOk result (λ seen. seen ≡ record { thing = thing_of (of_name (known_in self.entry.sight.scope.now name.now)); led = option_and_then (name_way (stable_in self.entry.sight.stable.now) self.entry.sight.scope.now name.now) (known_in self.entry.sight.scope.now name.now); guards = spec_name_guards self.entry.layout.now self.entry.sight.scope.now name.now (known_in self.entry.sight.scope.now name.now) }) }
+        ensures { IfOk result (λ seen. seen
+            ≡ record { thing = thing_of (of_name (known_in self.entry.sight.scope.now name.now)); led = option_and_then
+            (name_way (stable_in self.entry.sight.stable.now) self.entry.sight.scope.now name.now)
+            (known_in self.entry.sight.scope.now name.now); guards = spec_name_guards self.entry.layout.now self.entry.sight.scope.now
+            name.now (known_in self.entry.sight.scope.now name.now) }) }
     {
         let entry = self.sight.scope.known(name);
         Ok(Seen {
@@ -142,7 +149,9 @@ impl<'w, 'a> Body<'w, 'a> {
 
     /// What a name is, where it isn't asked where that leads.
     pub fn name_value(self, name: &[u8]) -> Result<Seen, NoMemory>
-        ensures { IfOk result (λ seen. seen ≡ record { thing = thing_of (of_name (known_in self.entry.sight.scope.now name.now)); led = None; guards = spec_name_guards self.entry.layout.now self.entry.sight.scope.now name.now (known_in self.entry.sight.scope.now name.now) }) }
+        ensures { IfOk result (λ seen. seen
+            ≡ record { thing = thing_of (of_name (known_in self.entry.sight.scope.now name.now)); led = None; guards = spec_name_guards
+            self.entry.layout.now self.entry.sight.scope.now name.now (known_in self.entry.sight.scope.now name.now) }) }
     {
         let entry = self.sight.scope.known(name);
         Ok(Seen {
@@ -176,7 +185,10 @@ impl<'w, 'a> Body<'w, 'a> {
 
     /// An element of what was seen, as a place.
     pub fn element(self, base: Seen, index: &Expr<'_>) -> Result<Seen, NoMemory>
-        ensures { IfOk result (λ seen. seen ≡ record { thing = record { expression = spec_element_type base.thing.expression; is_place = true }; led = option_and_then (element_step (stable_in self.entry.sight.stable.now) self.entry.sight.scope.now (shape index.now)) base.led; guards = base.guards }) }
+        ensures { IfOk result (λ seen. seen
+            ≡ record { thing = record { expression = spec_element_type base.thing.expression; is_place = true }; led = option_and_then
+            (element_step (stable_in self.entry.sight.stable.now) self.entry.sight.scope.now (shape index.now)) base.led; guards =
+            base.guards }) }
     {
         Ok(Seen {
             thing: Thing {

@@ -2,7 +2,8 @@
 ghost use Rattle.std.specs.Prelude.{◌≡◌, ◌++◌, None, [], true, false, not, option_map, if◌then◌else◌, IfOk, OnOk};
 ghost use Rattle.tsa_tree.specs.declared.expr.UnaryOp.TheVariants as prefix;
 ghost use Rattle.tsa_core.specs.Meanings.{of_prefix};
-ghost use Rattle.tsa_profile_accesses.specs.ExpressionViews.{a_value, loaded as spec_loaded, meant_as as spec_meant_as, own_access, thing_of, typed};
+ghost use Rattle.tsa_profile_accesses.specs.ExpressionViews.{a_value, loaded as spec_loaded, meant_as as spec_meant_as, own_access};
+ghost use Rattle.tsa_profile_accesses.specs.ExpressionViews.{thing_of, typed};
 
 use crate::access::{Access, Accesses};
 use crate::guards::copies;
@@ -73,7 +74,8 @@ impl Seen {
     /// Its value is used: a cell is read, whose guards then stand with its access.
     pub fn loaded(self, alloc: Global, cells: &mut Accesses, span: Span) -> Result<Seen, NoMemory>
         ensures seen { IfOk result (λ seen. seen ≡ spec_loaded self) }
-        ensures cells { OnOk result (cells.new ≡ own_access self.thing (record { span = span; is_write = false; guards = self.guards }) ++ cells.old) }
+        ensures cells { OnOk result (cells.new ≡ own_access self.thing (record { span = span; is_write = false; guards = self.guards })
+            ++ cells.old) }
     {
         let thing = self.thing;
         let access = Access {
@@ -91,7 +93,8 @@ impl Seen {
 
     /// It is written, where it is a cell.
     pub fn put_write(&self, alloc: Global, cells: &mut Accesses, span: Span) -> Result<(), NoMemory>
-        ensures { OnOk result (cells.new ≡ own_access self.now.thing (record { span = span; is_write = true; guards = self.now.guards }) ++ cells.old) }
+        ensures { OnOk result (cells.new ≡ own_access self.now.thing (record { span = span; is_write = true; guards = self.now.guards })
+            ++ cells.old) }
     {
         let guards = copies(alloc, &self.guards)?;
         cells.put_own(
@@ -106,7 +109,8 @@ impl Seen {
 
     /// Its address, which leads to it as a pointer.
     pub fn address(self, alloc: Global, as_pointer: bool) -> Seen
-        ensures { result ≡ record { thing = thing_of (of_prefix prefix.Address (typed self.thing.expression)); led = if as_pointer then self.led else None; guards = [] } }
+        ensures { result ≡ record { thing = thing_of (of_prefix prefix.Address (typed self.thing.expression)); led = if as_pointer then
+            self.led else None; guards = [] } }
     {
         Seen {
             thing: prefix_thing(UnaryOp::Address, self.thing.expression),
@@ -117,7 +121,8 @@ impl Seen {
 
     /// What it points to, where it leads as a pointer.
     pub fn followed(self, alloc: Global, as_pointer: bool) -> Seen
-        ensures { result ≡ record { thing = thing_of (of_prefix prefix.Follow (typed self.thing.expression)); led = if not as_pointer then self.led else None; guards = [] } }
+        ensures { result ≡ record { thing = thing_of (of_prefix prefix.Follow (typed self.thing.expression)); led = if not as_pointer then
+            self.led else None; guards = [] } }
     {
         Seen {
             thing: prefix_thing(UnaryOp::Follow, self.thing.expression),

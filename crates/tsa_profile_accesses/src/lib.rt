@@ -1,5 +1,5 @@
-//! What is seen of an expression on the way to its cells: what it is, where it leads and its guards, the locks that functions name, and where a call may
-//! stand (C11 6.5).
+//! What is seen of an expression on the way to its cells: what it is, where it leads and its guards, the locks that functions name, and
+//! where a call may stand (C11 6.5).
 #![tactic(auto)]
 
 mod access;

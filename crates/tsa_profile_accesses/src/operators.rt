@@ -7,9 +7,13 @@ ghost use Rattle.tsa_tree.specs.types.Expressions.{function_of as spec_function_
 ghost use Rattle.tsa_tree.specs.types.Scopes.{known_in};
 ghost use Rattle.tsa_profile_accesses.specs.declared.premise.ProfileCode.TheVariants.{PF2, PF8};
 ghost use Rattle.tsa_profile_accesses.specs.Locks.{tries};
-ghost use Rattle.tsa_profile_accesses.specs.Expressions.{attributes_at, callee as spec_callee, compares_a_try, constant as spec_constant, is_other as spec_is_other, is_truth as spec_is_truth, is_try_call as spec_is_try_call, lacks_a_path as spec_lacks_a_path};
+ghost use Rattle.tsa_profile_accesses.specs.Expressions.{attributes_at, callee as spec_callee, compares_a_try, constant as spec_constant};
+ghost use Rattle.tsa_profile_accesses.specs.Expressions.{is_other as spec_is_other, is_truth as spec_is_truth};
+ghost use Rattle.tsa_profile_accesses.specs.Expressions.{is_try_call as spec_is_try_call, lacks_a_path as spec_lacks_a_path};
 ghost use Rattle.tsa_profile_accesses.specs.Standing.{beside};
-ghost use Rattle.tsa_profile_accesses.specs.NodeAnswers.{call_code as spec_call_code, called_code as spec_called_code, code_if as spec_code_if, is_equality as spec_is_equality, side, sides_code, view_of};
+ghost use Rattle.tsa_profile_accesses.specs.NodeAnswers.{call_code as spec_call_code, called_code as spec_called_code};
+ghost use Rattle.tsa_profile_accesses.specs.NodeAnswers.{code_if as spec_code_if, is_equality as spec_is_equality, side, sides_code};
+ghost use Rattle.tsa_profile_accesses.specs.NodeAnswers.{view_of};
 
 use crate::body::Body;
 use tsa_base::NoMemory;
@@ -180,7 +184,10 @@ impl<'w, 'a> Body<'w, 'a> {
         left: &Expr<'_>,
         right: &Expr<'_>,
     ) -> Result<Sides, NoMemory>
-        ensures { IfOk result (λ sides. sides ≡ record { left = beside standing (is_some (spec_constant (view_of self.entry) (shape right.now))); right = beside standing (is_some (spec_constant (view_of self.entry) (shape left.now))); code = spec_code_if (compares_a_try (view_of self.entry) (shape left.now) (shape right.now)) PF8 }) }
+        ensures { IfOk result (λ sides. sides
+            ≡ record { left = beside standing (is_some (spec_constant (view_of self.entry) (shape right.now))); right = beside standing
+            (is_some (spec_constant (view_of self.entry) (shape left.now))); code = spec_code_if
+            (compares_a_try (view_of self.entry) (shape left.now) (shape right.now)) PF8 }) }
     {
         let first = self.constant(left)?;
         let second = self.constant(right)?;
@@ -200,7 +207,10 @@ impl<'w, 'a> Body<'w, 'a> {
         left: &Expr<'_>,
         right: &Expr<'_>,
     ) -> Result<Sides, NoMemory>
-        ensures { IfOk result (λ sides. sides ≡ record { left = side (view_of self.entry) operator.standing operator.op (shape right.now); right = side (view_of self.entry) operator.standing operator.op (shape left.now); code = sides_code (view_of self.entry) operator.op (shape left.now) (shape right.now) }) }
+        ensures { IfOk result (λ sides. sides
+            ≡ record { left = side (view_of self.entry) operator.standing operator.op (shape right.now); right = side (view_of self.entry)
+            operator.standing operator.op (shape left.now); code = sides_code (view_of self.entry) operator.op (shape left.now)
+            (shape right.now) }) }
     {
         if is_equality(operator.op) {
             return self.equality_sides(operator.standing, left, right);
@@ -214,7 +224,8 @@ impl<'w, 'a> Body<'w, 'a> {
 
     /// What fails where the value of what was seen is used: a thread that works it out reads a cell whose guards have paths.
     pub fn guard_code(self, seen: &Seen) -> Option<ProfileCode>
-        ensures { result ≡ spec_code_if ((self.entry.is_run && (seen.now.thing.is_place && is_cell seen.now.thing.expression.thing)) && list_any is_none seen.now.guards) PF2 }
+        ensures { result ≡ spec_code_if ((self.entry.is_run && (seen.now.thing.is_place && is_cell seen.now.thing.expression.thing))
+            && list_any is_none seen.now.guards) PF2 }
     {
         let is_read = self.is_run && is_loaded(seen.thing);
         code_if(is_read && lack_a_path(&seen.guards), ProfileCode::PF2)

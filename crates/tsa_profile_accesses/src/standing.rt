@@ -1,6 +1,7 @@
 //! Where calls stand (C11 6.5.2.2).
 ghost use Rattle.std.specs.Prelude.{◌≡◌};
-ghost use Rattle.tsa_profile_accesses.specs.Standing.{beside as spec_beside, may_call as spec_may_call, may_try as spec_may_try, under_not as spec_under_not};
+ghost use Rattle.tsa_profile_accesses.specs.Standing.{beside as spec_beside, may_call as spec_may_call, may_try as spec_may_try};
+ghost use Rattle.tsa_profile_accesses.specs.Standing.{under_not as spec_under_not};
 
 /// Where an expression stands, by which call it may be.
 #[derive(Clone, Copy, Debug, PartialEq, Eq)]

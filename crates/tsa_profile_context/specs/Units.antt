@@ -99,8 +99,8 @@ items_premises u known here (item ∷ rest) =
     item_premises u known (attributes_behind u known here item) here item
     ++ items_premises u (attributes_behind u known here item) (behind_item here item) rest
 
--- A function has at most 48 locals that begin with what a try gives, and at most 256 paths. That is told at the name beside its body, and at its first
--- declaration where it has none.
+-- A function has at most 48 locals that begin with what a try gives, and at most 256 paths. That is told at the name beside its body, and
+-- at its first declaration where it has none.
 abbrev pub passes_tries : Unit → (behind : List (List Attr)) → Scope → Head → Statements → Bool
 passes_tries u behind here head body = nat_lt 48 (length (filter (is_try_variable (around u behind here head)) (points_in here head body)))
 

@@ -28,7 +28,8 @@ use tsa_tree::item::StructDef;
 impl<'t, 'a> Ground<'t, 'a> {
     /// A member behind others, in whose guards those are looked up first.
     fn member(&self, known: &mut Knowledge<'a>, decl: &Decl<'a>) -> Result<(), ProfileRefusal>
-        ensures judged { Judges (first (guard_premises (view_in (unit_at self.now) known.old.attributes known.old.here) (attr_shapes decl.now.attrs.now))) result }
+        ensures judged { Judges (first (guard_premises (view_in (unit_at self.now) known.old.attributes known.old.here)
+            (attr_shapes decl.now.attrs.now))) result }
         ensures known { OnOk result (known.new ≡ with_scope (behind_member known.old.here (decl_shape decl.now)) known.old) }
     {
         let body = self.view(&known.scope, &known.attributes, &[]);
@@ -40,8 +41,10 @@ impl<'t, 'a> Ground<'t, 'a> {
     /// Members, each behind those before it.
     fn members(&self, known: &mut Knowledge<'a>, decls: &[Decl<'a>]) -> Result<(), ProfileRefusal>
         requires outside { known.old.here.owned ≡ [] }
-        ensures judged { Judges (first (member_premises (unit_at self.now) known.old.attributes known.old.here [] (decl_shapes decls.now))) result }
-        ensures known { OnOk result (known.new ≡ with_scope (with_owned (members_after known.old.here [] (decl_shapes decls.now)) known.old.here) known.old) }
+        ensures judged { Judges (first (member_premises (unit_at self.now) known.old.attributes known.old.here [] (decl_shapes decls.now)))
+            result }
+        ensures known { OnOk result (known.new
+            ≡ with_scope (with_owned (members_after known.old.here [] (decl_shapes decls.now)) known.old.here) known.old) }
     {
         'each: for decl in decls {
             self.member(known, decl)?;
@@ -56,9 +59,12 @@ impl<'t, 'a> Ground<'t, 'a> {
         def: &StructDef<'a>,
     ) -> Result<(), ProfileRefusal>
         requires outside { known.old.here.owned ≡ [] }
-        requires typed { types.first (struct_premises known.old.here (option_map name_shape def.now.tag) (option_map name_shape def.now.alias) (attr_shapes def.now.attrs.now) (decl_shapes def.now.members.now) def.now.span) ≡ None }
-        ensures judged { Judges (first (member_premises (unit_at self.now) known.old.attributes known.old.here [] (decl_shapes def.now.members.now))) result }
-        ensures known { OnOk result (known.new ≡ with_scope (behind_struct known.old.here (option_map name_shape def.now.alias) (decl_shapes def.now.members.now)) known.old) }
+        requires typed { types.first (struct_premises known.old.here (option_map name_shape def.now.tag)
+            (option_map name_shape def.now.alias) (attr_shapes def.now.attrs.now) (decl_shapes def.now.members.now) def.now.span) ≡ None }
+        ensures judged { Judges (first (member_premises (unit_at self.now) known.old.attributes known.old.here []
+            (decl_shapes def.now.members.now))) result }
+        ensures known { OnOk result (known.new
+            ≡ with_scope (behind_struct known.old.here (option_map name_shape def.now.alias) (decl_shapes def.now.members.now)) known.old) }
     {
         self.members(known, def.members)?;
         end_struct(&mut known.scope, def.alias)?;
@@ -68,7 +74,8 @@ impl<'t, 'a> Ground<'t, 'a> {
     /// A global, which is known in its own guards and initialiser.
     pub fn global(&self, known: &mut Knowledge<'a>, decl: &Decl<'a>) -> Result<(), ProfileRefusal>
         requires typed { types.first (typed.global_premises known.old.here (decl_shape decl.now)) ≡ None }
-        ensures judged { Judges (first (global_premises (unit_at self.now) known.old.attributes (typed.with_global known.old.here (decl_shape decl.now)) (decl_shape decl.now))) result }
+        ensures judged { Judges (first (global_premises (unit_at self.now) known.old.attributes
+            (typed.with_global known.old.here (decl_shape decl.now)) (decl_shape decl.now))) result }
         ensures known { OnOk result (known.new ≡ with_scope (behind_item known.old.here (global_item (decl_shape decl.now))) known.old) }
     {
         begin_global(&mut known.scope, decl)?;

@@ -61,8 +61,10 @@ impl<'t, 'a> Ground<'t, 'a> {
     ) -> Result<Outside, ProfileRefusal>
         requires typed { types.first (heads.head_premises known.old.here (head_shape head.now) (is_some head.now.body)) ≡ None }
         requires stable { stable_in stable.now ≡ stable_of (unit_at self.now) (head_shape head.now) }
-        ensures judged { Judges (first (heads_premises (unit_at self.now) known.old.attributes known.old.here (head_shape head.now) (is_some head.now.body))) (forget result) }
-        ensures inside { OnOk result (known.new ≡ with_scope (heads.inside known.old.here (head_shape head.now) (is_some head.now.body)) known.old) }
+        ensures judged { Judges (first (heads_premises (unit_at self.now) known.old.attributes known.old.here (head_shape head.now)
+            (is_some head.now.body))) (forget result) }
+        ensures inside { OnOk result (known.new ≡ with_scope (heads.inside known.old.here (head_shape head.now) (is_some head.now.body))
+            known.old) }
         ensures outside { IfOk result (λ outside. outside ≡ outside_of known.old.here (head_shape head.now) (is_some head.now.body)) }
     {
         self.outer(&known.scope, head)?;
@@ -80,7 +82,8 @@ impl<'t, 'a> Ground<'t, 'a> {
         head: &FnTree<'a>,
         stable: &[bool],
     ) -> Result<(), NoMemory>
-        ensures { OnOk result (known.new ≡ with_function (attrs_of (stable_in stable.now) known.old.here (head_shape head.now).attrs) known.old) }
+        ensures { OnOk result (known.new ≡ with_function (attrs_of (stable_in stable.now) known.old.here (head_shape head.now).attrs)
+            known.old) }
     {
         let sight = Sight {
             scope: &known.scope,
@@ -101,7 +104,8 @@ impl<'t, 'a> Ground<'t, 'a> {
     ) -> Result<Outside, ProfileRefusal>
         requires typed { types.first (heads.head_premises known.old.here (head_shape head.now) (is_some head.now.body)) ≡ None }
         requires stable { stable_in stable.now ≡ stable_of (unit_at self.now) (head_shape head.now) }
-        ensures judged { Judges (first (heads_premises (unit_at self.now) known.old.attributes known.old.here (head_shape head.now) (is_some head.now.body))) (forget result) }
+        ensures judged { Judges (first (heads_premises (unit_at self.now) known.old.attributes known.old.here (head_shape head.now)
+            (is_some head.now.body))) (forget result) }
         ensures entered { OnOk result (known.new ≡ entered (unit_at self.now) known.old (head_shape head.now) (is_some head.now.body)) }
         ensures outside { IfOk result (λ outside. outside ≡ outside_of known.old.here (head_shape head.now) (is_some head.now.body)) }
     {

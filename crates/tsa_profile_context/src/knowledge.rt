@@ -9,7 +9,8 @@ use tsa_path::PathTable;
 use tsa_types_scope::{Scope, outset};
 use tsa_profile_accesses::{Failure, NamedLocks};
 
-/// What is known by name, the locks that functions name and the paths of bodies by the numbers of functions, and the first functions that pass a limit.
+/// What is known by name, the locks that functions name and the paths of bodies by the numbers of functions, and the first functions that
+/// pass a limit.
 pub struct Knowledge<'a> {
     pub scope: Scope<'a>,
     pub attributes: Vec<NamedLocks>,

@@ -1,4 +1,5 @@
-//! What the items of a typed unit are judged with, what is known in front of each, and what the profile asks of data and of the heads of functions.
+//! What the items of a typed unit are judged with, what is known in front of each, and what the profile asks of data and of the heads of
+//! functions.
 #![tactic(auto)]
 
 mod data;

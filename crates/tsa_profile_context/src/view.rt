@@ -37,7 +37,9 @@ impl<'t, 'a> Ground<'t, 'a> {
     ) -> Body<'w, 'a>
     where
         't: 'w,
-        ensures { view_of result ≡ record { layout = (unit_at self.now).program.layout; attributes = attributes.now; here = scope.now; stable = stable_in stable.now; is_run = false } }
+        ensures { view_of result ≡ record
+            { layout = (unit_at self.now).program.layout; attributes = attributes.now; here = scope.now; stable = stable_in stable.now;
+            is_run = false } }
     {
         Body {
             sight: Sight { scope, stable },

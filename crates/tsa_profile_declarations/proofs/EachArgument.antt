@@ -1,5 +1,6 @@
 -- What is asked of the arguments of attributes, one after the other.
-use Rattle.std.proofs.Common.{◌≡◌, ◌∙◌, ℕ, ◌+◌, suc, Bool, true, false, not, ◌&&◌, List, [], ◌∷◌, ◌++◌, drop, Option, Some, None, is_none, refl, ap, sym}
+use Rattle.std.proofs.Common.{◌≡◌, ◌∙◌, ℕ, ◌+◌, suc, Bool, true, false, not, ◌&&◌, List, [], ◌∷◌, ◌++◌, drop, Option, Some, None, is_none}
+use Rattle.std.proofs.Common.{refl, ap, sym}
 use Rattle.tsa_base.specs.declared.token.Span.{Span}
 use Rattle.tsa_base.proofs.Numbers.{one_behind as plus_one}
 use Rattle.tsa_tree.specs.declared.attr.AttrKind.{AttrKind}
@@ -13,7 +14,8 @@ use Rattle.tsa_profile_accesses.specs.declared.premise.ProfileCode.TheVariants.{
 use Rattle.tsa_profile_accesses.specs.declared.standing.Standing.TheVariants.{Inside}
 use Rattle.tsa_profile_accesses.specs.Expressions.{View, own, parts}
 use Rattle.tsa_profile_accesses.specs.Premises.{Premise, or_else, first}
-use Rattle.tsa_profile_declarations.specs.Declarations.{argument, attribute_arguments, is_among, is_call, is_named_once, is_order, way, ways_behind, with_way}
+use Rattle.tsa_profile_declarations.specs.Declarations.{argument, attribute_arguments, is_among, is_call, is_named_once, is_order, way}
+use Rattle.tsa_profile_declarations.specs.Declarations.{ways_behind, with_way}
 use Rattle.tsa_profile_declarations.proofs.Firsts.{calls, goes_on, lacks, nothing_fails, repeats, stands, stops}
 
 -- an argument in the arena

@@ -1,5 +1,6 @@
 -- What is asked of attributes, one after the other.
-use Rattle.std.proofs.Common.{◌≡◌, ◌∙◌, ℕ, ◌+◌, suc, Bool, true, false, not, ◌&&◌, ◌||◌, List, [], ◌∷◌, ◌++◌, drop, map, Option, Some, None, refl, ap, sym, if◌then◌else◌}
+use Rattle.std.proofs.Common.{◌≡◌, ◌∙◌, ℕ, ◌+◌, suc, Bool, true, false, not, ◌&&◌, ◌||◌, List, [], ◌∷◌, ◌++◌, drop, map, Option, Some, None}
+use Rattle.std.proofs.Common.{refl, ap, sym, if◌then◌else◌}
 use Rattle.std.specs.List.{list_any}
 use Rattle.tsa_tree.specs.attributes.Syntax.{Attribute, attr_shape, attr_shapes}
 use Rattle.tsa_tree.specs.declared.attr.Attr.{Attr}
@@ -12,7 +13,8 @@ use Rattle.tsa_profile_accesses.specs.Expressions.{View}
 use Rattle.tsa_profile_accesses.specs.Locks.{is_try}
 use Rattle.tsa_profile_accesses.specs.Premises.{Premise, premise, or_else, first}
 use Rattle.tsa_profile_declarations.specs.declared.tries.Tries.{Tries}
-use Rattle.tsa_profile_declarations.specs.Declarations.{attribute_arguments, attribute_premises, guard_premises, is_int, misfits, value_of, ways_behind}
+use Rattle.tsa_profile_declarations.specs.Declarations.{attribute_arguments, attribute_premises, guard_premises, is_int, misfits, value_of}
+use Rattle.tsa_profile_declarations.specs.Declarations.{ways_behind}
 use Rattle.tsa_profile_declarations.specs.Tries.{misfits_beside, names_other, some_other, tries_among, with_attribute}
 use Rattle.tsa_profile_declarations.proofs.Firsts.{goes_on, nothing_fails, stops}
 use Rattle.tsa_base.proofs.Numbers.{one_behind as plus_one}

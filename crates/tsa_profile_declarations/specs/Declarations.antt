@@ -1,5 +1,6 @@
 -- What the profile asks of attributes, of initialisers, and of functions by their heads.
-use Rattle.std.specs.Prelude.{ℕ, length, nat_eq, Bool, true, false, not, ◌&&◌, ◌||◌, List, [], ◌∷◌, ◌++◌, Option, Some, None, is_some, is_none}
+use Rattle.std.specs.Prelude.{ℕ, length, nat_eq, Bool, true, false, not, ◌&&◌, ◌||◌, List, [], ◌∷◌, ◌++◌, Option, Some, None, is_some}
+use Rattle.std.specs.Prelude.{is_none}
 use Rattle.std.specs.List.{list_any}
 use Rattle.tsa_tree.specs.attributes.Syntax.{Attribute}
 use Rattle.tsa_tree.specs.declarations.Syntax.{Initialiser, Initialisers, value, list, no_more, one_more, Parameter, Head}
@@ -77,8 +78,8 @@ unfoldable pub guard_premises : View → List Attribute → List Premise
 guard_premises v [] = []
 guard_premises v (a ∷ rest) = attribute_arguments v a.kind [] a.args ++ guard_premises v rest
 
--- An attribute fits a function's body. Only one without a body gives back a lock in whatever mode; a try has an `int` for a result, and all its
--- attributes name the same value.
+-- An attribute fits a function's body. Only one without a body gives back a lock in whatever mode; a try has an `int` for a result, and all
+-- its attributes name the same value.
 abbrev pub is_int : Kind → Bool
 is_int type.Int = true
 is_int _ = false

@@ -1,6 +1,8 @@
 //! Arguments of attributes: each is no call, has a path, and names no lock that was named before.
 ghost use Rattle.std.specs.Prelude.{◌≡◌, ◌&&◌, false, not, Some, None, is_none, IfOk};
-ghost use Rattle.tsa_profile_declarations.specs.Declarations.{argument as spec_argument, attribute_arguments, is_among, is_call as spec_is_call, is_named_once as spec_is_named_once, is_order as spec_is_order, way, ways_behind, with_way};
+ghost use Rattle.tsa_profile_declarations.specs.Declarations.{argument as spec_argument, attribute_arguments, is_among};
+ghost use Rattle.tsa_profile_declarations.specs.Declarations.{is_call as spec_is_call, is_named_once as spec_is_named_once};
+ghost use Rattle.tsa_profile_declarations.specs.Declarations.{is_order as spec_is_order, way, ways_behind, with_way};
 ghost use Rattle.tsa_tree.specs.expressions.Shapes.{shape, shapes};
 ghost use Rattle.tsa_profile_accesses.specs.declared.premise.ProfileCode.TheVariants.{PF9};
 ghost use Rattle.tsa_profile_accesses.specs.declared.standing.Standing.TheVariants.{Inside};
@@ -78,7 +80,8 @@ fn lacks_path(kind: AttrKind, path: &Option<Path>) -> bool
 
 /// What fails at an argument that names a lock again: what is asked of it itself comes first.
 fn again_failure(body: Body<'_, '_>, arg: &Expr<'_>) -> Result<Option<Failure>, NoMemory>
-    ensures { IfOk result (λ failure. failure ≡ or_else (first (own (view_of body.entry) Inside false (shape arg.now))) (Some (record { code = PF9; span = arg.now.span }))) }
+    ensures { IfOk result (λ failure. failure ≡ or_else (first (own (view_of body.entry) Inside false (shape arg.now)))
+        (Some (record { code = PF9; span = arg.now.span }))) }
 {
     match own_failure(body, arg)? {
         Some(failure) => Ok(Some(failure)),
@@ -97,7 +100,8 @@ pub fn argument(
     arg: &Expr<'_>,
 ) -> Result<Option<Failure>, NoMemory>
     ensures failure { IfOk result (λ failure. failure ≡ first (spec_argument (view_of body.entry) kind paths.old (shape arg.now))) }
-    ensures named { IfOk result (λ failure. failure ≡ None → paths.new ≡ with_way (spec_is_named_once kind) paths.old (way (view_of body.entry) (shape arg.now))) }
+    ensures named { IfOk result (λ failure. failure ≡ None
+        → paths.new ≡ with_way (spec_is_named_once kind) paths.old (way (view_of body.entry) (shape arg.now))) }
 {
     if is_call(arg) {
         return Ok(Some(Failure {
@@ -127,7 +131,8 @@ pub fn arguments(
     args: &[Expr<'_>],
 ) -> Result<Option<Failure>, NoMemory>
     ensures failure { IfOk result (λ failure. failure ≡ first (attribute_arguments (view_of body.entry) kind paths.old (shapes args.now))) }
-    ensures named { IfOk result (λ failure. failure ≡ None → paths.new ≡ ways_behind (view_of body.entry) kind paths.old (shapes args.now)) }
+    ensures named { IfOk result (λ failure. failure ≡ None → paths.new ≡ ways_behind (view_of body.entry) kind paths.old (shapes args.now))
+        }
 {
     'each: for arg in args {
         if let Some(failure) = argument(body, kind, paths, arg)? {

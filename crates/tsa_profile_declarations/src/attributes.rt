@@ -18,7 +18,8 @@ use tsa_profile_accesses::{Body, Failure, ProfileCode};
 
 /// What fails first at an attribute of a member or of a global.
 fn guard_failure(body: Body<'_, '_>, attr: &Attr<'_>) -> Result<Option<Failure>, NoMemory>
-    ensures { IfOk result (λ failure. failure ≡ first (attribute_arguments (view_of body.entry) attr.now.kind [] (attr_shape attr.now).args)) }
+    ensures { IfOk result (λ failure. failure
+        ≡ first (attribute_arguments (view_of body.entry) attr.now.kind [] (attr_shape attr.now).args)) }
 {
     let mut paths = PathSet::new(body.sight.scope.allocator());
     arguments(body, attr.kind, &mut paths, attr.args)
@@ -75,9 +76,13 @@ impl Before {
         within: Within<'_, '_>,
         attr: &Attr<'_>,
     ) -> Result<Option<Failure>, NoMemory>
-        ensures failure { IfOk result (λ failure. failure ≡ first (premise PF7 attr.now.span (within.entry.has_body && misfits_beside within.entry.gives self.old.tries (attr_shape attr.now)) ∷ attribute_arguments (view_of within.entry.body) attr.now.kind self.old.paths (attr_shape attr.now).args)) }
+        ensures failure { IfOk result (λ failure. failure
+            ≡ first (premise PF7 attr.now.span
+            (within.entry.has_body && misfits_beside within.entry.gives self.old.tries (attr_shape attr.now)) ∷ attribute_arguments
+            (view_of within.entry.body) attr.now.kind self.old.paths (attr_shape attr.now).args)) }
         ensures tries { IfOk result (λ failure. failure ≡ None → self.new.tries ≡ with_attribute self.old.tries (attr_shape attr.now)) }
-        ensures paths { IfOk result (λ failure. failure ≡ None → self.new.paths ≡ ways_behind (view_of within.entry.body) attr.now.kind self.old.paths (attr_shape attr.now).args) }
+        ensures paths { IfOk result (λ failure. failure ≡ None
+            → self.new.paths ≡ ways_behind (view_of within.entry.body) attr.now.kind self.old.paths (attr_shape attr.now).args) }
     {
         if within.misfits(self.tries, attr) {
             return Ok(Some(Failure {
@@ -100,7 +105,8 @@ impl<'w, 'a> Within<'w, 'a> {
 
     /// What fails first at the attributes of the function.
     fn failure(self, attrs: &[Attr<'_>]) -> Result<Option<Failure>, NoMemory>
-        ensures { IfOk result (λ failure. failure ≡ first (attribute_premises (view_of self.entry.body) self.entry.has_body self.entry.gives [] [] (attr_shapes attrs.now))) }
+        ensures { IfOk result (λ failure. failure
+            ≡ first (attribute_premises (view_of self.entry.body) self.entry.has_body self.entry.gives [] [] (attr_shapes attrs.now))) }
     {
         let mut before = Before::new(self.body.sight.scope.allocator());
         'each: for attr in attrs {
@@ -119,7 +125,8 @@ pub fn attributes_failure(
     gives: Kind,
     attrs: &[Attr<'_>],
 ) -> Result<Option<Failure>, NoMemory>
-    ensures { IfOk result (λ failure. failure ≡ first (attribute_premises (view_of body.entry) has_body gives [] [] (attr_shapes attrs.now))) }
+    ensures { IfOk result (λ failure. failure
+        ≡ first (attribute_premises (view_of body.entry) has_body gives [] [] (attr_shapes attrs.now))) }
 {
     let within = Within {
         body,

@@ -5,7 +5,13 @@ ghost use Rattle.tsa_tree.specs.attributes.Syntax.{attr_shape, attr_shapes};
 ghost use Rattle.tsa_tree.specs.declarations.Shapes.{head_shape, param_shape, param_shapes, type_shape};
 ghost use Rattle.tsa_tree.specs.types.DeclaredTypes.{thing_type};
 ghost use Rattle.tsa_tree.specs.expressions.Shapes.{name_shape, shape, shapes};
-ghost use Rattle.tsa_tree.specs.types.Runnable.{bare, gives as spec_gives, change_of, gives_number as spec_gives_number, is_environment as spec_is_environment, is_integer_kind, is_lock_function as spec_is_lock_function, is_named as spec_is_named, is_scalar_kind as spec_is_scalar_kind, is_small as spec_is_small, leaves_all as spec_leaves_all, names_alone as spec_names_alone, parameter_named as spec_parameter_named, points_to_lock as spec_points_to_lock, takes_integers as spec_takes_integers};
+ghost use Rattle.tsa_tree.specs.types.Runnable.{bare, gives as spec_gives, change_of, gives_number as spec_gives_number};
+ghost use Rattle.tsa_tree.specs.types.Runnable.{is_environment as spec_is_environment, is_integer_kind};
+ghost use Rattle.tsa_tree.specs.types.Runnable.{is_lock_function as spec_is_lock_function, is_named as spec_is_named};
+ghost use Rattle.tsa_tree.specs.types.Runnable.{is_scalar_kind as spec_is_scalar_kind, is_small as spec_is_small};
+ghost use Rattle.tsa_tree.specs.types.Runnable.{leaves_all as spec_leaves_all, names_alone as spec_names_alone};
+ghost use Rattle.tsa_tree.specs.types.Runnable.{parameter_named as spec_parameter_named, points_to_lock as spec_points_to_lock};
+ghost use Rattle.tsa_tree.specs.types.Runnable.{takes_integers as spec_takes_integers};
 
 use tsa_base::NoMemory;
 use tsa_types_scope::Scope;
@@ -102,7 +108,10 @@ fn changes_lock(
     param: &Param<'_>,
     attr: &Attr<'_>,
 ) -> Result<bool, NoMemory>
-    ensures { IfOk result (λ changes. changes ≡ (spec_points_to_lock scope.now (thing_type scope.now (param_shape param.now).ctype) && (spec_gives (change_of attr.now.kind) (thing_type scope.now (head_shape head.now).result).kind && spec_parameter_named (param_shape param.now).name (attr_shape attr.now).args))) }
+    ensures { IfOk result (λ changes. changes
+        ≡ (spec_points_to_lock scope.now (thing_type scope.now (param_shape param.now).ctype)
+        && (spec_gives (change_of attr.now.kind) (thing_type scope.now (head_shape head.now).result).kind
+        && spec_parameter_named (param_shape param.now).name (attr_shape attr.now).args))) }
 {
     let thing = declared_thing(scope, &param.ctype)?;
     let result = declared_thing(scope, &head.result)?;
@@ -114,7 +123,10 @@ fn changes_lock(
 
 /// Whether a function with one parameter has one attribute, and takes, tries or gives back the lock that the parameter points to.
 fn changes_by(scope: &Scope<'_>, head: &FnTree<'_>, param: &Param<'_>) -> Result<bool, NoMemory>
-    ensures { IfOk result (λ is_lock. is_lock ≡ spec_is_lock_function scope.now (record { name = name_shape head.now.name; result = type_shape head.now.result; params = param_shape param.now ∷ []; attrs = attr_shapes head.now.attrs.now })) }
+    ensures { IfOk result (λ is_lock. is_lock
+        ≡ spec_is_lock_function scope.now
+        (record { name = name_shape head.now.name; result = type_shape head.now.result; params = param_shape param.now ∷ []; attrs =
+        attr_shapes head.now.attrs.now })) }
 {
     match head.attrs {
         [attr] => changes_lock(scope, head, param, attr),

@@ -32,7 +32,8 @@ fn params_failure(scope: &Scope<'_>, params: &[Param<'_>]) -> Result<Option<Fail
 
 /// Whether a function is neither a lock function nor one of the environment.
 fn is_neither(scope: &Scope<'_>, head: &FnTree<'_>) -> Result<bool, NoMemory>
-    ensures { IfOk result (λ neither. neither ≡ not (spec_is_lock_function scope.now (head_shape head.now) || spec_is_environment scope.now (head_shape head.now))) }
+    ensures { IfOk result (λ neither. neither
+        ≡ not (spec_is_lock_function scope.now (head_shape head.now) || spec_is_environment scope.now (head_shape head.now))) }
 {
     if is_lock_function(scope, head)? {
         return Ok(false);
@@ -40,8 +41,8 @@ fn is_neither(scope: &Scope<'_>, head: &FnTree<'_>) -> Result<bool, NoMemory>
     Ok(!is_environment(scope, head)?)
 }
 
-/// A function's head: the functions whose bodies are said to stand elsewhere, by their numbers; what is known before the head; and whether the function has
-/// a body anywhere.
+/// A function's head: the functions whose bodies are said to stand elsewhere, by their numbers; what is known before the head; and whether
+/// the function has a body anywhere.
 #[derive(Clone, Copy)]
 pub struct Heading<'w, 'a> {
     pub outside: &'w [u32],
@@ -52,7 +53,8 @@ pub struct Heading<'w, 'a> {
 impl<'w, 'a> Heading<'w, 'a> {
     /// Whether the function that is declared next is said to have its body elsewhere.
     fn is_outside(self) -> Result<bool, NoMemory>
-        ensures { IfOk result (λ is_outside. is_outside ≡ list_any (nat_eq (length self.entry.scope.now.functions)) self.entry.outside.now) }
+        ensures { IfOk result (λ is_outside. is_outside ≡ list_any (nat_eq (length self.entry.scope.now.functions)) self.entry.outside.now)
+            }
     {
         let next = self.scope.next_function()?;
         Ok(self.outside.contains(&next))
@@ -60,7 +62,8 @@ impl<'w, 'a> Heading<'w, 'a> {
 
     /// Whether a function without a body is nothing that one may be.
     fn is_nothing(self, head: &FnTree<'_>) -> Result<bool, NoMemory>
-        ensures { IfOk result (λ nothing. nothing ≡ spec_is_nothing self.entry.outside.now self.entry.scope.now (head_shape head.now) self.entry.has_body) }
+        ensures { IfOk result (λ nothing. nothing ≡ spec_is_nothing self.entry.outside.now self.entry.scope.now (head_shape head.now)
+            self.entry.has_body) }
     {
         if self.has_body || self.scope.declared(head.name.text).is_some() {
             return Ok(false);
@@ -74,7 +77,10 @@ impl<'w, 'a> Heading<'w, 'a> {
     /// What fails first at a head before its attributes: that it stands for nothing, then its parameters.
     #[tactic(auto, using(crate::proofs::HeadParts::nothing_told, crate::proofs::HeadParts::param_told))]
     pub fn outer_failure(self, head: &FnTree<'_>) -> Result<Option<Failure>, NoMemory>
-        ensures { IfOk result (λ failure. failure ≡ first (premise PF6 head.now.name.span (spec_is_nothing self.entry.outside.now self.entry.scope.now (head_shape head.now) self.entry.has_body) ∷ param_premises self.entry.scope.now (head_shape head.now).params)) }
+        ensures { IfOk result (λ failure. failure
+            ≡ first (premise PF6 head.now.name.span
+            (spec_is_nothing self.entry.outside.now self.entry.scope.now (head_shape head.now) self.entry.has_body) ∷ param_premises
+            self.entry.scope.now (head_shape head.now).params)) }
     {
         if self.is_nothing(head)? {
             return Ok(Some(Failure {

@@ -20,7 +20,9 @@ fn succeeds(success: Option<bool>) -> bool
 
 /// The lock that an argument of an attribute names.
 fn named_lock(sight: Sight<'_, '_>, attr: &Attr<'_>, arg: &Expr<'_>) -> Result<NamedLock, NoMemory>
-    ensures { IfOk result (λ lock. lock ≡ record { kind = attr.now.kind; success = spec_succeeds attr.now.success; path = lock_way (stable_in sight.entry.stable.now) sight.entry.scope.now (shape arg.now) }) }
+    ensures { IfOk result (λ lock. lock ≡ record
+        { kind = attr.now.kind; success = spec_succeeds attr.now.success; path = lock_way (stable_in sight.entry.stable.now)
+        sight.entry.scope.now (shape arg.now) }) }
 {
     Ok(NamedLock {
         kind: attr.kind,
@@ -35,7 +37,8 @@ fn add_locks(
     locks: &mut Vec<NamedLock>,
     attr: &Attr<'_>,
 ) -> Result<(), NoMemory>
-    ensures { OnOk result (locks.new.items ≡ locks.old.items ++ attr_args (stable_in sight.entry.stable.now) sight.entry.scope.now (attr_shape attr.now) (attr_shape attr.now).args) }
+    ensures { OnOk result (locks.new.items ≡ locks.old.items ++ attr_args (stable_in sight.entry.stable.now) sight.entry.scope.now
+        (attr_shape attr.now) (attr_shape attr.now).args) }
 {
     'each: for arg in attr.args {
         locks.push(named_lock(sight, attr, arg)?)?;

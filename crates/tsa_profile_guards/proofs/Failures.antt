@@ -1,5 +1,6 @@
 -- What fails at each node of an expression comes before what fails in its parts, and these before what was found behind them.
-use Rattle.std.proofs.Common.{◌≡◌, ◌∙◌, ℕ, suc, Bool, true, false, not, ◌&&◌, List, [], ◌∷◌, ◌++◌, drop, Option, Some, None, is_some, is_none, refl, ap, sym, if◌then◌else◌}
+use Rattle.std.proofs.Common.{◌≡◌, ◌∙◌, ℕ, suc, Bool, true, false, not, ◌&&◌, List, [], ◌∷◌, ◌++◌, drop, Option, Some, None, is_some}
+use Rattle.std.proofs.Common.{is_none, refl, ap, sym, if◌then◌else◌}
 use Rattle.std.specs.List.{list_any}
 use Rattle.std.specs.Prelude.{◌<◌, get_or, length, option_and_then, Result, Ok, Err, OnOk}
 use Rattle.std.proofs.Math.Seq.{drop-cons}
@@ -27,7 +28,8 @@ use Rattle.tsa_profile_accesses.specs.declared.standing.Standing.{Standing}
 use Rattle.tsa_profile_accesses.specs.declared.standing.Standing.TheVariants.{Inside}
 use Rattle.tsa_profile_guards.specs.Accesses.{span_of}
 use Rattle.tsa_profile_accesses.specs.Locks.{is_empty, tries}
-use Rattle.tsa_profile_accesses.specs.Expressions.{View, arguments, attributes_at, callee, compares_a_try, constant, expression, guards, lacks_a_guard, lacks_a_path, of_callee, own, parts}
+use Rattle.tsa_profile_accesses.specs.Expressions.{View, arguments, attributes_at, callee, compares_a_try, constant, expression, guards}
+use Rattle.tsa_profile_accesses.specs.Expressions.{lacks_a_guard, lacks_a_path, of_callee, own, parts}
 use Rattle.tsa_profile_accesses.specs.Premises.{Premise, premise, or_else, failure_of, first, told}
 use Rattle.tsa_profile_accesses.specs.ExpressionViews.{Seen, seen_of}
 use Rattle.tsa_profile_accesses.specs.Standing.{beside, may_call, may_try, under_not}

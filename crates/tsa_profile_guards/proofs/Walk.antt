@@ -28,7 +28,8 @@ use Rattle.tsa_core.specs.Uses.{access_guards, name_guards}
 use Rattle.tsa_profile_accesses.specs.Accesses.{Access}
 use Rattle.tsa_profile_guards.specs.Accesses.{access, accesses, before}
 use Rattle.tsa_profile_guards.specs.Values.{name_read}
-use Rattle.tsa_profile_accesses.specs.ExpressionViews.{a_value, behind, cells_behind, loaded, meant_as, member_of, seen_of, thing_of, typed, value_of}
+use Rattle.tsa_profile_accesses.specs.ExpressionViews.{a_value, behind, cells_behind, loaded, meant_as, member_of, seen_of, thing_of, typed}
+use Rattle.tsa_profile_accesses.specs.ExpressionViews.{value_of}
 
 -- no operator gives a place
 no_place : (o : BinaryOp) (l r : Sense) → is_place (operands o l r) ≡ false

@@ -35,7 +35,8 @@ fn is_address(op: UnaryOp) -> bool
 /// What fails in an expression as a place inside of others.
 #[tactic(auto, using(crate::proofs::Places::nothing_behind))]
 pub fn place_failure(body: Body<'_, '_>, expr: &Expr<'_>) -> Result<Option<Failure>, NoMemory>
-    ensures { IfOk result (λ failure. failure ≡ first (own (view_of body.entry) Inside false (shape expr.now) ++ parts (view_of body.entry) Inside (shape expr.now))) }
+    ensures { IfOk result (λ failure. failure
+        ≡ first (own (view_of body.entry) Inside false (shape expr.now) ++ parts (view_of body.entry) Inside (shape expr.now))) }
 {
     let mut uses = Uses::new(body.sight.scope.allocator());
     walk(body, &mut uses, as_place(), expr)?;

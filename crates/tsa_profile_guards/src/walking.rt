@@ -1,5 +1,5 @@
-//! The walk over an expression (C11 6.5), from its last part to its first: the cells that are read, and the first premise of the profile that fails, since
-//! those of a node come before those of its parts. The recursion is as deep as the tree is high.
+//! The walk over an expression (C11 6.5), from its last part to its first: the cells that are read, and the first premise of the profile
+//! that fails, since those of a node come before those of its parts. The recursion is as deep as the tree is high.
 ghost use Rattle.std.specs.Prelude.{◌≡◌, [], false, true, ◌++◌, IfOk, OnOk};
 ghost use Rattle.tsa_core.specs.Cells.{argument_cells, cells_read, inner_cells};
 ghost use Rattle.tsa_core.specs.Meanings.{meaning, of_name};
@@ -75,8 +75,8 @@ fn prefix_at(op: UnaryOp, span: Span, stand: Stand) -> Prefix
     Prefix { op, span, stand }
 }
 
-/// What an expression is, where it leads as a place or as a pointer, and the guards of its access. The cells that are read inside it come before
-/// those that were found, and what fails in it before what failed.
+/// What an expression is, where it leads as a place or as a pointer, and the guards of its access. The cells that are read inside it come
+/// before those that were found, and what fails in it before what failed.
 #[cycle(walking)]
 #[tactic(auto, using(crate::proofs::Walk::steps, crate::proofs::Failures::fails))]
 pub(crate) fn walk(
@@ -85,8 +85,10 @@ pub(crate) fn walk(
     stand: Stand,
     expr: &Expr<'_>,
 ) -> Result<Seen, NoMemory>
-    ensures seen { IfOk result (λ seen. seen ≡ seen_of body.entry.layout.now (stable_in body.entry.sight.stable.now) body.entry.sight.scope.now stand.as_pointer (shape expr.now)) }
-    ensures cells { OnOk result (uses.new.accesses ≡ before body.entry.layout.now (stable_in body.entry.sight.stable.now) body.entry.sight.scope.now (inner_cells body.entry.sight.scope.now (shape expr.now)) uses.old.accesses) }
+    ensures seen { IfOk result (λ seen. seen ≡ seen_of body.entry.layout.now (stable_in body.entry.sight.stable.now)
+        body.entry.sight.scope.now stand.as_pointer (shape expr.now)) }
+    ensures cells { OnOk result (uses.new.accesses ≡ before body.entry.layout.now (stable_in body.entry.sight.stable.now)
+        body.entry.sight.scope.now (inner_cells body.entry.sight.scope.now (shape expr.now)) uses.old.accesses) }
     ensures failure { OnOk result (uses.new.failure ≡ failing (view_of body.entry) stand.standing false (shape expr.now) uses.old.failure) }
 {
     match &expr.kind {
@@ -134,9 +136,13 @@ fn with_prefix(
     prefix: Prefix,
     inner: &Expr<'_>,
 ) -> Result<Seen, NoMemory>
-    ensures seen { IfOk result (λ seen. seen ≡ seen_of body.entry.layout.now (stable_in body.entry.sight.stable.now) body.entry.sight.scope.now prefix.stand.as_pointer (unary prefix.op (shape inner.now) prefix.span)) }
-    ensures cells { OnOk result (uses.new.accesses ≡ before body.entry.layout.now (stable_in body.entry.sight.stable.now) body.entry.sight.scope.now (inner_cells body.entry.sight.scope.now (unary prefix.op (shape inner.now) prefix.span)) uses.old.accesses) }
-    ensures failure { OnOk result (uses.new.failure ≡ failing (view_of body.entry) prefix.stand.standing false (unary prefix.op (shape inner.now) prefix.span) uses.old.failure) }
+    ensures seen { IfOk result (λ seen. seen ≡ seen_of body.entry.layout.now (stable_in body.entry.sight.stable.now)
+        body.entry.sight.scope.now prefix.stand.as_pointer (unary prefix.op (shape inner.now) prefix.span)) }
+    ensures cells { OnOk result (uses.new.accesses ≡ before body.entry.layout.now (stable_in body.entry.sight.stable.now)
+        body.entry.sight.scope.now (inner_cells body.entry.sight.scope.now (unary prefix.op (shape inner.now) prefix.span))
+        uses.old.accesses) }
+    ensures failure { OnOk result (uses.new.failure
+        ≡ failing (view_of body.entry) prefix.stand.standing false (unary prefix.op (shape inner.now) prefix.span) uses.old.failure) }
 {
     let alloc = body.sight.scope.allocator();
     match prefix.op {
@@ -171,8 +177,11 @@ fn operand(
     stand: Stand,
     expr: &Expr<'_>,
 ) -> Result<Seen, NoMemory>
-    ensures seen { IfOk result (λ seen. seen ≡ loaded (seen_of body.entry.layout.now (stable_in body.entry.sight.stable.now) body.entry.sight.scope.now stand.as_pointer (shape expr.now))) }
-    ensures cells { OnOk result (uses.new.accesses ≡ before body.entry.layout.now (stable_in body.entry.sight.stable.now) body.entry.sight.scope.now (cells_read body.entry.sight.scope.now (shape expr.now)) uses.old.accesses) }
+    ensures seen { IfOk result (λ seen. seen
+        ≡ loaded (seen_of body.entry.layout.now (stable_in body.entry.sight.stable.now) body.entry.sight.scope.now stand.as_pointer
+        (shape expr.now))) }
+    ensures cells { OnOk result (uses.new.accesses ≡ before body.entry.layout.now (stable_in body.entry.sight.stable.now)
+        body.entry.sight.scope.now (cells_read body.entry.sight.scope.now (shape expr.now)) uses.old.accesses) }
     ensures failure { OnOk result (uses.new.failure ≡ failing (view_of body.entry) stand.standing true (shape expr.now) uses.old.failure) }
 {
     let seen = walk(body, uses, stand, expr)?;
@@ -188,8 +197,11 @@ fn owner(
     arrow: bool,
     expr: &Expr<'_>,
 ) -> Result<Seen, NoMemory>
-    ensures seen { IfOk result (λ seen. seen ≡ behind arrow (seen_of body.entry.layout.now (stable_in body.entry.sight.stable.now) body.entry.sight.scope.now arrow (shape expr.now))) }
-    ensures cells { OnOk result (uses.new.accesses ≡ before body.entry.layout.now (stable_in body.entry.sight.stable.now) body.entry.sight.scope.now (cells_behind arrow body.entry.sight.scope.now (shape expr.now)) uses.old.accesses) }
+    ensures seen { IfOk result (λ seen. seen
+        ≡ behind arrow (seen_of body.entry.layout.now (stable_in body.entry.sight.stable.now) body.entry.sight.scope.now arrow
+        (shape expr.now))) }
+    ensures cells { OnOk result (uses.new.accesses ≡ before body.entry.layout.now (stable_in body.entry.sight.stable.now)
+        body.entry.sight.scope.now (cells_behind arrow body.entry.sight.scope.now (shape expr.now)) uses.old.accesses) }
     ensures failure { OnOk result (uses.new.failure ≡ failing (view_of body.entry) Inside arrow (shape expr.now) uses.old.failure) }
 {
     if arrow {
@@ -208,8 +220,10 @@ fn named_value(
     span: Span,
 ) -> Result<ExpressionType, NoMemory>
     ensures value { IfOk result (λ t. t ≡ (thing_of (of_name (known_in body.entry.sight.scope.now name.now))).expression) }
-    ensures cells { OnOk result (uses.new.accesses ≡ name_read body.entry.layout.now body.entry.sight.scope.now name.now span ++ uses.old.accesses) }
-    ensures failure { OnOk result (uses.new.failure ≡ or_else (told span (name_code body.entry.is_run body.entry.layout.now body.entry.sight.scope.now name.now)) uses.old.failure) }
+    ensures cells { OnOk result (uses.new.accesses ≡ name_read body.entry.layout.now body.entry.sight.scope.now name.now span
+        ++ uses.old.accesses) }
+    ensures failure { OnOk result (uses.new.failure
+        ≡ or_else (told span (name_code body.entry.is_run body.entry.layout.now body.entry.sight.scope.now name.now)) uses.old.failure) }
 {
     let seen = body.name_value(name)?;
     uses.tell(body.guard_code(&seen), span);
@@ -227,7 +241,8 @@ fn value_type(
     expr: &Expr<'_>,
 ) -> Result<ExpressionType, NoMemory>
     ensures value { IfOk result (λ t. t ≡ (meaning body.entry.sight.scope.now (shape expr.now)).type) }
-    ensures cells { OnOk result (uses.new.accesses ≡ before body.entry.layout.now (stable_in body.entry.sight.stable.now) body.entry.sight.scope.now (cells_read body.entry.sight.scope.now (shape expr.now)) uses.old.accesses) }
+    ensures cells { OnOk result (uses.new.accesses ≡ before body.entry.layout.now (stable_in body.entry.sight.stable.now)
+        body.entry.sight.scope.now (cells_read body.entry.sight.scope.now (shape expr.now)) uses.old.accesses) }
     ensures failure { OnOk result (uses.new.failure ≡ failing (view_of body.entry) standing true (shape expr.now) uses.old.failure) }
 {
     match &expr.kind {
@@ -244,7 +259,8 @@ fn value_type(
 /// The arguments of a call, from the last to the first.
 #[cycle(walking)]
 fn arguments(body: Body<'_, '_>, uses: &mut Uses, args: &[Expr<'_>]) -> Result<(), NoMemory>
-    ensures cells { OnOk result (uses.new.accesses ≡ before body.entry.layout.now (stable_in body.entry.sight.stable.now) body.entry.sight.scope.now (argument_cells body.entry.sight.scope.now (shapes args.now)) uses.old.accesses) }
+    ensures cells { OnOk result (uses.new.accesses ≡ before body.entry.layout.now (stable_in body.entry.sight.stable.now)
+        body.entry.sight.scope.now (argument_cells body.entry.sight.scope.now (shapes args.now)) uses.old.accesses) }
     ensures failure { OnOk result (uses.new.failure ≡ failing_arguments (view_of body.entry) (shapes args.now) uses.old.failure) }
 {
     let mut number = args.len();
@@ -263,7 +279,8 @@ pub fn reads(
     standing: Standing,
     expr: &Expr<'_>,
 ) -> Result<Option<Failure>, NoMemory>
-    ensures cells { OnOk result (found.new ≡ found.old ++ spec_reads body.entry.layout.now (stable_in body.entry.sight.stable.now) body.entry.sight.scope.now (shape expr.now)) }
+    ensures cells { OnOk result (found.new ≡ found.old ++ spec_reads body.entry.layout.now (stable_in body.entry.sight.stable.now)
+        body.entry.sight.scope.now (shape expr.now)) }
     ensures failure { IfOk result (λ failure. failure ≡ first (expression (view_of body.entry) standing (shape expr.now))) }
 {
     let mut uses = Uses::within(found.take_room());
@@ -276,8 +293,10 @@ pub fn reads(
 /// What a left side is, where it isn't asked where that leads. The cells that are read on the way to it are found, and what fails there.
 #[tactic(auto, using(crate::proofs::Walk::steps, crate::proofs::Failures::fails))]
 fn left_seen(body: Body<'_, '_>, uses: &mut Uses, left: &Expr<'_>) -> Result<Seen, NoMemory>
-    ensures seen { IfOk result (λ seen. unled seen ≡ unled (seen_of body.entry.layout.now (stable_in body.entry.sight.stable.now) body.entry.sight.scope.now false (shape left.now))) }
-    ensures cells { OnOk result (uses.new.accesses ≡ before body.entry.layout.now (stable_in body.entry.sight.stable.now) body.entry.sight.scope.now (inner_cells body.entry.sight.scope.now (shape left.now)) uses.old.accesses) }
+    ensures seen { IfOk result (λ seen. unled seen
+        ≡ unled (seen_of body.entry.layout.now (stable_in body.entry.sight.stable.now) body.entry.sight.scope.now false (shape left.now))) }
+    ensures cells { OnOk result (uses.new.accesses ≡ before body.entry.layout.now (stable_in body.entry.sight.stable.now)
+        body.entry.sight.scope.now (inner_cells body.entry.sight.scope.now (shape left.now)) uses.old.accesses) }
     ensures failure { OnOk result (uses.new.failure ≡ failing (view_of body.entry) Inside false (shape left.now) uses.old.failure) }
 {
     match &left.kind {
@@ -294,7 +313,8 @@ fn left_side(
     left: &Expr<'_>,
 ) -> Result<Uses, NoMemory>
     requires room { room ≡ [] }
-    ensures cells { IfOk result (λ uses. uses.accesses ≡ written body.entry.layout.now (stable_in body.entry.sight.stable.now) body.entry.sight.scope.now op (shape left.now)) }
+    ensures cells { IfOk result (λ uses. uses.accesses ≡ written body.entry.layout.now (stable_in body.entry.sight.stable.now)
+        body.entry.sight.scope.now op (shape left.now)) }
     ensures failure { IfOk result (λ uses. uses.failure ≡ first (expression (view_of body.entry) Inside (shape left.now))) }
 {
     let mut uses = Uses::within(room);
@@ -310,15 +330,16 @@ fn left_side(
     }
 }
 
-/// Adds the cells that an assignment reads and writes for its left side: the cell that it is, which is read before where an operator joins the
-/// old value, and those that are read on the way to it. Tells the first premise that fails there.
+/// Adds the cells that an assignment reads and writes for its left side: the cell that it is, which is read before where an operator joins
+/// the old value, and those that are read on the way to it. Tells the first premise that fails there.
 pub fn writes(
     body: Body<'_, '_>,
     found: &mut Footprint,
     op: Option<BinaryOp>,
     left: &Expr<'_>,
 ) -> Result<Option<Failure>, NoMemory>
-    ensures cells { OnOk result (found.new ≡ found.old ++ written body.entry.layout.now (stable_in body.entry.sight.stable.now) body.entry.sight.scope.now op (shape left.now)) }
+    ensures cells { OnOk result (found.new ≡ found.old ++ written body.entry.layout.now (stable_in body.entry.sight.stable.now)
+        body.entry.sight.scope.now op (shape left.now)) }
     ensures failure { IfOk result (λ failure. failure ≡ first (expression (view_of body.entry) Inside (shape left.now))) }
 {
     let uses = left_side(body, found.take_room(), op, left)?;

@@ -1,5 +1,6 @@
 -- What is known and found behind a function.
-use Rattle.std.proofs.Common.{◌≡◌, ◌∙◌, ℕ, Bool, true, false, not, List, [], ◌∷◌, ◌++◌, filter, length, map, nat_lt, slice_set, Option, Some, None, is_some, is_none, refl, sym, ap}
+use Rattle.std.proofs.Common.{◌≡◌, ◌∙◌, ℕ, Bool, true, false, not, List, [], ◌∷◌, ◌++◌, filter, length, map, nat_lt, slice_set, Option}
+use Rattle.std.proofs.Common.{Some, None, is_some, is_none, refl, sym, ap}
 use Rattle.std.proofs.lemmas.List.{append-nil}
 use Rattle.tsa_base.specs.declared.token.Span.{Span}
 use Rattle.tsa_tree.specs.declarations.Syntax.{Head}
@@ -28,7 +29,8 @@ use Rattle.tsa_core_environment.specs.Functions.{IsInside}
 use Rattle.tsa_profile_points.specs.Bodies.{Around, is_try_variable, points_premises}
 use Rattle.tsa_profile_points.specs.Ways.{function_paths}
 use Rattle.tsa_profile_context.specs.declared.context.Ground.{Ground}
-use Rattle.tsa_profile_context.specs.Judging.{Knowledge, around_at, behind, declared_attributes, entered, unit_at, with_body, with_function, with_scope, without_body}
+use Rattle.tsa_profile_context.specs.Judging.{Knowledge, around_at, behind, declared_attributes, entered, unit_at, with_body, with_function}
+use Rattle.tsa_profile_context.specs.Judging.{with_scope, without_body}
 use Rattle.tsa_profile_context.specs.Units.{Unit, around, attributes_by, is_alone, points_in, stable_of}
 use Rattle.tsa_profile_context.proofs.Sequences.{or_else_none}
 

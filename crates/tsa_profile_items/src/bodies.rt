@@ -81,7 +81,8 @@ fn around<'t, 'w>(
 ) -> Around<'w>
 where
     't: 'w,
-    ensures { around_of result ≡ record { layout = (unit_at ground.now).program.layout; attributes = attributes.now; tries = spec_tries (attributes_at attributes.now inner.entry.number); stable = stable_in inner.entry.stable.now } }
+    ensures { around_of result ≡ record { layout = (unit_at ground.now).program.layout; attributes = attributes.now; tries = spec_tries
+        (attributes_at attributes.now inner.entry.number); stable = stable_in inner.entry.stable.now } }
 {
     Around {
         layout: ground.layout,
@@ -99,9 +100,15 @@ fn along<'a>(
     steps: &[Step<'a>],
 ) -> Result<Judged, NoMemory>
     ensures known { OnOk result (known.new ≡ with_scope (walk_behind (walk known.old.here []) (map step_shape steps.now)).here known.old) }
-    ensures failure { IfOk result (λ judged. judged.failure ≡ first (points_premises (around_at ground.now known.old inner.entry.number inner.entry.stable.now) (points_along (walk known.old.here []) (map step_shape steps.now)))) }
-    ensures tries { IfOk result (λ judged. judged.tries ≡ length (filter (is_try_variable (around_at ground.now known.old inner.entry.number inner.entry.stable.now)) (points_along (walk known.old.here []) (map step_shape steps.now)))) }
-    ensures paths { IfOk result (λ judged. judged.paths ≡ function_paths (around_at ground.now known.old inner.entry.number inner.entry.stable.now) (attributes_at known.old.attributes inner.entry.number) (points_along (walk known.old.here []) (map step_shape steps.now))) }
+    ensures failure { IfOk result (λ judged. judged.failure
+        ≡ first (points_premises (around_at ground.now known.old inner.entry.number inner.entry.stable.now)
+        (points_along (walk known.old.here []) (map step_shape steps.now)))) }
+    ensures tries { IfOk result (λ judged. judged.tries
+        ≡ length (filter (is_try_variable (around_at ground.now known.old inner.entry.number inner.entry.stable.now))
+        (points_along (walk known.old.here []) (map step_shape steps.now)))) }
+    ensures paths { IfOk result (λ judged. judged.paths
+        ≡ function_paths (around_at ground.now known.old inner.entry.number inner.entry.stable.now)
+        (attributes_at known.old.attributes inner.entry.number) (points_along (walk known.old.here []) (map step_shape steps.now))) }
 {
     let mut walk = Walk::new(take_scope(&mut known.scope)?);
     let own = locks_of(&known.attributes, inner.number);
@@ -118,8 +125,11 @@ pub fn judge_body<'a>(
     inner: Inside<'_>,
     body: &'a [Stmt<'a>],
 ) -> Result<(), ProfileRefusal>
-    ensures judged { Judges (first (points_premises (around_at ground.now known.old inner.entry.number inner.entry.stable.now) (placed_all known.old.here (stmt_shapes body.now)))) result }
-    ensures found { OnOk result (known.new ≡ with_body known.old inner.entry.number inner.entry.name (around_at ground.now known.old inner.entry.number inner.entry.stable.now) (further (declared_in_all (stmt_shapes body.now)) known.old.here) (placed_all known.old.here (stmt_shapes body.now))) }
+    ensures judged { Judges (first (points_premises (around_at ground.now known.old inner.entry.number inner.entry.stable.now)
+        (placed_all known.old.here (stmt_shapes body.now)))) result }
+    ensures found { OnOk result (known.new
+        ≡ with_body known.old inner.entry.number inner.entry.name (around_at ground.now known.old inner.entry.number inner.entry.stable.now)
+        (further (declared_in_all (stmt_shapes body.now)) known.old.here) (placed_all known.old.here (stmt_shapes body.now))) }
 {
     let steps = body_steps(known.scope.allocator(), body, inner.close)?;
     let found = along(ground, known, inner, &steps)?;
@@ -139,7 +149,8 @@ pub fn alone(
     inner: Inside<'_>,
     is_alone: bool,
 ) -> Result<(), NoMemory>
-    ensures { OnOk result (known.new ≡ without_body known.old inner.entry.number inner.entry.name (around_at ground.now known.old inner.entry.number inner.entry.stable.now) is_alone) }
+    ensures { OnOk result (known.new ≡ without_body known.old inner.entry.number inner.entry.name
+        (around_at ground.now known.old inner.entry.number inner.entry.stable.now) is_alone) }
 {
     if !is_alone {
         return Ok(());

@@ -4,7 +4,8 @@ ghost use Rattle.tsa_base.specs.declared.token.Span.{Span as Close};
 ghost use Rattle.tsa_profile_points.specs.Bodies.{points_premises};
 ghost use Rattle.tsa_profile_context.specs.ItemJudgements.{Judges};
 ghost use Rattle.tsa_profile_context.specs.Judging.{behind, declared_attributes, unit_at};
-ghost use Rattle.tsa_profile_context.specs.Units.{around, attributes_behind, heads_premises, is_alone as spec_is_alone, item_premises, points_in};
+ghost use Rattle.tsa_profile_context.specs.Units.{around, attributes_behind, heads_premises, is_alone as spec_is_alone, item_premises};
+ghost use Rattle.tsa_profile_context.specs.Units.{points_in};
 ghost use Rattle.tsa_profile_accesses.specs.Premises.{first};
 ghost use Rattle.tsa_tree.specs.declarations.Shapes.{head_shape};
 ghost use Rattle.tsa_tree.specs.statements.Shapes.{stmt_shapes};
@@ -40,8 +41,11 @@ fn bodied<'a>(
 ) -> Result<(), ProfileRefusal>
     requires typed { types.first (heads.head_premises known.old.here (head_shape head.now) true) ≡ None }
     requires body { is_some head.now.body ≡ true }
-    ensures judged { Judges (first (heads_premises (unit_at ground.now) known.old.attributes known.old.here (head_shape head.now) true ++ points_premises (around (unit_at ground.now) (declared_attributes (unit_at ground.now) known.old (head_shape head.now) true) known.old.here (head_shape head.now)) (points_in known.old.here (head_shape head.now) (stmt_shapes body.now)))) result }
-    ensures behind { (close : Close) → OnOk result (known.new ≡ behind (unit_at ground.now) known.old (body_item (head_shape head.now) (stmt_shapes body.now) close)) }
+    ensures judged { Judges (first (heads_premises (unit_at ground.now) known.old.attributes known.old.here (head_shape head.now) true
+        ++ points_premises (around (unit_at ground.now) (declared_attributes (unit_at ground.now) known.old (head_shape head.now) true)
+        known.old.here (head_shape head.now)) (points_in known.old.here (head_shape head.now) (stmt_shapes body.now)))) result }
+    ensures behind { (close : Close) → OnOk result
+        (known.new ≡ behind (unit_at ground.now) known.old (body_item (head_shape head.now) (stmt_shapes body.now) close)) }
 {
     let number = function_number(&known.scope, head)?;
     let stable = ground.stable(head)?;
@@ -72,7 +76,8 @@ fn prototype<'a>(
 ) -> Result<(), ProfileRefusal>
     requires typed { types.first (heads.head_premises known.old.here (head_shape head.now) false) ≡ None }
     requires body { is_some head.now.body ≡ false }
-    ensures judged { Judges (first (heads_premises (unit_at ground.now) known.old.attributes known.old.here (head_shape head.now) false)) result }
+    ensures judged { Judges (first (heads_premises (unit_at ground.now) known.old.attributes known.old.here (head_shape head.now) false))
+        result }
     ensures behind { OnOk result (known.new ≡ behind (unit_at ground.now) known.old (function_item (head_shape head.now))) }
 {
     let number = function_number(&known.scope, head)?;
@@ -97,7 +102,9 @@ pub fn function<'a>(
     head: &FnTree<'a>,
 ) -> Result<(), ProfileRefusal>
     requires typed { types.first (typed.item_premises known.old.here (function_shape head.now)) ≡ None }
-    ensures judged { Judges (first (item_premises (unit_at ground.now) known.old.attributes (attributes_behind (unit_at ground.now) known.old.attributes known.old.here (function_shape head.now)) known.old.here (function_shape head.now))) result }
+    ensures judged { Judges (first (item_premises (unit_at ground.now) known.old.attributes
+        (attributes_behind (unit_at ground.now) known.old.attributes known.old.here (function_shape head.now)) known.old.here
+        (function_shape head.now))) result }
     ensures behind { OnOk result (known.new ≡ behind (unit_at ground.now) known.old (function_shape head.now)) }
 {
     match head.body {

@@ -26,7 +26,9 @@ fn item<'a>(
 ) -> Result<(), ProfileRefusal>
     requires outside { known.old.here.owned ≡ [] }
     requires typed { types.first (typed.item_premises known.old.here (item_shape item.now)) ≡ None }
-    ensures judged { Judges (first (item_premises (unit_at ground.now) known.old.attributes (attributes_behind (unit_at ground.now) known.old.attributes known.old.here (item_shape item.now)) known.old.here (item_shape item.now))) result }
+    ensures judged { Judges (first (item_premises (unit_at ground.now) known.old.attributes
+        (attributes_behind (unit_at ground.now) known.old.attributes known.old.here (item_shape item.now)) known.old.here
+        (item_shape item.now))) result }
     ensures behind { OnOk result (known.new ≡ behind (unit_at ground.now) known.old (item_shape item.now)) }
 {
     match item {
@@ -41,8 +43,10 @@ fn item<'a>(
 /// All items in order.
 fn each_item<'a>(ground: &Ground<'_, 'a>, known: &mut Knowledge<'a>) -> Result<(), ProfileRefusal>
     requires outset { known.old ≡ outset_of (unit_at ground.now) }
-    ensures judged { Judges (first (items_premises (unit_at ground.now) [] (typed.outset (item_shapes ground.now.items.now)) (item_shapes ground.now.items.now))) result }
-    ensures behind { OnOk result (known.new ≡ behind_all (unit_at ground.now) (outset_of (unit_at ground.now)) (item_shapes ground.now.items.now)) }
+    ensures judged { Judges (first (items_premises (unit_at ground.now) [] (typed.outset (item_shapes ground.now.items.now))
+        (item_shapes ground.now.items.now))) result }
+    ensures behind { OnOk result (known.new ≡ behind_all (unit_at ground.now) (outset_of (unit_at ground.now))
+        (item_shapes ground.now.items.now)) }
 {
     'each: for next in ground.items {
         item(ground, known, next)?;
@@ -67,7 +71,8 @@ fn at_outset<'a>(alloc: Global, ground: &Ground<'_, 'a>) -> Result<Knowledge<'a>
 fn all<'a>(ground: &Ground<'_, 'a>, known: &mut Knowledge<'a>) -> Result<(), ProfileRefusal>
     requires outset { known.old ≡ outset_of (unit_at ground.now) }
     ensures judged { Judges (refusal_with ground.now.outside.now (item_shapes ground.now.items.now)) result }
-    ensures behind { OnOk result (known.new ≡ behind_all (unit_at ground.now) (outset_of (unit_at ground.now)) (item_shapes ground.now.items.now)) }
+    ensures behind { OnOk result (known.new ≡ behind_all (unit_at ground.now) (outset_of (unit_at ground.now))
+        (item_shapes ground.now.items.now)) }
 {
     each_item(ground, known)?;
     answer_of(or_else(known.tries, known.paths))?;
@@ -80,7 +85,8 @@ pub fn judge(
     ground: &Ground<'_, '_>,
 ) -> Result<Vec<Option<PathTable>>, ProfileRefusal>
     ensures judged { Judges (refusal_with ground.now.outside.now (item_shapes ground.now.items.now)) (forget result) }
-    ensures tables { IfOk result (λ tables. tables.items ≡ tables_of_all (unit_of ground.now.outside.now (item_shapes ground.now.items.now)) [] [] (typed.outset (item_shapes ground.now.items.now)) (item_shapes ground.now.items.now)) }
+    ensures tables { IfOk result (λ tables. tables.items ≡ tables_of_all (unit_of ground.now.outside.now (item_shapes ground.now.items.now))
+        [] [] (typed.outset (item_shapes ground.now.items.now)) (item_shapes ground.now.items.now)) }
 {
     let mut known = at_outset(alloc, ground)?;
     all(ground, &mut known)?;

@@ -1,4 +1,5 @@
-//! What the profile asks of the items of a typed unit, judged one by one with what is known in front of each, and the paths of its functions.
+//! What the profile asks of the items of a typed unit, judged one by one with what is known in front of each, and the paths of its
+//! functions.
 #![tactic(auto)]
 
 mod bodies;

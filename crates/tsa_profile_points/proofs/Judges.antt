@@ -1,5 +1,6 @@
 -- What is found of some points and then of others is what is found of all.
-use Rattle.std.proofs.Common.{◌≡◌, ◌∙◌, ℕ, ◌+◌, suc, arith, cond, Bool, true, false, List, [], ◌∷◌, ◌++◌, drop, length, filter, map, Option, refl, sym, ap, if◌then◌else◌}
+use Rattle.std.proofs.Common.{◌≡◌, ◌∙◌, ℕ, ◌+◌, suc, arith, cond, Bool, true, false, List, [], ◌∷◌, ◌++◌, drop, length, filter, map, Option}
+use Rattle.std.proofs.Common.{refl, sym, ap, if◌then◌else◌}
 use Rattle.std.proofs.lemmas.List.{append_assoc, length-append}
 use Rattle.std.proofs.lemmas.List.Elements.{filter-append}
 use Rattle.tsa_place_model.specs.Ways.{Way}

@@ -19,8 +19,8 @@ use Rattle.tsa_profile_accesses.specs.declared.standing.Standing.TheVariants.{Wh
 use Rattle.tsa_profile_accesses.specs.Expressions.{View, constant, is_truth, is_try_call, expression}
 use Rattle.tsa_profile_declarations.specs.Declarations.{init_premises, is_int}
 
--- the layout of the unit, the attributes of the functions that are declared up to there, whether the function of the body tries, and which locals never
--- change
+-- the layout of the unit, the attributes of the functions that are declared up to there, whether the function of the body tries, and which
+-- locals never change
 pub record Around : Type 0 where
   pub layout : Layout
   pub attributes : List (List Attr)

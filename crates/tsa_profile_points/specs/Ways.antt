@@ -1,6 +1,7 @@
--- The paths of a function, each once: those of its own attributes, argument by argument, and then, point by point, those of the guards of what the point
--- reads and writes, in order of the text, and those that the function which it calls names, as they are here.
-use Rattle.std.specs.Prelude.{ℕ, Bool, nat_lt, List, [], ◌∷◌, ◌++◌, length, map, Option, Some, None, option_map, option_and_then, if◌then◌else◌}
+-- The paths of a function, each once: those of its own attributes, argument by argument, and then, point by point, those of the guards of
+-- what the point reads and writes, in order of the text, and those that the function which it calls names, as they are here.
+use Rattle.std.specs.Prelude.{ℕ, Bool, nat_lt, List, [], ◌∷◌, ◌++◌, length, map, Option, Some, None, option_map, option_and_then}
+use Rattle.std.specs.Prelude.{if◌then◌else◌}
 use Rattle.std.specs.List.{flat_map}
 use Rattle.tsa_tree.specs.declarations.Syntax.{Initialiser, value}
 use Rattle.tsa_tree.specs.expressions.Syntax.{Expression}

@@ -16,8 +16,8 @@ fn function_named(scope: &Scope<'_>, name: &[u8]) -> Option<u32>
     function_of(scope.known(name)?)
 }
 
-/// The function that an expression's call calls, by its number: the whole of it is the call, or in a condition what stands behind `!` or beside `==` or
-/// `!=`.
+/// The function that an expression's call calls, by its number: the whole of it is the call, or in a condition what stands behind `!` or
+/// beside `==` or `!=`.
 #[tactic(auto, using(crate::proofs::NodeCalls::node_calls), unfolding(tsa_core::specs::Meanings::call_in))]
 pub fn function_called(scope: &Scope<'_>, expr: &Expr<'_>) -> Option<u32>
     ensures { result ≡ option_map (λ c. c.function) (call_in scope.now (shape expr.now)) }

@@ -33,8 +33,8 @@ pub struct Found {
     pub gathered: Gathered,
 }
 
-/// What is found of a body: the first premise that fails at its points, how many of its locals begin with a try, and the paths of its function, each once,
-/// unless there are more than a function may have.
+/// What is found of a body: the first premise that fails at its points, how many of its locals begin with a try, and the paths of its
+/// function, each once, unless there are more than a function may have.
 #[derive(Drop)]
 pub struct Judged {
     pub failure: Option<Failure>,
@@ -68,7 +68,8 @@ impl<'w, 'a> Spot<'w, 'a> {
     /// Adds the paths that the locks have here which the function of an expression's call names.
     #[tactic(auto, using(crate::proofs::Keeps::callee_keeps))]
     fn put_callee(self, gathered: &mut Gathered, expr: &Expr<'_>) -> Result<(), NoMemory>
-        ensures { OnOk result (gathered.new ≡ with_all gathered.old (calls_ways (around_of self.entry.around) self.entry.scope.now (Some (shape expr.now)))) }
+        ensures { OnOk result (gathered.new
+            ≡ with_all gathered.old (calls_ways (around_of self.entry.around) self.entry.scope.now (Some (shape expr.now)))) }
     {
         let Some(function) = function_called(self.scope, expr) else {
             return Ok(());
@@ -82,7 +83,9 @@ impl<'w, 'a> Spot<'w, 'a> {
 
     /// The same of what is done at a point, which may call none.
     fn put_calls(self, gathered: &mut Gathered, action: &Action<'_>) -> Result<(), NoMemory>
-        ensures { OnOk result (gathered.new ≡ with_all gathered.old (calls_ways (around_of self.entry.around) self.entry.scope.now (spec_calling (action_shape action.now)))) }
+        ensures { OnOk result (gathered.new
+            ≡ with_all gathered.old (calls_ways (around_of self.entry.around) self.entry.scope.now
+            (spec_calling (action_shape action.now)))) }
     {
         match calling(action) {
             Some(expr) => self.put_callee(gathered, expr),
@@ -97,8 +100,12 @@ impl<'w, 'a> Spot<'w, 'a> {
         gathered: &mut Gathered,
         point: &Point<'_>,
     ) -> Result<Option<Failure>, NoMemory>
-        ensures paths { OnOk result (gathered.new ≡ with_ways gathered.old (points_ways (around_of self.entry.around) (placed self.entry.scope.now (action_shape point.now.action) point.now.span ∷ []))) }
-        ensures failure { IfOk result (λ failure. failure ≡ first (points_premises (around_of self.entry.around) (placed self.entry.scope.now (action_shape point.now.action) point.now.span ∷ []))) }
+        ensures paths { OnOk result (gathered.new
+            ≡ with_ways gathered.old (points_ways (around_of self.entry.around)
+            (placed self.entry.scope.now (action_shape point.now.action) point.now.span ∷ []))) }
+        ensures failure { IfOk result (λ failure. failure
+            ≡ first (points_premises (around_of self.entry.around)
+            (placed self.entry.scope.now (action_shape point.now.action) point.now.span ∷ []))) }
     {
         let mut found = gathered.take_room();
         let failure = self.deed_failure(&mut found, point)?;
@@ -109,7 +116,8 @@ impl<'w, 'a> Spot<'w, 'a> {
 
     /// Notes a point behind the others.
     fn note_point(self, found: &mut Found, point: &Point<'_>) -> Result<(), NoMemory>
-        ensures { OnOk result (found.new ≡ behind_points (around_of self.entry.around) found.old (placed self.entry.scope.now (action_shape point.now.action) point.now.span ∷ [])) }
+        ensures { OnOk result (found.new ≡ behind_points (around_of self.entry.around) found.old
+            (placed self.entry.scope.now (action_shape point.now.action) point.now.span ∷ [])) }
     {
         let failure = self.put_point(&mut found.gathered, point)?;
         found.failure = earlier(found.failure, failure);
@@ -146,7 +154,8 @@ impl<'w> Around<'w> {
         walk: &mut Walk<'a>,
         steps: &[Step<'a>],
     ) -> Result<(), NoMemory>
-        ensures found { OnOk result (found.new ≡ behind_points (around_of self.entry) found.old (points_along walk.old (map step_shape steps.now))) }
+        ensures found { OnOk result (found.new
+            ≡ behind_points (around_of self.entry) found.old (points_along walk.old (map step_shape steps.now))) }
         ensures behind { OnOk result (walk.new ≡ walk_behind walk.old (map step_shape steps.now)) }
     {
         'each: for step in steps {
@@ -163,9 +172,12 @@ impl<'w> Around<'w> {
         steps: &[Step<'a>],
         own: &[NamedLock],
     ) -> Result<Judged, NoMemory>
-        ensures failure { IfOk result (λ judged. judged.failure ≡ first (points_premises (around_of self.entry) (points_along walk.old (map step_shape steps.now)))) }
-        ensures tries { IfOk result (λ judged. judged.tries ≡ length (filter (is_try_variable (around_of self.entry)) (points_along walk.old (map step_shape steps.now)))) }
-        ensures paths { IfOk result (λ judged. judged.paths ≡ function_paths (around_of self.entry) own.now (points_along walk.old (map step_shape steps.now))) }
+        ensures failure { IfOk result (λ judged. judged.failure
+            ≡ first (points_premises (around_of self.entry) (points_along walk.old (map step_shape steps.now)))) }
+        ensures tries { IfOk result (λ judged. judged.tries
+            ≡ length (filter (is_try_variable (around_of self.entry)) (points_along walk.old (map step_shape steps.now)))) }
+        ensures paths { IfOk result (λ judged. judged.paths
+            ≡ function_paths (around_of self.entry) own.now (points_along walk.old (map step_shape steps.now))) }
         ensures behind { OnOk result (walk.new ≡ walk_behind walk.old (map step_shape steps.now)) }
     {
         let alloc = walk.scope().allocator();

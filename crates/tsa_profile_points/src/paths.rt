@@ -12,8 +12,8 @@ use tsa_profile_accesses::{Access, Footprint, NamedLock};
 use tsa_path::{InternRefusal, PathTable, substitute};
 use tsa_place_model::Path;
 
-/// Paths, each once, whether there was no room for one, and room for what a point reads and writes. Contracts see the list of the paths, or none where
-/// there was no room.
+/// Paths, each once, whether there was no room for one, and room for what a point reads and writes. Contracts see the list of the paths, or
+/// none where there was no room.
 #[derive(Drop)]
 pub struct Gathered {
     alloc: Global,

@@ -1,7 +1,9 @@
 //! What the profile asks of what is done at the points of a body (C11 6.8), and which cells a point reads and writes.
 ghost use Rattle.std.specs.Prelude.{◌≡◌, true, ◌++◌, Some, option_map, IfOk, OnOk};
 ghost use Rattle.tsa_profile_declarations.specs.Declarations.{is_int as spec_is_int};
-ghost use Rattle.tsa_profile_points.specs.Bodies.{begins_a_try as spec_begins_a_try, deed_premises, is_begun_by_a_try as spec_is_begun_by_a_try, is_no_truth as spec_is_no_truth, local_init, standing_of as spec_standing_of, value_misfits as spec_value_misfits, view_at};
+ghost use Rattle.tsa_profile_points.specs.Bodies.{begins_a_try as spec_begins_a_try, deed_premises};
+ghost use Rattle.tsa_profile_points.specs.Bodies.{is_begun_by_a_try as spec_is_begun_by_a_try, is_no_truth as spec_is_no_truth, local_init};
+ghost use Rattle.tsa_profile_points.specs.Bodies.{standing_of as spec_standing_of, value_misfits as spec_value_misfits, view_at};
 ghost use Rattle.tsa_profile_points.specs.PointAnswers.{around_of, deed_accesses, init_accesses, left_accesses, value_accesses};
 ghost use Rattle.tsa_profile_points.specs.Ways.{calling as spec_calling, init_value as spec_init_value};
 ghost use Rattle.tsa_tree.specs.declarations.Shapes.{decl_shape, init_shape};
@@ -26,8 +28,8 @@ use tsa_tree::number::Number;
 use tsa_tree::stmt::{Action, Point};
 use tsa_place_paths::Sight;
 
-/// What the points of a body stand in: the layout of the unit, the locks that the functions name which are declared so far, by their numbers, whether the
-/// function of the body tries, and which of its locals never change, by their numbers.
+/// What the points of a body stand in: the layout of the unit, the locks that the functions name which are declared so far, by their
+/// numbers, whether the function of the body tries, and which of its locals never change, by their numbers.
 #[derive(Clone, Copy)]
 pub struct Around<'w> {
     pub layout: &'w Layout<'w>,
@@ -98,7 +100,8 @@ pub fn calling<'t>(action: &Action<'t>) -> Option<&'t Expr<'t>>
 impl<'w, 'a> Spot<'w, 'a> {
     /// What an expression sees there: a thread works it out.
     pub fn body(self) -> Body<'w, 'a>
-        ensures { result ≡ record { sight = record { scope = self.entry.scope; stable = self.entry.around.stable }; layout = self.entry.around.layout; attributes = self.entry.around.attributes; is_run = true } }
+        ensures { result ≡ record { sight = record { scope = self.entry.scope; stable = self.entry.around.stable }; layout =
+            self.entry.around.layout; attributes = self.entry.around.attributes; is_run = true } }
     {
         Body {
             sight: Sight {
@@ -127,8 +130,10 @@ impl<'w, 'a> Spot<'w, 'a> {
         standing: Standing,
         expr: &Expr<'_>,
     ) -> Result<Option<Failure>, NoMemory>
-        ensures cells { OnOk result (found.new ≡ found.old ++ value_accesses (around_of self.entry.around) self.entry.scope.now (shape expr.now)) }
-        ensures failure { IfOk result (λ failure. failure ≡ first (expression (view_at (around_of self.entry.around) self.entry.scope.now) standing (shape expr.now))) }
+        ensures cells { OnOk result (found.new ≡ found.old ++ value_accesses (around_of self.entry.around) self.entry.scope.now
+            (shape expr.now)) }
+        ensures failure { IfOk result (λ failure. failure
+            ≡ first (expression (view_at (around_of self.entry.around) self.entry.scope.now) standing (shape expr.now))) }
     {
         reads(self.body(), found, standing, expr)
     }
@@ -140,8 +145,10 @@ impl<'w, 'a> Spot<'w, 'a> {
         op: Option<BinaryOp>,
         left: &Expr<'_>,
     ) -> Result<Option<Failure>, NoMemory>
-        ensures cells { OnOk result (found.new ≡ found.old ++ left_accesses (around_of self.entry.around) self.entry.scope.now op (shape left.now)) }
-        ensures failure { IfOk result (λ failure. failure ≡ first (expression (view_at (around_of self.entry.around) self.entry.scope.now) Inside (shape left.now))) }
+        ensures cells { OnOk result (found.new ≡ found.old ++ left_accesses (around_of self.entry.around) self.entry.scope.now op
+            (shape left.now)) }
+        ensures failure { IfOk result (λ failure. failure
+            ≡ first (expression (view_at (around_of self.entry.around) self.entry.scope.now) Inside (shape left.now))) }
     {
         writes(self.body(), found, op, left)
     }
@@ -154,8 +161,10 @@ impl<'w, 'a> Spot<'w, 'a> {
         thing: ThingType,
         init: &Option<Init<'_>>,
     ) -> Result<Option<Failure>, NoMemory>
-        ensures cells { OnOk result (found.new ≡ found.old ++ init_accesses (around_of self.entry.around) self.entry.scope.now (option_map init_shape init.now)) }
-        ensures failure { IfOk result (λ failure. failure ≡ first (local_init (around_of self.entry.around) self.entry.scope.now thing (option_map init_shape init.now))) }
+        ensures cells { OnOk result (found.new ≡ found.old ++ init_accesses (around_of self.entry.around) self.entry.scope.now
+            (option_map init_shape init.now)) }
+        ensures failure { IfOk result (λ failure. failure
+            ≡ first (local_init (around_of self.entry.around) self.entry.scope.now thing (option_map init_shape init.now))) }
     {
         let Some(init) = init else {
             return Ok(None);
@@ -177,8 +186,10 @@ impl<'w, 'a> Spot<'w, 'a> {
         span: Span,
         decl: &Decl<'_>,
     ) -> Result<Option<Failure>, NoMemory>
-        ensures cells { OnOk result (found.new ≡ found.old ++ deed_accesses (around_of self.entry.around) self.entry.scope.now (declares (decl_shape decl.now))) }
-        ensures failure { IfOk result (λ failure. failure ≡ first (deed_premises (around_of self.entry.around) self.entry.scope.now span (declares (decl_shape decl.now)))) }
+        ensures cells { OnOk result (found.new ≡ found.old ++ deed_accesses (around_of self.entry.around) self.entry.scope.now
+            (declares (decl_shape decl.now))) }
+        ensures failure { IfOk result (λ failure. failure
+            ≡ first (deed_premises (around_of self.entry.around) self.entry.scope.now span (declares (decl_shape decl.now)))) }
     {
         let thing = declared_thing(self.scope, &decl.ctype)?;
         let is_large = failure_if(!is_small(thing), ProfileCode::PF4, decl.span);
@@ -188,7 +199,8 @@ impl<'w, 'a> Spot<'w, 'a> {
 
     /// Whether what a function gives back that tries may be neither 0 nor 1.
     fn value_misfits(self, expr: &Expr<'_>) -> Result<bool, NoMemory>
-        ensures { IfOk result (λ misfits. misfits ≡ spec_value_misfits (around_of self.entry.around) self.entry.scope.now (shape expr.now)) }
+        ensures { IfOk result (λ misfits. misfits ≡ spec_value_misfits (around_of self.entry.around) self.entry.scope.now (shape expr.now))
+            }
     {
         if self.around.tries {
             Ok(is_no_truth(self.body().sight.value_at(expr)?))
@@ -205,8 +217,10 @@ impl<'w, 'a> Spot<'w, 'a> {
         span: Span,
         expr: &Expr<'_>,
     ) -> Result<Option<Failure>, NoMemory>
-        ensures cells { OnOk result (found.new ≡ found.old ++ deed_accesses (around_of self.entry.around) self.entry.scope.now (returns (Some (shape expr.now)))) }
-        ensures failure { IfOk result (λ failure. failure ≡ first (deed_premises (around_of self.entry.around) self.entry.scope.now span (returns (Some (shape expr.now))))) }
+        ensures cells { OnOk result (found.new ≡ found.old ++ deed_accesses (around_of self.entry.around) self.entry.scope.now
+            (returns (Some (shape expr.now)))) }
+        ensures failure { IfOk result (λ failure. failure
+            ≡ first (deed_premises (around_of self.entry.around) self.entry.scope.now span (returns (Some (shape expr.now))))) }
     {
         let misfit = failure_if(self.value_misfits(expr)?, ProfileCode::PF7, span);
         let value = self.value(found, Standing::Whole, expr)?;
@@ -220,8 +234,10 @@ impl<'w, 'a> Spot<'w, 'a> {
         found: &mut Footprint,
         point: &Point<'_>,
     ) -> Result<Option<Failure>, NoMemory>
-        ensures cells { OnOk result (found.new ≡ found.old ++ deed_accesses (around_of self.entry.around) self.entry.scope.now (action_shape point.now.action)) }
-        ensures failure { IfOk result (λ failure. failure ≡ first (deed_premises (around_of self.entry.around) self.entry.scope.now point.now.span (action_shape point.now.action))) }
+        ensures cells { OnOk result (found.new ≡ found.old ++ deed_accesses (around_of self.entry.around) self.entry.scope.now
+            (action_shape point.now.action)) }
+        ensures failure { IfOk result (λ failure. failure
+            ≡ first (deed_premises (around_of self.entry.around) self.entry.scope.now point.now.span (action_shape point.now.action))) }
     {
         match &point.action {
             Action::Declare(decl) => self.declaration(found, point.span, decl),

@@ -13,9 +13,13 @@ use Rattle.tsa_rules.specs.Statuses.{Status, Shared, Exclusive}
 use Rattle.tsa_rules.specs.Attributes.{is_try, kind_of, claim, claims_path, is_reentrant}
 use Rattle.tsa_rules.specs.Conditions.{Subject, the_call, the_local, Condition, condition_in, condition_at, answer_by}
 use Rattle.tsa_rules.specs.Points.{point_at, uses_at, attrs_called, attrs_at, is_a_try, try_number, try_kept}
-use Rattle.tsa_rules.specs.Effects.{entry_by, entry, exit_by, exit_with, exit, answer_given, after_attempt, is_success, Attempt, attempt_of, answer_of_call, of_call, attempt_at, after_attribute, after_claim, left_by_try, after_decision, after_asking, after_test, effect}
+use Rattle.tsa_rules.specs.Effects.{entry_by, entry, exit_by, exit_with, exit, answer_given, after_attempt, is_success, Attempt, attempt_of}
+use Rattle.tsa_rules.specs.Effects.{answer_of_call, of_call, attempt_at, after_attribute, after_claim, left_by_try, after_decision}
+use Rattle.tsa_rules.specs.Effects.{after_asking, after_test, effect}
 use Rattle.tsa_rules.specs.Marks.{claim_in, claim_kind}
-use Rattle.tsa_rules.specs.Cases.{lock_of, asked_by, tests_by, role_by, role_of, kept_for, kept_by, case_of, entry_in, answer_in, is_taken_in, exit_in, answer_told, of_the_call, attempt_in, after_claim_in, left_by_claim, after_asked, after_role, effect_in}
+use Rattle.tsa_rules.specs.Cases.{lock_of, asked_by, tests_by, role_by, role_of, kept_for, kept_by, case_of, entry_in, answer_in}
+use Rattle.tsa_rules.specs.Cases.{is_taken_in, exit_in, answer_told, of_the_call, attempt_in, after_claim_in, left_by_claim, after_asked}
+use Rattle.tsa_rules.specs.Cases.{after_role, effect_in}
 use Rattle.tsa_rules.proofs.Tests.{never}
 use Rattle.tsa_rules.proofs.Possible.{found, tries_called}
 

@@ -1,5 +1,6 @@
 -- The case of a path at a point tells which rules fail there.
-use Rattle.std.proofs.Common.{◌≡◌, ℕ, Bool, true, false, not, ◌&&◌, ◌||◌, ◌⊎◌, inl, inr, List, [], ◌∷◌, Option, Some, None, refl, sym, ap, ◌∙◌}
+use Rattle.std.proofs.Common.{◌≡◌, ℕ, Bool, true, false, not, ◌&&◌, ◌||◌, ◌⊎◌, inl, inr, List, [], ◌∷◌, Option, Some, None, refl, sym, ap}
+use Rattle.std.proofs.Common.{◌∙◌}
 use Rattle.std.specs.List.{list_any}
 use Rattle.tsa_tree.specs.declared.attr.AttrKind.{AttrKind}
 use Rattle.tsa_tree.specs.declared.attr.AttrKind.TheVariants as attr
@@ -13,7 +14,8 @@ use Rattle.tsa_rules.specs.Attributes.{names, is_reentrant}
 use Rattle.tsa_rules.specs.Conditions.{Condition, condition_in}
 use Rattle.tsa_rules.specs.Points.{point_at, uses_at, attrs_at, is_a_try, reads_under, writes_under, is_leaving}
 use Rattle.tsa_rules.specs.Effects.{exit, later}
-use Rattle.tsa_rules.specs.Fails.{Rule, TS01, TS02, TS03, TS04, TS05, TS06, TS07, TS08, TS09, TS10, TS11, TS12, wants_exclusive, wants_held, wants_free, wants_takable, wants_release, is_otherwise_held, fails}
+use Rattle.tsa_rules.specs.Fails.{Rule, TS01, TS02, TS03, TS04, TS05, TS06, TS07, TS08, TS09, TS10, TS11, TS12, wants_exclusive, wants_held}
+use Rattle.tsa_rules.specs.Fails.{wants_free, wants_takable, wants_release, is_otherwise_held, fails}
 use Rattle.tsa_rules.specs.KindSets.{has_kind, kind_number, same_kind}
 use Rattle.tsa_rules.specs.Marks.{kinds_of, names_as}
 use Rattle.tsa_rules.specs.Cases.{tests_by, role_by, case_of, later_in, exit_in, is_leaving_in, fails_in, CasesTellTheRules}

@@ -19,7 +19,9 @@ use Rattle.tsa_rules.specs.Points.{point_at, is_a_try, try_variables, try_number
 use Rattle.tsa_rules.specs.Effects.{Attempt, is_success, same_answer, after_attribute}
 use Rattle.tsa_rules.specs.Marks.{claim_kind}
 use Rattle.tsa_rules.specs.Sets.{HasPlace}
-use Rattle.tsa_rules.specs.Cases.{role_by, begins_by, tests_by, answer_in, is_taken_in, answer_told, of_the_call, attempt_in, after_claim_in, left_by_claim, after_variable, after_asked, after_role, effect_in, IsSmall, StatusesKeepPlaces}
+use Rattle.tsa_rules.specs.Cases.{role_by, begins_by, tests_by, answer_in, is_taken_in, answer_told, of_the_call, attempt_in}
+use Rattle.tsa_rules.specs.Cases.{after_claim_in, left_by_claim, after_variable, after_asked, after_role, effect_in, IsSmall}
+use Rattle.tsa_rules.specs.Cases.{StatusesKeepPlaces}
 use Rattle.tsa_rules.proofs.Possible.{IsKept, seen_kept, called_possible, decided_possible, taken_possible, entry_possible, exit_possible}
 
 -- what comes of a try

@@ -6,7 +6,8 @@ use Rattle.tsa_core.specs.Programs.{Function, Program}
 use Rattle.tsa_rules.specs.Statuses.{Status}
 use Rattle.tsa_rules.specs.Effects.{effect}
 use Rattle.tsa_rules.specs.Fails.{fails}
-use Rattle.tsa_rules.specs.Walks.{Course, course_of, Edge, entry_edge, edge_from, LeadsTo, IsWalk, along, Reach, on_a_walk, where_edges_meet}
+use Rattle.tsa_rules.specs.Walks.{Course, course_of, Edge, entry_edge, edge_from, LeadsTo, IsWalk, along, Reach, on_a_walk}
+use Rattle.tsa_rules.specs.Walks.{where_edges_meet}
 use Rattle.tsa_rules.specs.KeptRows.{Rows, AreKept, KeptRowsBreakNoRule}
 
 pub carried : (k : Course) (At : ℕ → Status → Type 0) → At 0 k.entry

@@ -9,8 +9,11 @@ use Rattle.tsa_rules.specs.Statuses.{Status, Shared, Exclusive, Lent, is_free, i
 use Rattle.tsa_rules.specs.Attributes.{names, claim_count, is_reentrant}
 use Rattle.tsa_rules.specs.Points.{point_at, uses_at, attrs_at, local_begun, reads_under, writes_under, is_leaving}
 use Rattle.tsa_rules.specs.Effects.{exit, later}
-use Rattle.tsa_rules.specs.Fails.{TS01, TS02, TS03, TS04, TS05, TS06, TS07, TS08, TS09, TS10, TS11, TS12, wants_exclusive, wants_held, wants_free, wants_takable, wants_release, is_otherwise_held, breaks_attribute, breaks_call, breaks_reading, breaks_writing, breaks_leaving, breaks_declaring, is_claimed_twice, is_mentioned}
-use Rattle.tsa_rules.specs.Fits.{FitsReading, FitsWriting, FitsRequires, FitsRequiresShared, FitsExcludes, FitsAcquire, FitsRelease, FitsMode, FitsLeaving, FitsNames, FitsDeclaring, FitsCall, WhatDoesNotFailFits}
+use Rattle.tsa_rules.specs.Fails.{TS01, TS02, TS03, TS04, TS05, TS06, TS07, TS08, TS09, TS10, TS11, TS12, wants_exclusive, wants_held}
+use Rattle.tsa_rules.specs.Fails.{wants_free, wants_takable, wants_release, is_otherwise_held, breaks_attribute, breaks_call}
+use Rattle.tsa_rules.specs.Fails.{breaks_reading, breaks_writing, breaks_leaving, breaks_declaring, is_claimed_twice, is_mentioned}
+use Rattle.tsa_rules.specs.Fits.{FitsReading, FitsWriting, FitsRequires, FitsRequiresShared, FitsExcludes, FitsAcquire, FitsRelease}
+use Rattle.tsa_rules.specs.Fits.{FitsMode, FitsLeaving, FitsNames, FitsDeclaring, FitsCall, WhatDoesNotFailFits}
 use Rattle.tsa_rules.proofs.Tests.{never, neither, not_both, affirmed, none_passes, held, exclusive, free, takable, same}
 
 pub reading_fits : (u : Program) (f : Function) (p : ℕ) (c : Way) (s : Status) → breaks_reading u f p c s ≡ false → FitsReading u f p c s

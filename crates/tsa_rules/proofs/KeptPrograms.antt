@@ -1,5 +1,6 @@
 -- Programs whose functions keep rows have no warnings.
-use Rattle.std.proofs.Common.{◌≡◌, ℕ, zero, suc, ◌+◌, ◌<◌, ◌≤◌, nat_lt, ◌⊎◌, inl, inr, Bool, true, false, List, [], ◌∷◌, ◌++◌, length, Contains, Option, Some, None, slice_get, refl, sym, ◌∙◌, ap, subst, arith}
+use Rattle.std.proofs.Common.{◌≡◌, ℕ, zero, suc, ◌+◌, ◌<◌, ◌≤◌, nat_lt, ◌⊎◌, inl, inr, Bool, true, false, List, [], ◌∷◌, ◌++◌, length}
+use Rattle.std.proofs.Common.{Contains, Option, Some, None, slice_get, refl, sym, ◌∙◌, ap, subst, arith}
 use Rattle.std.proofs.lemmas.Option.{slice_get_past}
 use Rattle.std.specs.List.{list_all, list_any}
 use Rattle.tsa_place_model.specs.Ways.{Way}
@@ -11,7 +12,8 @@ use Rattle.tsa_rules.specs.Attributes.{is_path, names, all_as_called}
 use Rattle.tsa_rules.specs.Points.{points_of, or_idle, or_unused, attrs_called, attrs_at, uses_at, is_guarded_by}
 use Rattle.tsa_rules.specs.StatusLaws.{IsUnnamed}
 use Rattle.tsa_rules.specs.KeptRows.{KeepsRows, KeptProgramsHaveNoWarnings}
-use Rattle.tsa_rules.specs.Sheets.{Sheet, rows_of, passes, is_among, has_attr, has_guards, lists_at, lists_from, lists, function_passes, functions_pass, ProgramsThatPassHaveNoWarnings}
+use Rattle.tsa_rules.specs.Sheets.{Sheet, rows_of, passes, is_among, has_attr, has_guards, lists_at, lists_from, lists, function_passes}
+use Rattle.tsa_rules.specs.Sheets.{functions_pass, ProgramsThatPassHaveNoWarnings}
 use Rattle.tsa_rules.proofs.Tests.{never, below, not_below, left_part, right_part}
 use Rattle.tsa_rules.proofs.EdgeInduction.{kept_rows_break_no_rule}
 use Rattle.tsa_rules.proofs.OtherPaths.{rules_speak_of_named_paths}

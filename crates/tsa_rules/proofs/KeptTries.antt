@@ -1,5 +1,6 @@
 -- Try variables and the tries whose answers they keep.
-use Rattle.std.proofs.Common.{◌≡◌, ℕ, zero, suc, ◌+◌, ◌<◌, ◌≤◌, nat_eq, Bool, true, false, List, [], ◌∷◌, length, map, find, take, filter_map, Option, Some, None, option_map, slice_get, if◌then◌else◌, refl, sym, ap, ◌∙◌, subst, arith}
+use Rattle.std.proofs.Common.{◌≡◌, ℕ, zero, suc, ◌+◌, ◌<◌, ◌≤◌, nat_eq, Bool, true, false, List, [], ◌∷◌, length, map, find, take}
+use Rattle.std.proofs.Common.{filter_map, Option, Some, None, option_map, slice_get, if◌then◌else◌, refl, sym, ap, ◌∙◌, subst, arith}
 use Rattle.std.proofs.lemmas.Bool.Decides.{nat_tests}
 use Rattle.std.proofs.lemmas.List.Folds.{find_at}
 use Rattle.std.specs.List.{list_any, position_or_len, cons_option}
@@ -11,15 +12,18 @@ use Rattle.tsa_tree.specs.points.Syntax.{Deed, declares, evaluates, assigns, tes
 use Rattle.tsa_tree.specs.statements.Syntax.{Statements}
 use Rattle.tsa_tree.specs.types.DeclaredTypes.{thing_type}
 use Rattle.tsa_tree.specs.types.Scopes.{Scope}
-use Rattle.tsa_core.specs.Bodies.{Known, known_in_body, Action, evaluate, set_local, set_cell, declare, test, branch, go_on, give, Point, declared, right_side, set_to, point_by, point_of, kinds_by, body_of}
+use Rattle.tsa_core.specs.Bodies.{Known, known_in_body, Action, evaluate, set_local, set_cell, declare, test, branch, go_on, give, Point}
+use Rattle.tsa_core.specs.Bodies.{declared, right_side, set_to, point_by, point_of, kinds_by, body_of}
 use Rattle.tsa_core.specs.Laws.{IsNumbered, AreNumbered}
 use Rattle.tsa_core.specs.Meanings.{meaning}
-use Rattle.tsa_core.specs.Terms.{Term, constant, variable, answer, global, member, element, target, load, address, converted, prefixed, joined}
+use Rattle.tsa_core.specs.Terms.{Term, constant, variable, answer, global, member, element, target, load, address, converted, prefixed}
+use Rattle.tsa_core.specs.Terms.{joined}
 use Rattle.tsa_core.proofs.LocalLists.{locals_are_listed}
 use Rattle.tsa_core.specs.Programs.{Attr, Function, Program}
 use Rattle.tsa_rules.specs.Attributes.{is_try, names, tries_path, try_of}
 use Rattle.tsa_rules.specs.Conditions.{the_local}
-use Rattle.tsa_rules.specs.Points.{points_of, or_idle, point_at, uses_at, attrs_called, attrs_at, local_begun, is_a_try, try_variable_at, try_variables, try_number, begins, declaration_of}
+use Rattle.tsa_rules.specs.Points.{points_of, or_idle, point_at, uses_at, attrs_called, attrs_at, local_begun, is_a_try, try_variable_at}
+use Rattle.tsa_rules.specs.Points.{try_variables, try_number, begins, declaration_of}
 use Rattle.tsa_rules.specs.Marks.{claim_in, mark_of}
 use Rattle.tsa_rules.specs.Cases.{kept_for}
 use Rattle.tsa_rules.specs.TryVariables.{IsNext, begun_count, AreInOrder, TryVariablesAreToldByDeclarations}

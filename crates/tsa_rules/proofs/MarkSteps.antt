@@ -1,5 +1,6 @@
 -- Marks are made step by step.
-use Rattle.std.proofs.Common.{◌≡◌, ℕ, zero, suc, ◌+◌, nat_lt, Bool, true, false, not, ◌&&◌, ◌||◌, List, [], ◌∷◌, ◌++◌, length, find, filter, Option, Some, None, option_map, is_some, refl, sym, ap, ◌∙◌, arith, if◌then◌else◌}
+use Rattle.std.proofs.Common.{◌≡◌, ℕ, zero, suc, ◌+◌, nat_lt, Bool, true, false, not, ◌&&◌, ◌||◌, List, [], ◌∷◌, ◌++◌, length, find, filter}
+use Rattle.std.proofs.Common.{Option, Some, None, option_map, is_some, refl, sym, ap, ◌∙◌, arith, if◌then◌else◌}
 use Rattle.std.proofs.lemmas.Bool.Decides.{nat_tests}
 use Rattle.std.proofs.lemmas.List.Folds.{find-append, list_any-append}
 use Rattle.std.specs.List.{list_any}
@@ -12,7 +13,8 @@ use Rattle.tsa_rules.specs.declared.kinds.Kinds.{Kinds}
 use Rattle.tsa_rules.specs.Attributes.{claims, is_try, names, claims_path, tries_path, kind_of, claim, named, claim_count}
 use Rattle.tsa_rules.specs.Points.{is_guarded_by, is_read_under, is_write_under, reads_under, writes_under, mentions}
 use Rattle.tsa_rules.specs.KindSets.{no_kinds, with_kind}
-use Rattle.tsa_rules.specs.Marks.{claim_in, kinds_with, kinds_of, mark_by, with_attribute, with_right, with_left, with_declaration, MarksAreMadeStepByStep}
+use Rattle.tsa_rules.specs.Marks.{claim_in, kinds_with, kinds_of, mark_by, with_attribute, with_right, with_left, with_declaration}
+use Rattle.tsa_rules.specs.Marks.{MarksAreMadeStepByStep}
 use Rattle.tsa_rules.proofs.KindBits.{or-false}
 
 and-true : (b : Bool) → (b && true) ≡ b

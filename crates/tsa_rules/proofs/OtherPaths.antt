@@ -10,9 +10,12 @@ use Rattle.tsa_core.specs.Uses.{Access}
 use Rattle.tsa_rules.specs.Statuses.{Status, Free, is_unheld, is_exclusive}
 use Rattle.tsa_rules.specs.Attributes.{names, claims, claims_path, claim, claim_count, is_reentrant}
 use Rattle.tsa_rules.specs.Conditions.{Subject, the_call, the_local, Condition, condition_at, answer_by}
-use Rattle.tsa_rules.specs.Points.{point_at, uses_at, attrs_at, local_begun, is_guarded_by, is_read_under, is_write_under, reads_under, writes_under, is_leaving}
+use Rattle.tsa_rules.specs.Points.{point_at, uses_at, attrs_at, local_begun, is_guarded_by, is_read_under, is_write_under, reads_under}
+use Rattle.tsa_rules.specs.Points.{writes_under, is_leaving}
 use Rattle.tsa_rules.specs.Effects.{entry, exit, after_claim, after_call, after_asking, after_test, effect, later}
-use Rattle.tsa_rules.specs.Fails.{Rule, TS01, TS02, TS03, TS04, TS05, TS06, TS07, TS08, TS09, TS10, TS11, TS12, breaks_attribute, wants_exclusive, wants_held, wants_free, wants_takable, wants_release, is_otherwise_held, is_mentioned, fails}
+use Rattle.tsa_rules.specs.Fails.{Rule, TS01, TS02, TS03, TS04, TS05, TS06, TS07, TS08, TS09, TS10, TS11, TS12, breaks_attribute}
+use Rattle.tsa_rules.specs.Fails.{wants_exclusive, wants_held, wants_free, wants_takable, wants_release, is_otherwise_held, is_mentioned}
+use Rattle.tsa_rules.specs.Fails.{fails}
 use Rattle.tsa_rules.specs.Walks.{course_of, Edge, IsWalk, LeadsTo, along, Reach, on_a_walk, where_edges_meet}
 use Rattle.tsa_rules.specs.StatusLaws.{IsUnnamed, RulesSpeakOfNamedPaths}
 use Rattle.tsa_rules.proofs.Tests.{never, neither}

@@ -1,5 +1,6 @@
 -- A path has only statuses that it can have.
-use Rattle.std.proofs.Common.{◌≡◌, ℕ, zero, suc, ◌+◌, ◌-◌, ◌<◌, ◌≤◌, min, nat_eq, nat_lt, nat_le, Bool, true, false, ◌&&◌, ◌||◌, List, [], ◌∷◌, length, find, filter_map, Option, Some, None, slice_get, if◌then◌else◌, refl, sym, ◌∙◌, ap, arith}
+use Rattle.std.proofs.Common.{◌≡◌, ℕ, zero, suc, ◌+◌, ◌-◌, ◌<◌, ◌≤◌, min, nat_eq, nat_lt, nat_le, Bool, true, false, ◌&&◌, ◌||◌, List, []}
+use Rattle.std.proofs.Common.{◌∷◌, length, find, filter_map, Option, Some, None, slice_get, if◌then◌else◌, refl, sym, ◌∙◌, ap, arith}
 use Rattle.std.proofs.lemmas.Bool.Decides.{nat_tests}
 use Rattle.std.specs.List.{list_any, position_or_len, cons_option}
 use Rattle.tsa_tree.specs.declared.attr.AttrKind.{AttrKind}
@@ -13,8 +14,12 @@ use Rattle.tsa_core.specs.Terms.{Term}
 use Rattle.tsa_rules.specs.Statuses.{Status, Free, Shared, Exclusive, Lent, Pending, depth_of, is_possible}
 use Rattle.tsa_rules.specs.Attributes.{is_try, claims_path, claim, kind_of, all_as_called, is_reentrant}
 use Rattle.tsa_rules.specs.Conditions.{Subject, the_call, the_local, Condition, condition_at, answer_by}
-use Rattle.tsa_rules.specs.Points.{points_of, or_idle, point_at, uses_at, attrs_called, attrs_at, is_a_try, try_variable_at, try_variables, try_number, try_kept, is_status}
-use Rattle.tsa_rules.specs.Effects.{entry_by, exit_by, is_taken_by, answer_given, taken_by, if_taken, deeper, given_back, Attempt, answer_kept, lock_taken, lock_missed, after_attempt, after_attribute, attempt_of, is_success, answer_of_call, attempt_at, after_claim, after_call, same_answer, left_by_try, after_decision, after_asking, after_test}
+use Rattle.tsa_rules.specs.Points.{points_of, or_idle, point_at, uses_at, attrs_called, attrs_at, is_a_try, try_variable_at, try_variables}
+use Rattle.tsa_rules.specs.Points.{try_number, try_kept, is_status}
+use Rattle.tsa_rules.specs.Effects.{entry_by, exit_by, is_taken_by, answer_given, taken_by, if_taken, deeper, given_back, Attempt}
+use Rattle.tsa_rules.specs.Effects.{answer_kept, lock_taken, lock_missed, after_attempt, after_attribute, attempt_of, is_success}
+use Rattle.tsa_rules.specs.Effects.{answer_of_call, attempt_at, after_claim, after_call, same_answer, left_by_try, after_decision}
+use Rattle.tsa_rules.specs.Effects.{after_asking, after_test}
 use Rattle.tsa_rules.specs.StatusLaws.{StatusesStayPossible}
 use Rattle.tsa_rules.proofs.Tests.{never, right_part}
 use Rattle.tsa_base.proofs.Numbers.{itself}

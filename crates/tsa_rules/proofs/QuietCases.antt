@@ -13,7 +13,8 @@ use Rattle.tsa_rules.specs.Statuses.{Status}
 use Rattle.tsa_rules.specs.Fails.{Rule, TS01, TS02, TS03, TS04, TS05, TS06, TS07, TS08, TS09, TS10, TS11, TS12}
 use Rattle.tsa_rules.specs.KindSets.{has_kind}
 use Rattle.tsa_rules.specs.Marks.{no_mark}
-use Rattle.tsa_rules.specs.Cases.{is_variable, tests_variable, is_still, is_leaving_in, answer_told, after_claim_in, after_asked, after_role, effect_in, fails_in, QuietCases}
+use Rattle.tsa_rules.specs.Cases.{is_variable, tests_variable, is_still, is_leaving_in, answer_told, after_claim_in, after_asked}
+use Rattle.tsa_rules.specs.Cases.{after_role, effect_in, fails_in, QuietCases}
 use Rattle.tsa_rules.proofs.Tests.{never, left_part, right_part}
 use Rattle.tsa_rules.proofs.KindBits.{none_has}
 

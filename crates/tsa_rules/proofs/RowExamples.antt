@@ -4,7 +4,8 @@ use Rattle.std.proofs.lemmas.Bool.Decides.{nat_tests}
 use Rattle.tsa_core.proofs.BodyExamples.{worked}
 use Rattle.tsa_rules.specs.Statuses.{Exclusive}
 use Rattle.tsa_rules.specs.Effects.{deeper, given_back}
-use Rattle.tsa_rules.specs.Laws.{EntriesAndExitsAreAsDeclared, ExitsOfTriesAreByTheAnswer, CallsAreByTheirAttribute, CallsOfReentrantLocksCountDepths}
+use Rattle.tsa_rules.specs.Laws.{EntriesAndExitsAreAsDeclared, ExitsOfTriesAreByTheAnswer, CallsAreByTheirAttribute}
+use Rattle.tsa_rules.specs.Laws.{CallsOfReentrantLocksCountDepths}
 
 pub entries_and_exits_are_as_declared : EntriesAndExitsAreAsDeclared
 unfolding worked

@@ -1,5 +1,6 @@
 -- The rows of a sheet that passes are kept.
-use Rattle.std.proofs.Common.{◌≡◌, ℕ, zero, suc, ◌+◌, Bool, true, false, not, ◌&&◌, ◌||◌, List, [], ◌∷◌, Contains, Option, Some, None, slice_get, refl, sym, subst, arith}
+use Rattle.std.proofs.Common.{◌≡◌, ℕ, zero, suc, ◌+◌, Bool, true, false, not, ◌&&◌, ◌||◌, List, [], ◌∷◌, Contains, Option, Some, None}
+use Rattle.std.proofs.Common.{slice_get, refl, sym, subst, arith}
 use Rattle.std.proofs.lemmas.List.Sums.{AllPass-from_list_all}
 use Rattle.std.specs.List.{list_all}
 use Rattle.tsa_place_model.specs.Ways.{Way}
@@ -9,7 +10,8 @@ use Rattle.tsa_rules.specs.Statuses.{Status}
 use Rattle.tsa_rules.specs.Points.{edges_of, is_status}
 use Rattle.tsa_rules.specs.Effects.{entry, effect}
 use Rattle.tsa_rules.specs.Fails.{Rule, TS01, TS02, TS03, TS04, TS05, TS06, TS07, TS08, TS09, TS10, TS11, TS12, all_rules, fails}
-use Rattle.tsa_rules.specs.Sheets.{Sheet, status_in, is_listed, status_by, rows_of, begins_with, goes_by, edge_passes, holds_at, status_passes, point_passes, points_pass, SheetsThatPassAreKept}
+use Rattle.tsa_rules.specs.Sheets.{Sheet, status_in, is_listed, status_by, rows_of, begins_with, goes_by, edge_passes, holds_at}
+use Rattle.tsa_rules.specs.Sheets.{status_passes, point_passes, points_pass, SheetsThatPassAreKept}
 use Rattle.tsa_rules.proofs.Tests.{never, left_part, right_part, same}
 
 where_so : (a b : Bool) → (not a || b) ≡ true → a ≡ true → b ≡ true

@@ -1,8 +1,10 @@
 -- Tests and what they say.
-use Rattle.std.proofs.Common.{◌≡◌, ℕ, zero, suc, ◌<◌, ◌≤◌, nat_eq, nat_lt, Bool, true, false, not, ◌&&◌, ◌||◌, List, [], ◌∷◌, length, All, refl, sym, ap, true≢false, arith, eqb-true}
+use Rattle.std.proofs.Common.{◌≡◌, ℕ, zero, suc, ◌<◌, ◌≤◌, nat_eq, nat_lt, Bool, true, false, not, ◌&&◌, ◌||◌, List, [], ◌∷◌, length, All}
+use Rattle.std.proofs.Common.{refl, sym, ap, true≢false, arith, eqb-true}
 use Rattle.std.proofs.lemmas.Bool.Decides.{nat_tests}
 use Rattle.std.specs.List.{list_any}
-use Rattle.tsa_rules.specs.Statuses.{Status, Free, Shared, Exclusive, Lent, Pending, is_free, is_exclusive, is_unheld, is_takable_again, same_status, deepest, IsExclusive, IsHeld, IsTakableAgain}
+use Rattle.tsa_rules.specs.Statuses.{Status, Free, Shared, Exclusive, Lent, Pending, is_free, is_exclusive, is_unheld, is_takable_again}
+use Rattle.tsa_rules.specs.Statuses.{same_status, deepest, IsExclusive, IsHeld, IsTakableAgain}
 
 pub never : {A : Type 0} → true ≡ false → A
 never e = absurd (true≢false e)

@@ -1,7 +1,8 @@
 -- Tries, worked out.
 use Rattle.std.proofs.Common.{refl}
 use Rattle.tsa_core.proofs.BodyExamples.{worked}
-use Rattle.tsa_rules.specs.TestLaws.{TestsOfCallsTellTheAnswer, TestsOfVariablesTellTheAnswer, OtherTestsDecideNothing, TryVariablesAreNumbered, UntriedLocksAreFree}
+use Rattle.tsa_rules.specs.TestLaws.{TestsOfCallsTellTheAnswer, TestsOfVariablesTellTheAnswer, OtherTestsDecideNothing}
+use Rattle.tsa_rules.specs.TestLaws.{TryVariablesAreNumbered, UntriedLocksAreFree}
 
 pub tests_of_calls_tell_the_answer : TestsOfCallsTellTheAnswer
 unfolding worked

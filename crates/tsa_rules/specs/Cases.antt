@@ -17,8 +17,10 @@ use Rattle.tsa_rules.specs.Statuses.{Status, try_limit, Free, is_free, is_exclus
 use Rattle.tsa_rules.specs.Attributes.{claim, is_reentrant}
 use Rattle.tsa_rules.specs.Conditions.{Subject, the_call, the_local, Condition, condition_in, condition_at, answer_of}
 use Rattle.tsa_rules.specs.Points.{point_at, is_a_try, try_variables, try_number, try_kept}
-use Rattle.tsa_rules.specs.Effects.{entry_by, entry, exit_by, exit, taken_by, if_taken, same_answer, is_success, Attempt, answer_kept, lock_missed, attempt_of, after_attribute, after_decision, effect}
-use Rattle.tsa_rules.specs.Fails.{Rule, TS01, TS02, TS03, TS04, TS05, TS06, TS07, TS08, TS09, TS10, TS11, TS12, wants_takable, is_otherwise_held, fails}
+use Rattle.tsa_rules.specs.Effects.{entry_by, entry, exit_by, exit, taken_by, if_taken, same_answer, is_success, Attempt, answer_kept}
+use Rattle.tsa_rules.specs.Effects.{lock_missed, attempt_of, after_attribute, after_decision, effect}
+use Rattle.tsa_rules.specs.Fails.{Rule, TS01, TS02, TS03, TS04, TS05, TS06, TS07, TS08, TS09, TS10, TS11, TS12, wants_takable}
+use Rattle.tsa_rules.specs.Fails.{is_otherwise_held, fails}
 use Rattle.tsa_rules.specs.KindSets.{has_kind}
 use Rattle.tsa_rules.specs.Marks.{claim_in, claim_kind, mark_of, no_mark}
 use Rattle.tsa_rules.specs.Sets.{pending_places, HasPlace}
@@ -27,7 +29,8 @@ use Rattle.tsa_rules.specs.Sets.{pending_places, HasPlace}
 abbrev pub lock_of : Program → Function → Way → Lock
 lock_of u f c = record { is_reentrant = is_reentrant u f c; claim = option_map claim_in (claim f.attrs c) }
 
--- What a point does for the rules: it begins a try variable, tests the answer of its call or a local, leaves with an answer, or does none of these.
+-- What a point does for the rules: it begins a try variable, tests the answer of its call or a local, leaves with an answer, or does none
+-- of these.
 abbrev pub asked_by : Program → Function → Subject → Asked
 asked_by u f the_call = asked.Call
 asked_by u f (the_local n) = asked.Variable (try_number u f n)

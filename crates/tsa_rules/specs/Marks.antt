@@ -1,6 +1,7 @@
--- What a point says of a path by itself: a mark, which holds all that the rules ask of the called function's attributes, of what is used and of what is
--- declared there.
-use Rattle.std.specs.Prelude.{◌≡◌, ℕ, Bool, true, false, ◌&&◌, ◌||◌, not, List, [], ◌∷◌, ◌++◌, nat_lt, Option, Some, None, option_map, is_some, if◌then◌else◌}
+-- What a point says of a path by itself: a mark, which holds all that the rules ask of the called function's attributes, of what is used
+-- and of what is declared there.
+use Rattle.std.specs.Prelude.{◌≡◌, ℕ, Bool, true, false, ◌&&◌, ◌||◌, not, List, [], ◌∷◌, ◌++◌, nat_lt, Option, Some, None, option_map}
+use Rattle.std.specs.Prelude.{is_some, if◌then◌else◌}
 use Rattle.std.specs.List.{list_any}
 use Rattle.std.specs.Option.{option_or}
 use Rattle.tsa_tree.specs.declared.attr.AttrKind.{AttrKind}
@@ -30,8 +31,8 @@ kinds_with c kinds (a ∷ attrs) = kinds_with c (if names c a then with_kind kin
 abbrev pub kinds_of : List Attr → Way → Kinds
 kinds_of attrs c = kinds_with c no_kinds attrs
 
--- The mark of a path by the attributes of the called function, by what is used on the right side of an assignment or elsewhere, by what is used on the left
--- side of one, and by what is declared.
+-- The mark of a path by the attributes of the called function, by what is used on the right side of an assignment or elsewhere, by what is
+-- used on the left side of one, and by what is declared.
 abbrev pub mark_by : List Attr → (right left : List Access) → Option ℕ → Way → Mark
 mark_by attrs right left declared c = record {
   kinds = kinds_of attrs c;
@@ -49,8 +50,8 @@ mark_by attrs right left declared c = record {
 abbrev pub mark_of : Program → Function → (point : ℕ) → Way → Mark
 mark_of u f p c = mark_by (attrs_at u f p) (uses_at f p).right (uses_at f p).left (local_begun (point_at f p).action) c
 
--- A mark is made step by step: from nothing, by each attribute behind the others that names the path, by each access that it guards, and by the declaration
--- of what it mentions.
+-- A mark is made step by step: from nothing, by each attribute behind the others that names the path, by each access that it guards, and by
+-- the declaration of what it mentions.
 abbrev pub no_mark : Mark
 no_mark = record {
   kinds = no_kinds;

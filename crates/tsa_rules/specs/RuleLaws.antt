@@ -8,7 +8,8 @@ use Rattle.tsa_core.specs.Programs.{Program}
 use Rattle.tsa_rules.specs.Fails.{Rule, TS01, TS02, TS03, TS05, TS06, TS07, TS08, TS09, TS11, TS12}
 use Rattle.tsa_rules.specs.Texts.{global, of_function, once, broken_rules}
 
--- a number `n` under a lock `mu`, objects with locks of their own, functions that take, give and require locks, and a function of some statements
+-- a number `n` under a lock `mu`, objects with locks of their own, functions that take, give and require locks, and a function of some
+-- statements
 abbrev unit : List ℕ → Program
 unit body = program (
     codes "struct CAPABILITY(\"mutex\") l { int s; }; struct a { struct l m; int x GUARDED_BY(m); }; struct l mu; int n GUARDED_BY(mu); int k; struct a g, bank[2]; "

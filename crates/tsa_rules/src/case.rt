@@ -13,8 +13,8 @@ pub struct Lock {
     pub claim: Option<Claim>,
 }
 
-/// What a test looks at: the answer of the call that is made at its point, or the local that is the try variable of a number. A local that is no try
-/// variable has the number behind theirs.
+/// What a test looks at: the answer of the call that is made at its point, or the local that is the try variable of a number. A local that
+/// is no try variable has the number behind theirs.
 #[derive(Clone, Copy)]
 pub enum Asked {
     Call,
@@ -41,8 +41,8 @@ pub enum Role {
     Passes,
 }
 
-/// All that the rules go by for a path at a point: the lock to which it leads, what the point does, what it says of the path, and where it tests a local, the
-/// try of the path whose answer the local has.
+/// All that the rules go by for a path at a point: the lock to which it leads, what the point does, what it says of the path, and where it
+/// tests a local, the try of the path whose answer the local has.
 #[derive(Clone, Copy)]
 pub struct Case {
     pub lock: Lock,

@@ -1,9 +1,13 @@
-//! What each point of a function makes of the status of one path, and the statuses with which the function begins and with which it may leave.
+//! What each point of a function makes of the status of one path, and the statuses with which the function begins and with which it may
+//! leave.
 ghost use Rattle.std.specs.Prelude.{◌≡◌, ℕ};
 ghost use Rattle.tsa_place_model.specs.Ways.{Way};
 ghost use Rattle.tsa_core.specs.Programs.{Function, Program};
-ghost use Rattle.tsa_rules.specs.Cases.{after_asked, after_claim_in, after_role, answer_in, answer_told, attempt_in, case_of, effect_in, entry_in, exit_in, is_still, is_taken_in, later_in, left_by_claim, lock_of, tests_variable};
-ghost use Rattle.tsa_rules.specs.Effects.{after_attempt, after_decision as spec_after_decision, deeper as spec_deeper, effect, entry, entry_by, exit, exit_by, given_back as spec_given_back, if_taken as spec_if_taken, is_success, later, taken_by as spec_taken_by};
+ghost use Rattle.tsa_rules.specs.Cases.{after_asked, after_claim_in, after_role, answer_in, answer_told, attempt_in, case_of, effect_in};
+ghost use Rattle.tsa_rules.specs.Cases.{entry_in, exit_in, is_still, is_taken_in, later_in, left_by_claim, lock_of, tests_variable};
+ghost use Rattle.tsa_rules.specs.Effects.{after_attempt, after_decision as spec_after_decision, deeper as spec_deeper, effect, entry};
+ghost use Rattle.tsa_rules.specs.Effects.{entry_by, exit, exit_by, given_back as spec_given_back, if_taken as spec_if_taken, is_success};
+ghost use Rattle.tsa_rules.specs.Effects.{later, taken_by as spec_taken_by};
 ghost use Rattle.tsa_rules.specs.Marks.{claim_kind};
 ghost use Rattle.tsa_graph_edges.specs.Links.{outcome_of};
 
@@ -236,10 +240,12 @@ impl Case {
         }
     }
 
-    /// The status after the point, where that is left by an outcome, of the status before it: nothing but calls and tests of try variables changes one.
+    /// The status after the point, where that is left by an outcome, of the status before it: nothing but calls and tests of try variables
+    /// changes one.
     pub fn effect(self, outcome: Outcome, status: Status) -> Status
         ensures by { result ≡ effect_in self (outcome_of outcome) status }
-        ensures is { (u : Program) (f : Function) (p : ℕ) (c : Way) → self ≡ case_of u f p c → result ≡ effect u f p c (outcome_of outcome) status }
+        ensures is { (u : Program) (f : Function) (p : ℕ) (c : Way) → self ≡ case_of u f p c
+            → result ≡ effect u f p c (outcome_of outcome) status }
     {
         let after = self.after_call(outcome, status);
         self.after_role(outcome, after)

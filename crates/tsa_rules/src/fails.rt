@@ -34,7 +34,8 @@ impl Case {
 
     /// Whether what is taken otherwise, or tried, names the path.
     fn names_taking(self) -> bool
-        ensures { result ≡ (has_kind self.mark.kinds attr.AcquireShared || (has_kind self.mark.kinds attr.TryAcquire || has_kind self.mark.kinds attr.TryAcquireShared)) }
+        ensures { result ≡ (has_kind self.mark.kinds attr.AcquireShared
+            || (has_kind self.mark.kinds attr.TryAcquire || has_kind self.mark.kinds attr.TryAcquireShared)) }
     {
         self.names(AttrKind::AcquireShared)
             || self.names(AttrKind::TryAcquire)
@@ -43,7 +44,8 @@ impl Case {
 
     /// Whether what is given back names the path.
     fn names_giving(self) -> bool
-        ensures { result ≡ (has_kind self.mark.kinds attr.Release || (has_kind self.mark.kinds attr.ReleaseShared || has_kind self.mark.kinds attr.ReleaseGeneric)) }
+        ensures { result ≡ (has_kind self.mark.kinds attr.Release
+            || (has_kind self.mark.kinds attr.ReleaseShared || has_kind self.mark.kinds attr.ReleaseGeneric)) }
     {
         self.names(AttrKind::Release)
             || self.names(AttrKind::ReleaseShared)

@@ -4,7 +4,8 @@ ghost use Rattle.tsa_rules.specs.Cases.{CasesTellTheRules, QuietCases, StatusesK
 ghost use Rattle.tsa_rules.specs.Fits.{WhatDoesNotFailFits};
 ghost use Rattle.tsa_rules.specs.KeptRows.{KeptRowsBreakNoRule, KeptProgramsHaveNoWarnings};
 ghost use Rattle.tsa_rules.specs.KeptLaws.{AcceptedFunctionsHaveSheets, ALockedWriteIsAccepted};
-ghost use Rattle.tsa_rules.specs.Laws.{EntriesAndExitsAreAsDeclared, ExitsOfTriesAreByTheAnswer, CallsAreByTheirAttribute, CallsOfReentrantLocksCountDepths};
+ghost use Rattle.tsa_rules.specs.Laws.{EntriesAndExitsAreAsDeclared, ExitsOfTriesAreByTheAnswer, CallsAreByTheirAttribute};
+ghost use Rattle.tsa_rules.specs.Laws.{CallsOfReentrantLocksCountDepths};
 ghost use Rattle.tsa_rules.specs.LockLaws.{PathsLeadToTheirLocks, AttributesNameWhatArgumentsAre};
 ghost use Rattle.tsa_rules.specs.KindSets.{KindsAreSets};
 ghost use Rattle.tsa_rules.specs.Marks.{MarksAreMadeStepByStep, MarksTellKinds};
@@ -13,7 +14,8 @@ ghost use Rattle.tsa_rules.specs.RuleLaws.{AccessesNeedTheirLocks, ReturnsAreAsD
 ghost use Rattle.tsa_rules.specs.Sets.{SetsAreTheirStatuses, PossibleStatusesHavePlaces};
 ghost use Rattle.tsa_rules.specs.Sheets.{SheetsThatPassAreKept, ProgramsThatPassHaveNoWarnings};
 ghost use Rattle.tsa_rules.specs.StatusLaws.{StatusesStayPossible, OneStatusWhereEdgesAgree, RulesSpeakOfNamedPaths};
-ghost use Rattle.tsa_rules.specs.TestLaws.{TestsOfCallsTellTheAnswer, TestsOfVariablesTellTheAnswer, OtherTestsDecideNothing, UntriedLocksAreFree, TryVariablesAreNumbered};
+ghost use Rattle.tsa_rules.specs.TestLaws.{TestsOfCallsTellTheAnswer, TestsOfVariablesTellTheAnswer, OtherTestsDecideNothing};
+ghost use Rattle.tsa_rules.specs.TestLaws.{UntriedLocksAreFree, TryVariablesAreNumbered};
 ghost use Rattle.tsa_rules.specs.TryVariables.{TryVariablesAreToldByDeclarations};
 ghost use Rattle.tsa_rules.specs.WalkLaws.{BranchesMeet, LoopsComeBack};
 
@@ -54,8 +56,8 @@ pub fn cases_tell_the_rules()
     ensures { CasesTellTheRules }
 {}
 
-/// A case in which nothing claims the path and no local is tested keeps each status, and a path of which the point says nothing breaks no rule by itself
-/// unless the point leaves.
+/// A case in which nothing claims the path and no local is tested keeps each status, and a path of which the point says nothing breaks no
+/// rule by itself unless the point leaves.
 #[tactic(auto, using(crate::proofs::QuietCases::quiet_cases))]
 pub fn quiet_cases()
     ensures { QuietCases }

@@ -13,9 +13,9 @@ pub struct Claim {
     pub success: bool,
 }
 
-/// What a point says of a path: which kinds of attributes of the called function name it, the kind of the first that does, the first that claims it, the
-/// first try of it, and whether more than one claims it; whether it guards a read that is made before the call, and a read or a write after it; and whether
-/// it mentions the local that is declared there.
+/// What a point says of a path: which kinds of attributes of the called function name it, the kind of the first that does, the first that
+/// claims it, the first try of it, and whether more than one claims it; whether it guards a read that is made before the call, and a read
+/// or a write after it; and whether it mentions the local that is declared there.
 #[derive(Clone, Copy)]
 pub struct Mark {
     pub kinds: Kinds,

@@ -10,12 +10,14 @@ pub enum Status {
     Free,
     /// This function owns one hold of it together with other readers: what the lock guards may be read.
     Shared,
-    /// This function owns it alone, as often as the depth says: what the lock guards may be read and written. A lock that its holder may take again is
-    /// owned up to 7 times, any other once.
+    /// This function owns it alone, as often as the depth says: what the lock guards may be read and written. A lock that its holder may
+    /// take again is owned up to 7 times, any other once.
     Exclusive(u32),
-    /// A caller holds it, in either mode, for as long as the call lasts: what the lock guards may be read, and the lock is never given back here.
+    /// A caller holds it, in either mode, for as long as the call lasts: what the lock guards may be read, and the lock is never given back
+    /// here.
     Lent,
-    /// A try has asked for it, and the answer stands unseen in the try variable of this number, from 0 in order of declaration: nothing may be touched yet.
+    /// A try has asked for it, and the answer stands unseen in the try variable of this number, from 0 in order of declaration: nothing may
+    /// be touched yet.
     Pending(u32),
 }
 

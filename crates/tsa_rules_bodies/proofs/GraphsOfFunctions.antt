@@ -1,5 +1,6 @@
 -- The graph that is made of a body is that of the program's function for which the body stands.
-use Rattle.std.proofs.Common.{◌≡◌, ◌∙◌, ◌+◌, ℕ, Bool, true, false, length, List, [], ◌∷◌, Option, Some, None, is_some, slice_get, refl, sym, ap, subst, ◌<◌, All, arith}
+use Rattle.std.proofs.Common.{◌≡◌, ◌∙◌, ◌+◌, ℕ, Bool, true, false, length, List, [], ◌∷◌, Option, Some, None, is_some, slice_get, refl, sym}
+use Rattle.std.proofs.Common.{ap, subst, ◌<◌, All, arith}
 use Rattle.std.proofs.lemmas.List.{length-append}
 use Rattle.std.proofs.lemmas.List.Elements.{All-weaker}
 use Rattle.tsa_tree.specs.points.Syntax.{PlacedDeed, ends, points_of_all}

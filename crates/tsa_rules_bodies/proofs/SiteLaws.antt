@@ -1,5 +1,6 @@
 -- The body of a function by its number is that of the core program.
-use Rattle.std.proofs.Common.{◌≡◌, ◌∙◌, ℕ, true, false, List, [], ◌++◌, All, map, length, Option, Some, None, is_some, option_map, slice_get, slice_index_or, refl, sym, ap, subst}
+use Rattle.std.proofs.Common.{◌≡◌, ◌∙◌, ℕ, true, false, List, [], ◌++◌, All, map, length, Option, Some, None, is_some, option_map}
+use Rattle.std.proofs.Common.{slice_get, slice_index_or, refl, sym, ap, subst}
 use Rattle.tsa_tree.specs.types.DeclaredTypes.{thing_type}
 use Rattle.tsa_tree.specs.types.FirstFailing.{first_failing}
 use Rattle.tsa_tree.specs.types.Heads.{behind_head}
@@ -9,7 +10,8 @@ use Rattle.tsa_tree.proofs.types.UnitNodes.{premises_tell_it}
 use Rattle.tsa_place_model.specs.LockPaths.{stable_in}
 use Rattle.tsa_core.specs.Bodies.{body_of}
 use Rattle.tsa_core.specs.Meanings.{Call}
-use Rattle.tsa_core.specs.Programs.{Bodied, Declared, Function, Program, bodied_function, body_in, declared_functions, function_in, function_of, program_of, stable_locals}
+use Rattle.tsa_core.specs.Programs.{Bodied, Declared, Function, Program, bodied_function, body_in, declared_functions, function_in}
+use Rattle.tsa_core.specs.Programs.{function_of, program_of, stable_locals}
 use Rattle.tsa_core.proofs.BodiesAgree.{bodies_agree}
 use Rattle.tsa_core.proofs.MappedLists.{map_at, map_length}
 use Rattle.tsa_core.proofs.TypedTerms.{some_same}

@@ -17,7 +17,8 @@ use tsa_types::Typed;
 
 /// The control of a body that is entered, as a graph with longest blocks.
 pub fn control_of<'a>(known: &Knowledge<'a>, inside: &Inside<'a>) -> Result<Graph, NoMemory>
-    ensures { IfOk result (λ graph. IsGraph (count_all (stmt_shapes inside.now.body.now) + 1) (body_edges known.now.here (stmt_shapes inside.now.body.now)) graph) }
+    ensures { IfOk result (λ graph. IsGraph (count_all (stmt_shapes inside.now.body.now) + 1)
+        (body_edges known.now.here (stmt_shapes inside.now.body.now)) graph) }
 {
     let points = inside.head.points;
     let count = u32::try_from(points.len()).ok().ok_or(NoMemory)?;

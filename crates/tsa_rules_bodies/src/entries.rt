@@ -54,7 +54,8 @@ pub fn enter_body<'a>(
 ) -> Result<Inside<'a>, NoMemory>
     requires typed { types.first (heads.head_premises known.old.here (head_shape head.now) true) ≡ None }
     requires body { is_some head.now.body ≡ true }
-    ensures { IfOk result (λ inside. IsEntered (unit_at ground.now) known.old (head_shape head.now) (stmt_shapes body.now) known.new inside) }
+    ensures { IfOk result (λ inside. IsEntered (unit_at ground.now) known.old (head_shape head.now) (stmt_shapes body.now) known.new inside)
+        }
 {
     let number = function_number(&known.scope, head)?;
     let stable = stable_locals(ground, head)?;
@@ -71,7 +72,10 @@ pub fn enter_body<'a>(
 /// Leaves a body that was entered, however many locals were counted in it: its item is passed.
 pub fn leave_body<'a>(known: &mut Knowledge<'a>, inside: &Inside<'a>)
     ensures attributes { known.new.attributes ≡ known.old.attributes }
-    ensures behind { (unit : Given) (before : Known) (close : Close) → inside.now.outside ≡ outside_of before.here (head_shape inside.now.head.now) true → IsWithin unit before (head_shape inside.now.head.now) known.old → known.new ≡ behind unit before (body_item (head_shape inside.now.head.now) (stmt_shapes inside.now.body.now) close) }
+    ensures behind { (unit : Given) (before : Known) (close : Close)
+        → inside.now.outside ≡ outside_of before.here (head_shape inside.now.head.now) true
+        → IsWithin unit before (head_shape inside.now.head.now) known.old
+        → known.new ≡ behind unit before (body_item (head_shape inside.now.head.now) (stmt_shapes inside.now.body.now) close) }
 {
     leave(&mut known.scope, inside.outside);
 }

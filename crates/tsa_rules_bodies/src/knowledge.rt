@@ -86,7 +86,8 @@ fn keep_locks<'a>(
     head: &FnTree<'a>,
     stable: &[bool],
 ) -> Result<(), NoMemory>
-    ensures { OnOk result (known.new ≡ with_function (attrs_of (stable_in stable.now) known.old.here (head_shape head.now).attrs) known.old) }
+    ensures { OnOk result (known.new ≡ with_function (attrs_of (stable_in stable.now) known.old.here (head_shape head.now).attrs) known.old)
+        }
 {
     let sight = Sight {
         scope: &known.scope,
@@ -104,7 +105,8 @@ pub(crate) fn enter_head<'a>(
     stable: &[bool],
 ) -> Result<Outside, NoMemory>
     requires typed { types.first (heads.head_premises known.old.here (head_shape head.now) (is_some head.now.body)) ≡ None }
-    ensures entered { (unit : Given) → stable_in stable.now ≡ stable_of unit (head_shape head.now) → OnOk result (known.new ≡ entered unit known.old (head_shape head.now) (is_some head.now.body)) }
+    ensures entered { (unit : Given) → stable_in stable.now ≡ stable_of unit (head_shape head.now)
+        → OnOk result (known.new ≡ entered unit known.old (head_shape head.now) (is_some head.now.body)) }
     ensures outside { IfOk result (λ outside. outside ≡ outside_of known.old.here (head_shape head.now) (is_some head.now.body)) }
 {
     let is_first = known.scope.declared(head.name.text).is_none();

@@ -57,7 +57,8 @@ fn seek<'a>(
     function: u32,
 ) -> Result<Option<Inside<'a>>, NoMemory>
     requires outset { known.old ≡ outset_of (unit_at ground.now) }
-    ensures { IfOk result (λ inside. IsAt (unit_at ground.now) function (site_of (item_shapes ground.now.items.now) function) known.new inside) }
+    ensures { IfOk result (λ inside. IsAt (unit_at ground.now) function (site_of (item_shapes ground.now.items.now) function) known.new
+        inside) }
 {
     'each: for item in ground.items {
         if let Some(inside) = seek_in(ground, known, item, function)? {
@@ -67,7 +68,8 @@ fn seek<'a>(
     Ok(None)
 }
 
-/// The body of a function by its number on the ground of a typed unit, with what is known there. None where the function has no body in the unit.
+/// The body of a function by its number on the ground of a typed unit, with what is known there. None where the function has no body in the
+/// unit.
 pub fn site<'a>(
     alloc: Global,
     ground: &Ground<'_, 'a>,
@@ -82,7 +84,8 @@ pub fn site<'a>(
     }
 }
 
-/// The body of a function of a typed unit by its number, with what is known there. None where the function has none. The places are those of the unit.
+/// The body of a function of a typed unit by its number, with what is known there. None where the function has none. The places are those
+/// of the unit.
 pub fn site_in<'a>(
     alloc: Global,
     unit: &Typed<'a>,
@@ -90,7 +93,8 @@ pub fn site_in<'a>(
     function: u32,
 ) -> Result<Option<BodySite<'a>>, NoMemory>
     requires placed { placed_in (item_shapes unit.now.unit.now.items.now) ≡ Ok places.now }
-    ensures { IfOk result (λ found. IsFound (unit_of [] (item_shapes unit.now.unit.now.items.now)) function (site_of (item_shapes unit.now.unit.now.items.now) function) found) }
+    ensures { IfOk result (λ found. IsFound (unit_of [] (item_shapes unit.now.unit.now.items.now)) function
+        (site_of (item_shapes unit.now.unit.now.items.now) function) found) }
 {
     let items = unit.unit().items;
     let layout = places.layout();

@@ -8,7 +8,8 @@ use Rattle.tsa_tree.specs.types.DeclaredTypes.{thing_type}
 use Rattle.tsa_tree.specs.types.Scopes.{Scope}
 use Rattle.tsa_core.specs.Bodies.{declared, point_by, set_to}
 use Rattle.tsa_core.specs.Meanings.{meaning}
-use Rattle.tsa_core.specs.Terms.{Term, constant, variable, answer, global, member, element, target, load, address, converted, prefixed, joined}
+use Rattle.tsa_core.specs.Terms.{Term, constant, variable, answer, global, member, element, target, load, address, converted, prefixed}
+use Rattle.tsa_core.specs.Terms.{joined}
 use Rattle.tsa_rules.specs.Points.{local_begun}
 use Rattle.tsa_rules_points.specs.Points.{begun_by}
 

@@ -1,5 +1,6 @@
 -- A point that is noted behind others.
-use Rattle.std.proofs.Common.{◌≡◌, ◌∙◌, ◌<◌, ℕ, zero, suc, ◌+◌, arith, Bool, true, false, ◌||◌, List, [], ◌∷◌, ◌++◌, All, length, map, Some, None, is_some, if◌then◌else◌, slice_get, refl, sym, ap, ap₂, subst}
+use Rattle.std.proofs.Common.{◌≡◌, ◌∙◌, ◌<◌, ℕ, zero, suc, ◌+◌, arith, Bool, true, false, ◌||◌, List, [], ◌∷◌, ◌++◌, All, length, map, Some}
+use Rattle.std.proofs.Common.{None, is_some, if◌then◌else◌, slice_get, refl, sym, ap, ap₂, subst}
 use Rattle.std.proofs.lemmas.Grind.{flat_map-append}
 use Rattle.std.proofs.lemmas.List.{append-nil, get_or-append-add, get_or_append_left, length-append, map-append}
 use Rattle.std.proofs.lemmas.Option.{slice_get_within}

@@ -39,7 +39,8 @@ impl Marking {
     /// Notes the locks that the called function names, as its caller has them.
     #[tactic(auto, using(crate::proofs::Uses::marks_are))]
     fn note_call(&mut self, visit: Visit<'_, '_>) -> Result<(), NoMemory>
-        ensures row { OnOk result (NotesAttributes self.old.numbers self.old.marks self.new.marks (attrs_here (around_at visit.entry) (known_at visit.entry))) }
+        ensures row { OnOk result (NotesAttributes self.old.numbers self.old.marks self.new.marks
+            (attrs_here (around_at visit.entry) (known_at visit.entry))) }
         ensures kept { OnOk result (KeepsRows self.old.marks self.new.marks) }
         ensures numbers { self.new.numbers ≡ self.old.numbers }
     {
@@ -57,7 +58,8 @@ impl Marking {
     /// Notes what is read for the value that is worked out there.
     #[tactic(auto, using(crate::proofs::Uses::marks_are))]
     fn note_value(&mut self, visit: Visit<'_, '_>) -> Result<(), NoMemory>
-        ensures row { OnOk result (NotesRight self.old.numbers self.old.marks self.new.marks (uses_here (around_at visit.entry) (known_at visit.entry)).right) }
+        ensures row { OnOk result (NotesRight self.old.numbers self.old.marks self.new.marks
+            (uses_here (around_at visit.entry) (known_at visit.entry)).right) }
         ensures kept { OnOk result (KeepsRows self.old.marks self.new.marks) }
         ensures numbers { self.new.numbers ≡ self.old.numbers }
     {
@@ -73,7 +75,8 @@ impl Marking {
     /// Notes what an assignment reads and writes for its left side.
     #[tactic(auto, using(crate::proofs::Uses::marks_are))]
     fn note_left(&mut self, visit: Visit<'_, '_>) -> Result<(), NoMemory>
-        ensures row { OnOk result (NotesLeft self.old.numbers self.old.marks self.new.marks (uses_here (around_at visit.entry) (known_at visit.entry)).left) }
+        ensures row { OnOk result (NotesLeft self.old.numbers self.old.marks self.new.marks
+            (uses_here (around_at visit.entry) (known_at visit.entry)).left) }
         ensures kept { OnOk result (KeepsRows self.old.marks self.new.marks) }
         ensures numbers { self.new.numbers ≡ self.old.numbers }
     {

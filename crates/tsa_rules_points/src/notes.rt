@@ -4,8 +4,8 @@ use tsa_rules_table::{Marks, Numbers};
 use tsa_rules_roles::Roles;
 use tsa_tree::kind::Kind;
 
-/// What the points of a body are to the rules, by their numbers: their roles, the functions that they call, and a row of marks for each; and the kinds of
-/// the locals that they declare, in order.
+/// What the points of a body are to the rules, by their numbers: their roles, the functions that they call, and a row of marks for each;
+/// and the kinds of the locals that they declare, in order.
 pub struct Notes {
     pub roles: Roles,
     pub callees: Vec<Option<u32>>,

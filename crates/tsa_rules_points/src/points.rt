@@ -75,7 +75,10 @@ impl<'w> Frame<'w> {
         scope: &Scope<'a>,
         action: &Action<'a>,
     ) -> Result<(), NoMemory>
-        ensures notes { OnOk result ((qs : List PlacedPoint) (span : Span) → AreNotes (around_of self.entry.around) self.entry.kind book.old.marking.numbers qs (notes_in book.old) → AreNotes (around_of self.entry.around) self.entry.kind book.old.marking.numbers (qs ++ placed scope.now (action_shape action.now) span ∷ []) (notes_in book.new)) }
+        ensures notes { OnOk result ((qs : List PlacedPoint) (span : Span)
+            → AreNotes (around_of self.entry.around) self.entry.kind book.old.marking.numbers qs (notes_in book.old)
+            → AreNotes (around_of self.entry.around) self.entry.kind book.old.marking.numbers
+            (qs ++ placed scope.now (action_shape action.now) span ∷ []) (notes_in book.new)) }
         ensures numbers { book.new.marking.numbers ≡ book.old.marking.numbers }
     {
         let spot = Spot {
@@ -97,7 +100,10 @@ impl<'w> Frame<'w> {
         scope: &Scope<'a>,
         step: &Step<'a>,
     ) -> Result<(), NoMemory>
-        ensures notes { OnOk result ((qs : List PlacedPoint) → AreNotes (around_of self.entry.around) self.entry.kind book.old.marking.numbers qs (notes_in book.old) → AreNotes (around_of self.entry.around) self.entry.kind book.old.marking.numbers (qs ++ points_at scope.now (step_shape step.now)) (notes_in book.new)) }
+        ensures notes { OnOk result ((qs : List PlacedPoint)
+            → AreNotes (around_of self.entry.around) self.entry.kind book.old.marking.numbers qs (notes_in book.old)
+            → AreNotes (around_of self.entry.around) self.entry.kind book.old.marking.numbers
+            (qs ++ points_at scope.now (step_shape step.now)) (notes_in book.new)) }
         ensures numbers { book.new.marking.numbers ≡ book.old.marking.numbers }
     {
         match step {
@@ -113,7 +119,10 @@ impl<'w> Frame<'w> {
         walk: &mut Walk<'a>,
         steps: &[Step<'a>],
     ) -> Result<(), NoMemory>
-        ensures notes { OnOk result ((qs : List PlacedPoint) → AreNotes (around_of self.entry.around) self.entry.kind book.old.marking.numbers qs (notes_in book.old) → AreNotes (around_of self.entry.around) self.entry.kind book.old.marking.numbers (qs ++ points_along walk.old (map step_shape steps.now)) (notes_in book.new)) }
+        ensures notes { OnOk result ((qs : List PlacedPoint)
+            → AreNotes (around_of self.entry.around) self.entry.kind book.old.marking.numbers qs (notes_in book.old)
+            → AreNotes (around_of self.entry.around) self.entry.kind book.old.marking.numbers
+            (qs ++ points_along walk.old (map step_shape steps.now)) (notes_in book.new)) }
         ensures numbers { book.new.marking.numbers ≡ book.old.marking.numbers }
         ensures behind { OnOk result (walk.new ≡ walk_behind walk.old (map step_shape steps.now)) }
     {
@@ -132,7 +141,8 @@ pub fn notes_of<'a>(
     steps: &[Step<'a>],
     numbers: Numbers,
 ) -> Result<Noted, NoMemory>
-    ensures notes { IfOk result (λ noted. AreNotes (around_of frame.entry.around) frame.entry.kind numbers (points_along walk.old (map step_shape steps.now)) noted.notes) }
+    ensures notes { IfOk result (λ noted. AreNotes (around_of frame.entry.around) frame.entry.kind numbers
+        (points_along walk.old (map step_shape steps.now)) noted.notes) }
     ensures numbers { IfOk result (λ noted. noted.numbers ≡ numbers) }
     ensures behind { OnOk result (walk.new ≡ walk_behind walk.old (map step_shape steps.now)) }
 {

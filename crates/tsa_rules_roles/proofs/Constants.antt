@@ -1,5 +1,6 @@
 -- The constant that the term of an expression is, by induction over the expression.
-use Rattle.std.proofs.Common.{◌≡◌, ◌∙◌, ℕ, Bool, true, false, ◌&&◌, Option, Some, None, option_map, Result, Ok, if◌then◌else◌, refl, sym, ap, ap₂, subst}
+use Rattle.std.proofs.Common.{◌≡◌, ◌∙◌, ℕ, Bool, true, false, ◌&&◌, Option, Some, None, option_map, Result, Ok, if◌then◌else◌, refl, sym}
+use Rattle.std.proofs.Common.{ap, ap₂, subst}
 use Rattle.std.specs.Prelude.{option_and_then}
 use Rattle.tsa_tree.specs.declared.expr.BinaryOp.{BinaryOp}
 use Rattle.tsa_tree.specs.declared.expr.BinaryOp.TheVariants as op
@@ -14,7 +15,8 @@ use Rattle.tsa_tree.specs.declared.number.Number.{Number}
 use Rattle.tsa_tree.specs.declared.number.Trap.{Trap}
 use Rattle.tsa_tree.specs.expressions.Syntax.{Expression, number, null, named, call, unary, binary, field, index}
 use Rattle.tsa_tree.specs.types.Arithmetic.{operate_prefix}
-use Rattle.tsa_tree.specs.types.Constants.{enumerator, is_known_enumerator, named_value, go_on, number_value, worked_binary, without_trap, worked, is_made_of_constants, constant_of, takes_integers}
+use Rattle.tsa_tree.specs.types.Constants.{enumerator, is_known_enumerator, named_value, go_on, number_value, worked_binary, without_trap}
+use Rattle.tsa_tree.specs.types.Constants.{worked, is_made_of_constants, constant_of, takes_integers}
 use Rattle.tsa_tree.specs.types.DeclaredTypes.{typed_value}
 use Rattle.tsa_tree.specs.types.Expressions.{entry_type, number_type}
 use Rattle.tsa_tree.specs.types.Operands.{integer_kind, common}

@@ -5,7 +5,8 @@ use Rattle.tsa_tree.specs.declared.expr.BinaryOp.{BinaryOp}
 use Rattle.tsa_tree.specs.declared.kind.Kind.{Kind}
 use Rattle.tsa_tree.specs.types.Scopes.{Scope}
 use Rattle.tsa_core.specs.Bodies.{declared, evaluate, test, branch, go_on, give, set_to}
-use Rattle.tsa_core.specs.Terms.{Term, constant, variable, answer, global, member, element, target, load, address, converted, prefixed, joined}
+use Rattle.tsa_core.specs.Terms.{Term, constant, variable, answer, global, member, element, target, load, address, converted, prefixed}
+use Rattle.tsa_core.specs.Terms.{joined}
 use Rattle.tsa_rules.specs.declared.case.Role.TheVariants as role
 use Rattle.tsa_rules.specs.Cases.{tests_by}
 use Rattle.tsa_rules.specs.Conditions.{answer_of, condition_in}

@@ -22,12 +22,14 @@ use Rattle.tsa_tree.specs.types.Expressions.{number_type, owner}
 use Rattle.tsa_tree.specs.types.Operands.{binary_type, prefix_type}
 use Rattle.tsa_tree.specs.types.Scopes.{Scope, known_in}
 use Rattle.tsa_tree.specs.types.Lookups.{members_at, numbered}
-use Rattle.tsa_core.specs.Meanings.{beside, of_number, loaded, meaning, null_pointer, of_binary, of_call, of_field, of_prefix, of_type, operands, prefix_term, to_member}
+use Rattle.tsa_core.specs.Meanings.{beside, of_number, loaded, meaning, null_pointer, of_binary, of_call, of_field, of_prefix, of_type}
+use Rattle.tsa_core.specs.Meanings.{operands, prefix_term, to_member}
 use Rattle.tsa_core.specs.Terms.{constant, prefixed, joined, Sense}
 use Rattle.tsa_rules_roles.specs.declared.gist.Gist.{Gist}
 use Rattle.tsa_rules_roles.specs.declared.worth.Worth.{Worth}
 use Rattle.tsa_rules_roles.specs.declared.worth.Worth.TheVariants as worth
-use Rattle.tsa_rules_roles.specs.Worths.{worth_of, gist_of, number_behind, prefix_worth, joined_worth, binary_worth, worth_beside, prefix_gist, binary_gist}
+use Rattle.tsa_rules_roles.specs.Worths.{worth_of, gist_of, number_behind, prefix_worth, joined_worth, binary_worth, worth_beside}
+use Rattle.tsa_rules_roles.specs.Worths.{prefix_gist, binary_gist}
 use Rattle.tsa_rules_roles.proofs.Worths.{prefixed_is, joined_is, loaded_is, beside_is}
 
 number_behind_is : (o : UnaryOp) (s : Sense) → worth_of (prefixed o (loaded s)) ≡ number_behind o (worth_of s.term)

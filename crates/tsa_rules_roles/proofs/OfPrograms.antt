@@ -1,5 +1,6 @@
 -- What the duties of the points of a function tell of it.
-use Rattle.std.proofs.Common.{◌≡◌, ◌∙◌, ℕ, zero, suc, ◌<◌, ◌≤◌, nat_eq, Bool, true, false, List, [], ◌∷◌, length, filter_map, Option, Some, None, slice_get, if◌then◌else◌, refl, sym, ap, ap₂, le_of_eq, arith}
+use Rattle.std.proofs.Common.{◌≡◌, ◌∙◌, ℕ, zero, suc, ◌<◌, ◌≤◌, nat_eq, Bool, true, false, List, [], ◌∷◌, length, filter_map, Option, Some}
+use Rattle.std.proofs.Common.{None, slice_get, if◌then◌else◌, refl, sym, ap, ap₂, le_of_eq, arith}
 use Rattle.std.proofs.lemmas.Bool.Decides.{nat_tests}
 use Rattle.std.proofs.lemmas.List.Quantifiers.{position-Some}
 use Rattle.std.specs.List.{AllZip, cons_option, position_or_len}
@@ -20,7 +21,8 @@ use Rattle.tsa_rules_roles.specs.declared.answers.Looked.TheVariants as looked
 use Rattle.tsa_rules_roles.specs.Duties.{role_with}
 use Rattle.tsa_rules_roles.specs.ValueAnswers.{subject_of}
 use Rattle.tsa_rules_roles.specs.RoleLaws.{AreRolesOf, RolesAreOfTheProgram}
-use Rattle.tsa_rules_roles.specs.Roles.{asked_in, begin_for, begin_of, begins, declared_in, duty_in, local_in, number_in, role_for, variables_in}
+use Rattle.tsa_rules_roles.specs.Roles.{asked_in, begin_for, begin_of, begins, declared_in, duty_in, local_in, number_in, role_for}
+use Rattle.tsa_rules_roles.specs.Roles.{variables_in}
 use Rattle.tsa_rules_roles.specs.ProgramDuties.{AreRoles, IsDuty}
 use Rattle.tsa_rules_roles.proofs.RoleDuties.{at_point}
 use Rattle.tsa_rules_roles.proofs.Places.{counted_all}

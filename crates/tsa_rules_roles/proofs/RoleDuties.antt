@@ -1,5 +1,6 @@
 -- Duties that are told of actions are those of the points.
-use Rattle.std.proofs.Common.{◌≡◌, ◌∙◌, ℕ, zero, suc, nat_eq, Bool, true, false, List, [], ◌∷◌, ◌++◌, Option, Some, None, is_some, slice_get, if◌then◌else◌, refl, sym, ap, subst, arith}
+use Rattle.std.proofs.Common.{◌≡◌, ◌∙◌, ℕ, zero, suc, nat_eq, Bool, true, false, List, [], ◌∷◌, ◌++◌, Option, Some, None, is_some}
+use Rattle.std.proofs.Common.{slice_get, if◌then◌else◌, refl, sym, ap, subst, arith}
 use Rattle.std.proofs.lemmas.Bool.Decides.{nat_tests}
 use Rattle.std.specs.List.{AllZip}
 use Rattle.tsa_tree.specs.declared.attr.AttrKind.TheVariants as attr
@@ -21,7 +22,8 @@ use Rattle.tsa_rules_roles.specs.Roles.{duty_in, duty_with}
 use Rattle.tsa_rules_roles.specs.ProgramDuties.{AreRoles, Grows, IsDuty}
 use Rattle.tsa_base.proofs.Numbers.{itself}
 
--- A function whose one point begins a local with what a try gives, in a program with that try: there the number of the local tells it from others.
+-- A function whose one point begins a local with what a try gives, in a program with that try: there the number of the local tells it from
+-- others.
 abbrev with_try : Program → Program
 with_try u = record {
   layout = u.layout;

@@ -11,7 +11,8 @@ use Rattle.tsa_tree.specs.types.Arithmetic.{operate_prefix}
 use Rattle.tsa_tree.specs.types.Constants.{go_on, worked_binary, without_trap}
 use Rattle.tsa_tree.specs.types.Operands.{integer_kind, pointer_kind}
 use Rattle.tsa_core.specs.Meanings.{beside, is_cell, loaded, null_pointer}
-use Rattle.tsa_core.specs.Terms.{Term, constant, variable, answer, global, member, element, target, load, address, converted, prefixed, joined, Sense}
+use Rattle.tsa_core.specs.Terms.{Term, constant, variable, answer, global, member, element, target, load, address, converted, prefixed}
+use Rattle.tsa_core.specs.Terms.{joined, Sense}
 use Rattle.tsa_rules.specs.Conditions.{answer_in, answer_of, constant_in, is_constant, constant_result, subject_in}
 use Rattle.tsa_rules.specs.Conditions as rule
 use Rattle.tsa_rules_roles.specs.declared.worth.Worth.{Worth}

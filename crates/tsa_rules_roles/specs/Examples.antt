@@ -1,4 +1,5 @@
--- Constants and answers as they are written: what the terms of expressions are worth beside what the expressions are, and which answers returns give.
+-- Constants and answers as they are written: what the terms of expressions are worth beside what the expressions are, and which answers
+-- returns give.
 use Rattle.std.specs.Prelude.{◌≡◌, ℕ, pos, negsuc, Bool, true, false, Option, Some, None}
 use Rattle.tsa_tree.specs.declared.expr.BinaryOp.{BinaryOp}
 use Rattle.tsa_tree.specs.declared.expr.BinaryOp.TheVariants as op

@@ -12,7 +12,8 @@ use Rattle.tsa_rules_roles.specs.Duties.{Tells, role_with, test_in}
 use Rattle.tsa_rules_roles.specs.ValueAnswers.{condition_of}
 use Rattle.tsa_rules_roles.specs.Roles.{local_in}
 
--- a duty is a point's: it has the role of the point in every function, tests what the point tests, and begins the try variable that begins there
+-- a duty is a point's: it has the role of the point in every function, tests what the point tests, and begins the try variable that begins
+-- there
 pub record IsDuty (u : Program) (x : Point) (d : Duty) : Type 0 where
   pub role : (f : Function) → role_with u f true d ≡ role_by u f (is_a_try u x.call) x.action
   pub condition : option_map condition_of (test_in d) ≡ condition_at x.action

@@ -2,9 +2,12 @@
 ghost use Rattle.std.specs.Prelude.{◌≡◌, option_map};
 ghost use Rattle.tsa_core.specs.Meanings.{as_kind as spec_given_as, beside as spec_side, loaded, meaning, of_binary};
 ghost use Rattle.tsa_tree.specs.expressions.Shapes.{shape};
-ghost use Rattle.tsa_rules.specs.Conditions.{answer_in as spec_answer_in, answer_of, as_kind as spec_as_kind, beside as spec_beside, comparison, condition, condition_in, subject_in};
+ghost use Rattle.tsa_rules.specs.Conditions.{answer_in as spec_answer_in, answer_of, as_kind as spec_as_kind, beside as spec_beside};
+ghost use Rattle.tsa_rules.specs.Conditions.{comparison, condition, condition_in, subject_in};
 ghost use Rattle.tsa_rules.specs.Effects.{same_answer};
-ghost use Rattle.tsa_rules_roles.specs.ValueAnswers.{answer_beside as spec_answer_beside, compared as spec_compared, condition_of, converted as spec_converted, given as spec_given, number as spec_number, subject, subject_of};
+ghost use Rattle.tsa_rules_roles.specs.ValueAnswers.{answer_beside as spec_answer_beside, compared as spec_compared, condition_of};
+ghost use Rattle.tsa_rules_roles.specs.ValueAnswers.{converted as spec_converted, given as spec_given, number as spec_number, subject};
+ghost use Rattle.tsa_rules_roles.specs.ValueAnswers.{subject_of};
 
 use crate::gist::{Gist, gist_at};
 use crate::worth::Worth;
@@ -130,7 +133,10 @@ fn comparison_told(
     left: &Expr<'_>,
     right: &Expr<'_>,
 ) -> Option<Told>
-    ensures { option_map condition_of result ≡ comparison (same_answer is_same) (spec_side (meaning scope.now (shape right.entry.now)).type.thing.kind (meaning scope.now (shape left.entry.now))) (spec_side (meaning scope.now (shape left.entry.now)).type.thing.kind (meaning scope.now (shape right.entry.now))) }
+    ensures { option_map condition_of result
+        ≡ comparison (same_answer is_same)
+        (spec_side (meaning scope.now (shape right.entry.now)).type.thing.kind (meaning scope.now (shape left.entry.now)))
+        (spec_side (meaning scope.now (shape left.entry.now)).type.thing.kind (meaning scope.now (shape right.entry.now))) }
 {
     let left = gist_at(scope, left);
     let right = gist_at(scope, right);
@@ -141,7 +147,8 @@ fn comparison_told(
 
 /// The same by a binary operator: no other than `==` and `!=` tells an answer.
 fn operator_told(scope: &Scope<'_>, op: BinaryOp, left: &Expr<'_>, right: &Expr<'_>) -> Option<Told>
-    ensures { option_map condition_of result ≡ condition_in (loaded (of_binary op (meaning scope.now (shape left.entry.now)) (meaning scope.now (shape right.entry.now)))) }
+    ensures { option_map condition_of result
+        ≡ condition_in (loaded (of_binary op (meaning scope.now (shape left.entry.now)) (meaning scope.now (shape right.entry.now)))) }
 {
     match op {
         BinaryOp::Equal => comparison_told(scope, true, left, right),
@@ -150,8 +157,8 @@ fn operator_told(scope: &Scope<'_>, op: BinaryOp, left: &Expr<'_>, right: &Expr<
     }
 }
 
-/// What a test looks at and the answer that it means where it holds: a call or a local by itself, behind `!`, or beside a constant 0 or 1 with `==` or
-/// `!=`.
+/// What a test looks at and the answer that it means where it holds: a call or a local by itself, behind `!`, or beside a constant 0 or 1
+/// with `==` or `!=`.
 #[tactic(auto, using(crate::proofs::Conditions::conditions), unfolding(tsa_core::specs::Meanings::meaning))]
 pub fn test_told(scope: &Scope<'_>, expr: &Expr<'_>) -> Option<Told>
     ensures { option_map condition_of result ≡ condition_in (loaded (meaning scope.now (shape expr.now))) }

@@ -1,12 +1,14 @@
 //! What expressions mean, as far as they may tell an answer (C11 6.5).
 ghost use Rattle.std.specs.Prelude.{◌≡◌, Ok};
-ghost use Rattle.tsa_core.specs.Meanings.{meaning, name_term, null_pointer, of_call, of_field, of_name, of_type, to_member, unknown as spec_unknown};
+ghost use Rattle.tsa_core.specs.Meanings.{meaning, name_term, null_pointer, of_call, of_field, of_name, of_type, to_member};
+ghost use Rattle.tsa_core.specs.Meanings.{unknown as spec_unknown};
 ghost use Rattle.tsa_tree.specs.expressions.Shapes.{shape};
 ghost use Rattle.tsa_tree.specs.types.Constants.{number_value as spec_number_value};
 ghost use Rattle.tsa_tree.specs.types.Expressions.{number_type as spec_number_type};
 ghost use Rattle.tsa_tree.specs.types.Operands.{element_type as spec_element_type};
 ghost use Rattle.tsa_rules_roles.specs.declared.worth.Worth.TheVariants as worth;
-ghost use Rattle.tsa_rules_roles.specs.Worths.{binary_gist, binary_worth as spec_binary_worth, gist_of, prefix_gist, worth_beside, worth_of};
+ghost use Rattle.tsa_rules_roles.specs.Worths.{binary_gist, binary_worth as spec_binary_worth, gist_of, prefix_gist, worth_beside};
+ghost use Rattle.tsa_rules_roles.specs.Worths.{worth_of};
 
 use crate::worth::{Worth, joined_worth, prefix_worth};
 use tsa_types_operators::{binary_type, element_type, is_integer_kind, is_pointer_kind, prefix_type, value};
@@ -49,7 +51,8 @@ fn unknown() -> Gist
 
 /// A number.
 fn number(value: u32, unsigned: bool) -> Gist
-    ensures { result ≡ record { expression = spec_number_type value unsigned; worth = worth.Number (Ok (spec_number_value value unsigned)) } }
+    ensures { result ≡ record { expression = spec_number_type value unsigned; worth = worth.Number (Ok (spec_number_value value unsigned)) }
+        }
 {
     Gist {
         expression: number_type(value, unsigned),

@@ -2,7 +2,8 @@
 ghost use Rattle.std.specs.Prelude.{◌≡◌, ◌+◌, ◌<◌, ◌++◌, ◌∷◌, ◌^◌, ℕ, [], None, length, IfOk, OnOk, OnErr};
 ghost use Rattle.tsa_core.specs.Programs.{Program};
 ghost use Rattle.tsa_rules_roles.specs.declared.duty.Duty.TheVariants as duty;
-ghost use Rattle.tsa_rules_roles.specs.Roles.{asked_in, begin_in, begin_of as spec_begin_of, duty_in, duty_with, local_in, number_in, role_in, tries_in};
+ghost use Rattle.tsa_rules_roles.specs.Roles.{asked_in, begin_in, begin_of as spec_begin_of, duty_in, duty_with, local_in, number_in};
+ghost use Rattle.tsa_rules_roles.specs.Roles.{role_in, tries_in};
 ghost use Rattle.tsa_rules_roles.specs.ProgramDuties.{AreRoles, Grows};
 ghost use Rattle.tsa_rules_roles.specs.Variables.{variable_after, variable_in};
 
@@ -13,8 +14,8 @@ use tsa_base::NoMemory;
 use tsa_rules::{Asked, Role, Test};
 use crate::{Duty, Looked};
 
-/// What each point of a body does for the rules, and the numbers of its try variables. Contracts see what the points do, where of the locals only try
-/// variables are declared.
+/// What each point of a body does for the rules, and the numbers of its try variables. Contracts see what the points do, where of the
+/// locals only try variables are declared.
 pub struct Roles {
     duties: Vec<Duty>,
     variables: Vec<Option<Variable>>,
@@ -139,7 +140,8 @@ impl Roles {
         }
     }
 
-    /// One point more behind the others, by what it does and whether it begins a local with what a try gives; where it begins none, that doesn't matter.
+    /// One point more behind the others, by what it does and whether it begins a local with what a try gives; where it begins none, that
+    /// doesn't matter.
     pub fn push(&mut self, duty: Duty, is_try: bool) -> Result<(), NoMemory>
         ensures put { OnOk result (self.new ≡ self.old ++ duty_with duty is_try ∷ []) }
         ensures grown { OnOk result (Grows duty is_try self.old self.new) }

@@ -26,7 +26,8 @@ pub fn make_room(variables: &mut Vec<Option<Variable>>, local: u32) -> Result<()
 /// Puts a try variable at its local, where there is none yet.
 pub fn put(variables: &mut Vec<Option<Variable>>, local: u32, variable: Variable)
     requires { local < length variables.old.items }
-    ensures { variables.new.items ≡ slice_set variables.old.items local (option_or (slice_index_or variables.old.items local None) (Some variable)) }
+    ensures { variables.new.items ≡ slice_set variables.old.items local
+        (option_or (slice_index_or variables.old.items local None) (Some variable)) }
 {
     let number = local as usize;
     variables[number] = variables[number].or(Some(variable));

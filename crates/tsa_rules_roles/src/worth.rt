@@ -1,6 +1,7 @@
 //! What the value of an expression is, as far as it may tell an answer (C11 6.6).
 ghost use Rattle.std.specs.Prelude.{◌≡◌, option_map};
-ghost use Rattle.tsa_rules_roles.specs.Worths.{joined_worth as spec_joined_worth, number_behind as spec_number_behind, prefix_worth as spec_prefix_worth};
+ghost use Rattle.tsa_rules_roles.specs.Worths.{joined_worth as spec_joined_worth, number_behind as spec_number_behind};
+ghost use Rattle.tsa_rules_roles.specs.Worths.{prefix_worth as spec_prefix_worth};
 
 use tsa_types_expressions::{worked_binary, worked_prefix};
 use tsa_tree::expr::{BinaryOp, UnaryOp};

@@ -1,4 +1,5 @@
--- What the last row says of paths, and what it says after notes of the attributes of a called function, of accesses, and of the declaration of a local.
+-- What the last row says of paths, and what it says after notes of the attributes of a called function, of accesses, and of the declaration
+-- of a local.
 use Rattle.std.specs.Prelude.{◌≡◌, ℕ, List, ◌++◌, Option, Some, None, slice_get}
 use Rattle.tsa_place_model.specs.Ways.{Way}
 use Rattle.tsa_core.specs.Programs.{Attr}

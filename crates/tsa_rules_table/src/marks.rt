@@ -13,7 +13,8 @@ use std::marker::Model;
 use tsa_base::NoMemory;
 use tsa_rules::Mark;
 
-/// A row for each point that is begun, and in it a mark for each path by its number; where nothing is noted, the point says nothing of the path.
+/// A row for each point that is begun, and in it a mark for each path by its number; where nothing is noted, the point says nothing of the
+/// path.
 pub struct Marks {
     pub(crate) alloc: Global,
     pub(crate) marks: IndexMap<u64, Mark>,

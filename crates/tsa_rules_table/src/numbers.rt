@@ -9,7 +9,8 @@ use tsa_base::NoMemory;
 use tsa_path::{InternRefusal, PathTable};
 use tsa_place_model::Path;
 
-/// A copy of a table of paths, by which paths are numbered: what the table takes in later has no number. Contracts see the list of the paths that have one.
+/// A copy of a table of paths, by which paths are numbered: what the table takes in later has no number. Contracts see the list of the
+/// paths that have one.
 #[derive(Drop)]
 pub struct Numbers {
     table: PathTable,

@@ -1,5 +1,6 @@
 -- The view that is made of what is found is that of the program's function.
-use Rattle.std.proofs.Common.{◌≡◌, ℕ, zero, suc, nat_lt, Bool, true, false, length, List, [], ◌∷◌, Option, Some, None, is_some, option_and_then, slice_get, refl, sym, subst, if◌then◌else◌}
+use Rattle.std.proofs.Common.{◌≡◌, ℕ, zero, suc, nat_lt, Bool, true, false, length, List, [], ◌∷◌, Option, Some, None, is_some}
+use Rattle.std.proofs.Common.{option_and_then, slice_get, refl, sym, subst, if◌then◌else◌}
 use Rattle.tsa_tree.specs.types.FirstFailing.{first_failing}
 use Rattle.tsa_tree.specs.units.Syntax.{UnitItem}
 use Rattle.tsa_place_model.specs.Ways.{Way}

@@ -1,5 +1,6 @@
 -- The kinds of locks along paths, one path more.
-use Rattle.std.proofs.Common.{◌≡◌, ◌∙◌, ℕ, zero, suc, ◌+◌, arith, List, [], ◌∷◌, ◌++◌, take, Option, Some, option_map, slice_get, sym, ap, ap₂}
+use Rattle.std.proofs.Common.{◌≡◌, ◌∙◌, ℕ, zero, suc, ◌+◌, arith, List, [], ◌∷◌, ◌++◌, take, Option, Some, option_map, slice_get, sym, ap}
+use Rattle.std.proofs.Common.{ap₂}
 use Rattle.tsa_tree.specs.declared.kind.Kind.{Kind}
 use Rattle.tsa_place_model.specs.Ways.{Way}
 use Rattle.tsa_place_model.specs.Calls.{Layout}

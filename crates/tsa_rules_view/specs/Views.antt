@@ -60,7 +60,8 @@ pub record IsViewOf (u : Program) (f : Function) (paths : List Way) (v : RuleVie
   -- and at each point
   pub cases : (point number : ℕ) (c : Way) → point < length (points_of f) → slice_get paths number ≡ Some c → case_in v point number ≡ case_of u f point c
 
--- The view of a function of a program with all of its paths, where it has a body and there are no more than it may have; else there is none.
+-- The view of a function of a program with all of its paths, where it has a body and there are no more than it may have; else there is
+-- none.
 abbrev pub IsViewBy : Program → Function → Option (List Way) → Option RuleView → Type 0
 IsViewBy u f None view = view ≡ None
 IsViewBy u f (Some paths) view = (v : RuleView) × ((view ≡ Some v) × IsViewOf u f paths v)

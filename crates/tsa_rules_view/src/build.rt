@@ -51,8 +51,11 @@ fn notes_along<'a>(
     steps: &[Step<'a>],
     paths: &PathTable,
 ) -> Result<Noted, NoMemory>
-    ensures noted { IfOk result (λ noted. AreDifferent paths.now → AreNoted (around_of frame.entry.around) frame.entry.kind paths.now (points_along (walk scope.old []) (map step_shape steps.now)) noted) }
-    ensures scope { OnOk result (scope.new ≡ with_locals scope.old.locals (walk_behind (walk scope.old []) (map step_shape steps.now)).here) }
+    ensures noted { IfOk result (λ noted. AreDifferent paths.now
+        → AreNoted (around_of frame.entry.around) frame.entry.kind paths.now (points_along (walk scope.old []) (map step_shape steps.now))
+        noted) }
+    ensures scope { OnOk result (scope.new ≡ with_locals scope.old.locals (walk_behind (walk scope.old []) (map step_shape steps.now)).here)
+        }
 {
     let locals = scope.next_local();
     let numbers = Numbers::copy_of(scope.allocator(), paths)?;
@@ -68,7 +71,8 @@ fn own_row(
     inside: &Inside<'_>,
     numbers: &mut Numbers,
 ) -> Result<Marks, NoMemory>
-    ensures row { IfOk result (λ own. AreDifferent numbers.old → IsRow numbers.old own 0 (attributes_at known.now.attributes inside.now.number) [] [] None) }
+    ensures row { IfOk result (λ own. AreDifferent numbers.old
+        → IsRow numbers.old own 0 (attributes_at known.now.attributes inside.now.number) [] [] None) }
     ensures numbers { numbers.new ≡ numbers.old }
 {
     let own = known.locks_of(inside.number);
@@ -80,7 +84,8 @@ impl<'w, 'a> Unit<'w, 'a> {
     fn around<'f>(&self, attributes: &'f [NamedLocks], stable: &'f [bool]) -> Around<'f>
     where
         'w: 'f,
-        ensures { around_of result ≡ record { layout = self.now.layout.now; attributes = attributes.now; tries = false; stable = stable_in stable.now } }
+        ensures { around_of result ≡ record
+            { layout = self.now.layout.now; attributes = attributes.now; tries = false; stable = stable_in stable.now } }
     {
         Around {
             layout: self.layout,
@@ -113,7 +118,8 @@ impl<'w, 'a> Unit<'w, 'a> {
         inside: &Inside<'a>,
         noted: &Noted,
     ) -> Result<Vec<Option<LockKind<'a>>>, NoMemory>
-        ensures { IfOk result (λ kinds. spec_kinds kinds.items ≡ kinds_along (spec_kinds self.now.kinds.now) self.now.layout.now (spec_param_kinds known.now.here (head_shape inside.now.head.now).params ++ noted.now.notes.kinds.items) noted.now.numbers) }
+        ensures { IfOk result (λ kinds. spec_kinds kinds.items ≡ kinds_along (spec_kinds self.now.kinds.now) self.now.layout.now
+            (spec_param_kinds known.now.here (head_shape inside.now.head.now).params ++ noted.now.notes.kinds.items) noted.now.numbers) }
     {
         let mut locals = param_kinds(&known.scope, inside.head.params)?;
         locals.extend_from_slice(&noted.notes.kinds)?;
@@ -131,8 +137,10 @@ impl<'w, 'a> Unit<'w, 'a> {
         inside: &Inside<'a>,
         noted: &mut Noted,
     ) -> Result<Sides<'a>, NoMemory>
-        ensures kinds { IfOk result (λ sides. spec_kinds sides.kinds.items ≡ kinds_along (spec_kinds self.now.kinds.now) self.now.layout.now (spec_param_kinds known.now.here (head_shape inside.now.head.now).params ++ noted.old.notes.kinds.items) noted.old.numbers) }
-        ensures own { IfOk result (λ sides. AreDifferent noted.old.numbers → IsRow noted.old.numbers sides.own 0 (attributes_at known.now.attributes inside.now.number) [] [] None) }
+        ensures kinds { IfOk result (λ sides. spec_kinds sides.kinds.items ≡ kinds_along (spec_kinds self.now.kinds.now) self.now.layout.now
+            (spec_param_kinds known.now.here (head_shape inside.now.head.now).params ++ noted.old.notes.kinds.items) noted.old.numbers) }
+        ensures own { IfOk result (λ sides. AreDifferent noted.old.numbers
+            → IsRow noted.old.numbers sides.own 0 (attributes_at known.now.attributes inside.now.number) [] [] None) }
         ensures few { OnOk result (tries_in noted.old.notes.roles < pending_places) }
         ensures noted { noted.new ≡ noted.old }
     {

@@ -7,8 +7,8 @@ use crate::LockKind;
 use tsa_rules_table::{Marks, Numbers};
 use tsa_rules_points::Notes;
 
-/// All that the rules go by in a function: its paths by their numbers, the kind of the lock to which each leads and what the function says of it, and what
-/// its points do and say of each path.
+/// All that the rules go by in a function: its paths by their numbers, the kind of the lock to which each leads and what the function says
+/// of it, and what its points do and say of each path.
 pub struct RuleView<'a> {
     pub(crate) numbers: Numbers,
     pub(crate) kinds: Vec<Option<LockKind<'a>>>,

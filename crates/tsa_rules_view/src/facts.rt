@@ -29,13 +29,18 @@ pub trait Facts<'a> {
 
     /// The view of a function by its number. None exactly where it has no table of paths, as without a body.
     fn view(&self, function: u32) -> Option<&RuleView<'a>>
-        ensures { hold self.now → IsViewIn (program_of (items self.now)) (slice_get (program_of (items self.now)).functions function) (option_map (λ view. view.now) result) };
+        ensures { hold self.now → IsViewIn (program_of (items self.now)) (slice_get (program_of (items self.now)).functions function)
+            (option_map (λ view. view.now) result) };
 
     /// The statuses of a path before a point of a function, by their numbers: all that some walk brings there.
     fn statuses(&self, function: u32, point: u32, cap: u32) -> Statuses
-        ensures { hold self.now → (f : Function) (paths : List Way) (c : Way) → slice_get (program_of (items self.now)).functions function ≡ Some f → paths_if (program_of (items self.now)) f ≡ Some paths → point < length (points_of f) → slice_get paths cap ≡ Some c → (s : Status) → Has result s ↔ ReachAt (course_of (program_of (items self.now)) f c) point s };
+        ensures { hold self.now → (f : Function) (paths : List Way) (c : Way) → slice_get (program_of (items self.now)).functions function
+            ≡ Some f → paths_if (program_of (items self.now)) f ≡ Some paths → point < length (points_of f) → slice_get paths cap ≡ Some c
+            → (s : Status) → Has result s ↔ ReachAt (course_of (program_of (items self.now)) f c) point s };
 
     /// Whether all edges that are reached into the point bring the same statuses of the path.
     fn agree(&self, function: u32, point: u32, cap: u32) -> bool
-        ensures { hold self.now → (f : Function) (paths : List Way) (c : Way) → slice_get (program_of (items self.now)).functions function ≡ Some f → paths_if (program_of (items self.now)) f ≡ Some paths → point < length (points_of f) → slice_get paths cap ≡ Some c → IsTrue result ↔ Agree (course_of (program_of (items self.now)) f c) point };
+        ensures { hold self.now → (f : Function) (paths : List Way) (c : Way) → slice_get (program_of (items self.now)).functions function
+            ≡ Some f → paths_if (program_of (items self.now)) f ≡ Some paths → point < length (points_of f) → slice_get paths cap ≡ Some c
+            → IsTrue result ↔ Agree (course_of (program_of (items self.now)) f c) point };
 }

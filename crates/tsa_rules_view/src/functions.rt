@@ -37,7 +37,8 @@ impl<'a> RuleView<'a> {
         function: u32,
     ) -> Result<Option<RuleView<'a>>, NoMemory>
         requires placed { placed_in (item_shapes unit.now.typed.unit.now.items.now) ≡ Ok places.now }
-        ensures { IfOk result (λ view. IsViewIn (program_of (item_shapes unit.now.typed.unit.now.items.now)) (slice_get (program_of (item_shapes unit.now.typed.unit.now.items.now)).functions function) view) }
+        ensures { IfOk result (λ view. IsViewIn (program_of (item_shapes unit.now.typed.unit.now.items.now))
+            (slice_get (program_of (item_shapes unit.now.typed.unit.now.items.now)).functions function) view) }
     {
         let Some(paths) = unit.paths(function) else {
             return Ok(None);

@@ -67,7 +67,8 @@ fn lock_of<'a>(attrs: &[Attr<'a>]) -> Option<LockKind<'a>>
 /// Adds what kind of lock an item is, where it is a struct.
 #[tactic(auto, unfolding(tsa_core::specs::Programs::lock_kinds))]
 fn add_item<'a>(kinds: &mut Vec<Option<LockKind<'a>>>, item: &Item<'a>) -> Result<(), NoMemory>
-    ensures { OnOk result ((rest : List UnitItem) → kinds_of kinds.new.items ++ spec_lock_kinds rest ≡ kinds_of kinds.old.items ++ spec_lock_kinds (item_shape item.now ∷ rest)) }
+    ensures { OnOk result ((rest : List UnitItem) → kinds_of kinds.new.items ++ spec_lock_kinds rest ≡ kinds_of kinds.old.items
+        ++ spec_lock_kinds (item_shape item.now ∷ rest)) }
 {
     if let Item::Structure(def) = item {
         kinds.push(lock_of(def.attrs))?;

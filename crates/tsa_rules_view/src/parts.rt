@@ -1,4 +1,5 @@
-//! The parts of a view that are told by paths: the kinds of the locks to which they lead, and what the function's own attributes say of them.
+//! The parts of a view that are told by paths: the kinds of the locks to which they lead, and what the function's own attributes say of
+//! them.
 ghost use Rattle.std.specs.Prelude.{◌≡◌, ◌<◌, None, [], IfOk, OnOk};
 ghost use Rattle.tsa_rules_view.specs.Kinds.{kinds_of as spec_kinds};
 ghost use Rattle.tsa_rules_table.specs.Notes.{IsRow};
@@ -57,7 +58,8 @@ pub fn kinds_of<'a>(
     leads: Leads<'_>,
     kinds: &[Option<LockKind<'a>>],
 ) -> Result<Vec<Option<LockKind<'a>>>, NoMemory>
-    ensures { IfOk result (λ found. spec_kinds found.items ≡ kinds_along (spec_kinds kinds.now) leads.entry.layout.now leads.entry.locals.now numbers.now) }
+    ensures { IfOk result (λ found. spec_kinds found.items ≡ kinds_along (spec_kinds kinds.now) leads.entry.layout.now
+        leads.entry.locals.now numbers.now) }
 {
     let mut found = Vec::new(alloc);
     'each: for number in 0..numbers.len() {

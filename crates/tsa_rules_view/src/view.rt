@@ -34,7 +34,8 @@ impl<'a> RuleView<'a> {
 
     /// The text of the kind of the lock to which the path of a number leads. None exactly where there is no such path.
     pub fn kind(&self, cap: u32) -> Option<&'a [u8]>
-        ensures { (u : Program) (f : Function) (paths : List Way) → IsViewOf u f paths self.now → option_map (λ text. text.now) result ≡ option_map (λ c. text_of (lock_kind_of u f c)) (slice_get paths cap) }
+        ensures { (u : Program) (f : Function) (paths : List Way) → IsViewOf u f paths self.now
+            → option_map (λ text. text.now) result ≡ option_map (λ c. text_of (lock_kind_of u f c)) (slice_get paths cap) }
     {
         let _path = self.numbers.path(cap)?;
         match self.kind_of(cap) {
@@ -45,16 +46,18 @@ impl<'a> RuleView<'a> {
 
     /// The number of the function that a point calls. None exactly where there is no such point, or it calls nothing.
     pub fn callee(&self, point: u32) -> Option<u32>
-        ensures { (u : Program) (f : Function) (paths : List Way) → IsViewOf u f paths self.now → result ≡ number_called (point_at f point) }
+        ensures { (u : Program) (f : Function) (paths : List Way) → IsViewOf u f paths self.now
+            → result ≡ number_called (point_at f point) }
     {
         self.notes.callees.get(point as usize).copied().flatten()
     }
 
-    /// The kind of the first attribute of the called function that names a path at a point. None exactly where there is no such point or path, or none names
-    /// it there.
+    /// The kind of the first attribute of the called function that names a path at a point. None exactly where there is no such point or
+    /// path, or none names it there.
     #[tactic(auto, using(crate::proofs::Mentions::named_there, crate::proofs::Mentions::named_past))]
     pub fn named(&self, point: u32, cap: u32) -> Option<AttrKind>
-        ensures { (u : Program) (f : Function) (paths : List Way) → IsViewOf u f paths self.now → result ≡ option_and_then (λ c. spec_named (attrs_at u f point) c) (slice_get paths cap) }
+        ensures { (u : Program) (f : Function) (paths : List Way) → IsViewOf u f paths self.now
+            → result ≡ option_and_then (λ c. spec_named (attrs_at u f point) c) (slice_get paths cap) }
     {
         let _path = self.numbers.path(cap)?;
         if point < self.notes.marks.rows() {
@@ -124,7 +127,8 @@ impl<'a> RuleView<'a> {
     pub fn case(&self, point: u32, cap: u32) -> Case
         ensures by { result ≡ case_in self.now point cap }
         ensures small { IsSmall result.role }
-        ensures is { (u : Program) (f : Function) (paths : List Way) (c : Way) → IsViewOf u f paths self.now → point < length (points_of f) → slice_get paths cap ≡ Some c → result ≡ case_of u f point c }
+        ensures is { (u : Program) (f : Function) (paths : List Way) (c : Way) → IsViewOf u f paths self.now → point < length (points_of f)
+            → slice_get paths cap ≡ Some c → result ≡ case_of u f point c }
     {
         Case {
             lock: self.lock(cap),

@@ -22,7 +22,8 @@ use Rattle.tsa_mean.specs.States.{Frame, Holds, working}
 use Rattle.tsa_mean.specs.Working.{with_answer}
 use Rattle.tsa_sound.specs.CallFacts.{CallFacts, CanCall, TakesAnswer, UsesAnswer}
 use Rattle.tsa_sound.specs.Facts.{FunctionFacts}
-use Rattle.tsa_sound.specs.FramesFit.{FrameFits, GoesOnBehind, ProgramRows, function_of, owned_below, owned_by_caller, setting_behind, stable_of, status_before}
+use Rattle.tsa_sound.specs.FramesFit.{FrameFits, GoesOnBehind, ProgramRows, function_of, owned_below, owned_by_caller, setting_behind}
+use Rattle.tsa_sound.specs.FramesFit.{stable_of, status_before}
 use Rattle.tsa_sound.specs.Invariant.{LowerFit, StackFits}
 use Rattle.tsa_sound.specs.LaidOut.{LaidOut}
 use Rattle.tsa_sound.specs.SettledStatuses.{answer_held, lock_named}

@@ -1,5 +1,6 @@
 -- Tests: a try variable's answer is told by the outcome, and settled statuses stay.
-use Rattle.std.proofs.Common.{◌≡◌, ◌∙◌, ℕ, nat_lt, Bool, true, false, not, List, length, Option, Some, None, slice_get, refl, ap, sym, subst}
+use Rattle.std.proofs.Common.{◌≡◌, ◌∙◌, ℕ, nat_lt, Bool, true, false, not, List, length, Option, Some, None, slice_get, refl, ap, sym}
+use Rattle.std.proofs.Common.{subst}
 use Rattle.std.specs.Prelude.{Contains}
 use Rattle.tsa_place_model.specs.Ways.{Way}
 use Rattle.tsa_core.specs.Programs.{Program}
@@ -12,7 +13,8 @@ use Rattle.tsa_mean.specs.Frames.{frame_behind, outcome_of, point_behind, right_
 use Rattle.tsa_mean.specs.States.{Frame, Holds, running, holds_of}
 use Rattle.tsa_mean.specs.Working.{local_at}
 use Rattle.tsa_sound.specs.Facts.{FunctionFacts}
-use Rattle.tsa_sound.specs.FramesFit.{IsDecided, ProgramRows, SidesFit, WorkFits, function_of, paths_of, setting_behind, stable_of, status_before}
+use Rattle.tsa_sound.specs.FramesFit.{IsDecided, ProgramRows, SidesFit, WorkFits, function_of, paths_of, setting_behind, stable_of}
+use Rattle.tsa_sound.specs.FramesFit.{status_before}
 use Rattle.tsa_sound.specs.Invariant.{StackFits}
 use Rattle.tsa_sound.specs.Laws.{IsBranch, TurnsGoWell}
 use Rattle.tsa_sound.specs.PartlyWorked.{IsWorked}

@@ -1,5 +1,6 @@
 -- A call is answered, and its frame goes on: to another point, or with what is left to be worked out.
-use Rattle.std.proofs.Common.{◌≡◌, ◌∙◌, ℕ, zero, suc, ◌+◌, ◌≤◌, Bool, true, false, List, [], ◌∷◌, length, Option, Some, None, inl, inr, option_and_then, option_map, slice_get, refl, ap, sym, subst, arith}
+use Rattle.std.proofs.Common.{◌≡◌, ◌∙◌, ℕ, zero, suc, ◌+◌, ◌≤◌, Bool, true, false, List, [], ◌∷◌, length, Option, Some, None, inl, inr}
+use Rattle.std.proofs.Common.{option_and_then, option_map, slice_get, refl, ap, sym, subst, arith}
 use Rattle.std.specs.List.{list_any}
 use Rattle.std.specs.Prelude.{All, Contains, IsSome}
 use Rattle.tsa_base.specs.declared.value.Value.{Value}
@@ -17,8 +18,10 @@ use Rattle.tsa_rules.specs.declared.status.Status.{Status}
 use Rattle.tsa_rules.specs.declared.status.Status.TheVariants.{Free, Lent, Pending}
 use Rattle.tsa_rules.specs.Attributes.{all_as_called, claim, is_path, is_reentrant, is_try, kind_of, local_kinds, names}
 use Rattle.tsa_rules.specs.Conditions.{Condition, answer_by, condition_at}
-use Rattle.tsa_rules.specs.Effects.{after_asking, after_attempt, after_claim, after_test, attempt_at, attempt_of, effect, exit_with, if_taken, is_success, taken_by}
-use Rattle.tsa_rules.specs.Points.{attrs_at, attrs_called, edges_of, function_at, is_a_try, or_no_function, point_at, try_variables, uses_at}
+use Rattle.tsa_rules.specs.Effects.{after_asking, after_attempt, after_claim, after_test, attempt_at, attempt_of, effect, exit_with}
+use Rattle.tsa_rules.specs.Effects.{if_taken, is_success, taken_by}
+use Rattle.tsa_rules.specs.Points.{attrs_at, attrs_called, edges_of, function_at, is_a_try, or_no_function, point_at, try_variables}
+use Rattle.tsa_rules.specs.Points.{uses_at}
 use Rattle.tsa_sched.specs.declared.event.Mode.{Mode}
 use Rattle.tsa_mean.specs.Acts.{point_of}
 use Rattle.tsa_mean.specs.Frames.{frame_at, frame_behind, left_of, or_here, point_behind, right_of, with_work, work_at}
@@ -27,7 +30,9 @@ use Rattle.tsa_mean.specs.States.{Frame, Holds, Work, working}
 use Rattle.tsa_mean.specs.Working.{Locals, with_answer}
 use Rattle.tsa_sound.specs.CallFacts.{CallFacts}
 use Rattle.tsa_sound.specs.Facts.{FunctionFacts}
-use Rattle.tsa_sound.specs.FramesFit.{FrameFits, GoesOnBehind, IsDecided, IsLentOf, LocalsFit, ProgramRows, WorkFits, function_of, owned_below, owned_by_caller, paths_of, setting_behind, settled_in, stable_of, status_before, status_now}
+use Rattle.tsa_sound.specs.FramesFit.{FrameFits, GoesOnBehind, IsDecided, IsLentOf, LocalsFit, ProgramRows, WorkFits, function_of}
+use Rattle.tsa_sound.specs.FramesFit.{owned_below, owned_by_caller, paths_of, setting_behind, settled_in, stable_of, status_before}
+use Rattle.tsa_sound.specs.FramesFit.{status_now}
 use Rattle.tsa_sound.specs.Invariant.{LowerFit, StackFits}
 use Rattle.tsa_sound.specs.PartlyWorked.{IsOfKind}
 use Rattle.tsa_sound.specs.SettledStatuses.{answer_held, hold, lock_in, lock_named, settled}

@@ -1,5 +1,6 @@
 -- From which points calls come, and what is called.
-use Rattle.std.proofs.Common.{◌≡◌, ◌∙◌, ℕ, Bool, true, false, List, [], ◌∷◌, map, find, Option, Some, None, ◌⊎◌, is_some, option_and_then, slice_get, if◌then◌else◌, refl, ap, sym, subst}
+use Rattle.std.proofs.Common.{◌≡◌, ◌∙◌, ℕ, Bool, true, false, List, [], ◌∷◌, map, find, Option, Some, None, ◌⊎◌, is_some, option_and_then}
+use Rattle.std.proofs.Common.{slice_get, if◌then◌else◌, refl, ap, sym, subst}
 use Rattle.std.specs.Prelude.{All, cond}
 use Rattle.tsa_base.specs.declared.value.Value.{Value}
 use Rattle.tsa_tree.specs.declared.kind.Kind.{Kind}
@@ -10,7 +11,9 @@ use Rattle.tsa_core.specs.Programs.{Attr, Function, Program}
 use Rattle.tsa_core.specs.Terms.{Term}
 use Rattle.tsa_rules.specs.Points.{function_at}
 use Rattle.tsa_path.specs.Values.{pointed_place}
-use Rattle.tsa_mean.specs.Acts.{Act, act_at, act_of, act_of_call, act_outside, args_act, changes_lock, finish, on_lock, on_pointed, on_value, place_act, point_of, set_act, unless_trap, write_act, to_ask, to_enter, to_give, to_set, to_take, to_try, to_write}
+use Rattle.tsa_mean.specs.Acts.{Act, act_at, act_of, act_of_call, act_outside, args_act, changes_lock, finish, on_lock, on_pointed}
+use Rattle.tsa_mean.specs.Acts.{on_value, place_act, point_of, set_act, unless_trap, write_act, to_ask, to_enter, to_give, to_set, to_take}
+use Rattle.tsa_mean.specs.Acts.{to_try, to_write}
 use Rattle.tsa_mean.specs.Outs.{Out, traps, reads, yields}
 use Rattle.tsa_mean.specs.States.{Frame, Work, calling, working}
 use Rattle.tsa_mean.specs.Working.{Locals, filled, lvalue, rvalue, rvalues}

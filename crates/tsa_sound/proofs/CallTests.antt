@@ -1,5 +1,6 @@
 -- A condition on a call tells the answer that the call gives.
-use Rattle.std.proofs.Common.{◌≡◌, ◌∙◌, ℕ, pos, negsuc, Bool, true, false, not, Option, Some, None, Result, Ok, Err, ◌⊎◌, inl, inr, option_map, option_and_then, if◌then◌else◌, refl, ap, sym, subst}
+use Rattle.std.proofs.Common.{◌≡◌, ◌∙◌, ℕ, pos, negsuc, Bool, true, false, not, Option, Some, None, Result, Ok, Err, ◌⊎◌, inl, inr}
+use Rattle.std.proofs.Common.{option_map, option_and_then, if◌then◌else◌, refl, ap, sym, subst}
 use Rattle.tsa_base.specs.declared.value.Value.{Value}
 use Rattle.tsa_base.specs.declared.value.Value.TheVariants.{Int, Unsigned, Pointer}
 use Rattle.tsa_tree.specs.declared.expr.BinaryOp.{BinaryOp}
@@ -14,8 +15,10 @@ use Rattle.tsa_tree.specs.types.Constants.{without_trap}
 use Rattle.tsa_place_model.specs.Calls.{Layout}
 use Rattle.tsa_core.specs.Kinds.{Setting, binary_kind, of_both, value_kind}
 use Rattle.tsa_core.specs.Meanings.{of_number}
-use Rattle.tsa_core.specs.Terms.{Term, constant, variable, answer, global, member, element, target, load, address, converted, prefixed, joined}
-use Rattle.tsa_rules.specs.Conditions.{Condition, Subject, the_call, the_local, answer_beside, answer_in, beside, comparison, condition, condition_in, constant_result, either, is_constant, itself, subject_in}
+use Rattle.tsa_core.specs.Terms.{Term, constant, variable, answer, global, member, element, target, load, address, converted, prefixed}
+use Rattle.tsa_core.specs.Terms.{joined}
+use Rattle.tsa_rules.specs.Conditions.{Condition, Subject, the_call, the_local, answer_beside, answer_in, beside, comparison, condition}
+use Rattle.tsa_rules.specs.Conditions.{condition_in, constant_result, either, is_constant, itself, subject_in}
 use Rattle.tsa_rules.specs.Effects.{same_answer}
 use Rattle.tsa_path.specs.Values.{is_true, of_truth}
 use Rattle.tsa_mean.specs.Operators.{joined_with, operate_on, prefix_on}

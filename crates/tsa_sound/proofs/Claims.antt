@@ -1,5 +1,6 @@
 -- Sums over paths, by the attributes of a call that claim them.
-use Rattle.std.proofs.Common.{◌≡◌, ◌∙◌, ℕ, zero, suc, ◌+◌, ◌≤◌, nat_eq, Bool, true, false, ◌&&◌, List, [], ◌∷◌, length, map, filter, Option, Some, None, option_and_then, if◌then◌else◌, refl, ap, sym, arith}
+use Rattle.std.proofs.Common.{◌≡◌, ◌∙◌, ℕ, zero, suc, ◌+◌, ◌≤◌, nat_eq, Bool, true, false, ◌&&◌, List, [], ◌∷◌, length, map, filter, Option}
+use Rattle.std.proofs.Common.{Some, None, option_and_then, if◌then◌else◌, refl, ap, sym, arith}
 use Rattle.std.specs.Prelude.{All, AllPairs, Contains, cond}
 use Rattle.tsa_place_model.specs.Ways.{Way}
 use Rattle.tsa_core.specs.Programs.{Attr, Program}

@@ -1,5 +1,6 @@
 -- From which points acts come.
-use Rattle.std.proofs.Common.{◌≡◌, ℕ, Bool, true, false, List, Option, Some, None, find, is_some, option_and_then, slice_get, if◌then◌else◌, refl}
+use Rattle.std.proofs.Common.{◌≡◌, ℕ, Bool, true, false, List, Option, Some, None, find, is_some, option_and_then, slice_get, if◌then◌else◌}
+use Rattle.std.proofs.Common.{refl}
 use Rattle.tsa_base.specs.declared.value.Value.{Value}
 use Rattle.tsa_tree.specs.declared.attr.AttrKind.{AttrKind}
 use Rattle.tsa_tree.specs.declared.attr.AttrKind.TheVariants as attr
@@ -13,7 +14,9 @@ use Rattle.tsa_rules.specs.Conditions.{condition_at}
 use Rattle.tsa_rules.specs.Points.{function_at}
 use Rattle.tsa_path.specs.Values.{in_kind, is_true, pointed_place}
 use Rattle.tsa_sched.specs.declared.event.TrapKind.TheVariants as trap
-use Rattle.tsa_mean.specs.Acts.{Act, act_at, act_of_call, act_outside, args_act, changes_lock, finish, on_lock, on_pointed, on_value, place_act, set_act, stored_value, unless_trap, write_act, to_read, to_set, to_write, to_step, to_set, to_branch, to_choose, to_ask, to_enter}
+use Rattle.tsa_mean.specs.Acts.{Act, act_at, act_of_call, act_outside, args_act, changes_lock, finish, on_lock, on_pointed, on_value}
+use Rattle.tsa_mean.specs.Acts.{place_act, set_act, stored_value, unless_trap, write_act, to_read, to_set, to_write, to_step, to_set}
+use Rattle.tsa_mean.specs.Acts.{to_branch, to_choose, to_ask, to_enter}
 use Rattle.tsa_mean.specs.Outs.{Out, traps, reads, yields}
 use Rattle.tsa_mean.specs.States.{Work, calling, working}
 use Rattle.tsa_mean.specs.Operators.{converted_to, operate_on}

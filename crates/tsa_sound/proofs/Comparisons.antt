@@ -8,7 +8,8 @@ use Rattle.tsa_tree.specs.declared.expr.UnaryOp.TheVariants as prefix
 use Rattle.tsa_place_model.specs.Calls.{Layout}
 use Rattle.tsa_core.specs.Kinds.{Setting}
 use Rattle.tsa_core.specs.Terms.{Term, variable, answer, prefixed, joined}
-use Rattle.tsa_rules.specs.Conditions.{Condition, Subject, the_call, the_local, answer_beside, answer_by, beside, comparison, condition, condition_in, either, itself, subject_in}
+use Rattle.tsa_rules.specs.Conditions.{Condition, Subject, the_call, the_local, answer_beside, answer_by, beside, comparison, condition}
+use Rattle.tsa_rules.specs.Conditions.{condition_in, either, itself, subject_in}
 use Rattle.tsa_rules.specs.Effects.{same_answer}
 use Rattle.tsa_path.specs.Values.{is_true, of_truth}
 use Rattle.tsa_mean.specs.Frames.{outcome_of}
@@ -17,7 +18,8 @@ use Rattle.tsa_mean.specs.Outs.{yields, bind}
 use Rattle.tsa_mean.specs.Working.{Locals, local_at, rvalue}
 use Rattle.tsa_sound.specs.PartlyWorked.{IsWorked}
 use Rattle.tsa_sound.specs.SettledStatuses.{answer_held}
-use Rattle.tsa_sound.proofs.Tests.{IsBeside, as_int, as_null, as_unsigned, beside_is, held_number, never_yields, none_is_some, number, same_some, same_yields}
+use Rattle.tsa_sound.proofs.Tests.{IsBeside, as_int, as_null, as_unsigned, beside_is, held_number, never_yields, none_is_some, number}
+use Rattle.tsa_sound.proofs.Tests.{same_some, same_yields}
 use Rattle.tsa_sound.proofs.Says.{bound}
 
 -- the outcome of a test, by the truth of its value

@@ -18,7 +18,8 @@ use Rattle.tsa_place_model.specs.Calls.{Layout}
 use Rattle.tsa_place_model.specs.Items as cell
 use Rattle.tsa_core.specs.Kinds.{Setting}
 use Rattle.tsa_core.specs.Meanings.{of_number}
-use Rattle.tsa_core.specs.Terms.{Term, constant, variable, answer, global, member, element, target, load, address, converted, prefixed, joined}
+use Rattle.tsa_core.specs.Terms.{Term, constant, variable, answer, global, member, element, target, load, address, converted, prefixed}
+use Rattle.tsa_core.specs.Terms.{joined}
 use Rattle.tsa_rules.specs.Conditions.{as_kind, constant_result, is_constant, is_number, number_in}
 use Rattle.tsa_path.specs.Values.{is_true, of_truth}
 use Rattle.tsa_mean.specs.Operators.{converted_to, joined_with, of_result, operate_on, prefix_on, truth_of}

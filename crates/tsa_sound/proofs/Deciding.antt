@@ -1,5 +1,6 @@
 -- A test of a try variable keeps what is settled.
-use Rattle.std.proofs.Common.{◌≡◌, ◌∙◌, ℕ, suc, ◌+◌, ◌<◌, nat_eq, nat_lt, Bool, true, false, not, List, [], ◌∷◌, length, Option, Some, None, slice_get, ◌⊎◌, inl, inr, if◌then◌else◌, refl, ap, sym, subst, arith, eqb-true, ltb-true}
+use Rattle.std.proofs.Common.{◌≡◌, ◌∙◌, ℕ, suc, ◌+◌, ◌<◌, nat_eq, nat_lt, Bool, true, false, not, List, [], ◌∷◌, length, Option, Some, None}
+use Rattle.std.proofs.Common.{slice_get, ◌⊎◌, inl, inr, if◌then◌else◌, refl, ap, sym, subst, arith, eqb-true, ltb-true}
 use Rattle.std.specs.List.{position_or_len}
 use Rattle.std.specs.Prelude.{IsSome}
 use Rattle.tsa_tree.specs.declared.attr.AttrKind.{AttrKind}

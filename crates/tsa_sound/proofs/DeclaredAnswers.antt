@@ -1,5 +1,6 @@
 -- A call is answered into a local that is declared: what is tried is settled by what that holds.
-use Rattle.std.proofs.Common.{◌≡◌, ◌∙◌, ℕ, zero, suc, ◌+◌, ◌<◌, ◌≤◌, Bool, true, false, ◌&&◌, List, [], ◌∷◌, length, Option, Some, None, ◌⊎◌, inl, inr, slice_get, refl, ap, sym, subst, arith}
+use Rattle.std.proofs.Common.{◌≡◌, ◌∙◌, ℕ, zero, suc, ◌+◌, ◌<◌, ◌≤◌, Bool, true, false, ◌&&◌, List, [], ◌∷◌, length, Option, Some, None}
+use Rattle.std.proofs.Common.{◌⊎◌, inl, inr, slice_get, refl, ap, sym, subst, arith}
 use Rattle.std.specs.Prelude.{All, Contains, IsSome, cond}
 use Rattle.tsa_base.specs.declared.value.Value.{Value}
 use Rattle.tsa_base.specs.declared.value.Value.TheVariants.{Int, Unsigned, Pointer}
@@ -23,7 +24,8 @@ use Rattle.tsa_rules.specs.declared.status.Status.{Status}
 use Rattle.tsa_rules.specs.declared.status.Status.TheVariants as status
 use Rattle.tsa_rules.specs.declared.status.Status.TheVariants.{Free, Lent, Pending}
 use Rattle.tsa_rules.specs.Attributes.{claim, claims, claims_path, is_reentrant, is_try, kind_of, local_kinds, names, tries_path, try_of}
-use Rattle.tsa_rules.specs.Effects.{after_attempt, after_call, after_claim, attempt_at, effect, exit_with, if_taken, is_success, left_by_try, taken_by}
+use Rattle.tsa_rules.specs.Effects.{after_attempt, after_call, after_claim, attempt_at, effect, exit_with, if_taken, is_success}
+use Rattle.tsa_rules.specs.Effects.{left_by_try, taken_by}
 use Rattle.tsa_rules.specs.Fails.{is_mentioned}
 use Rattle.tsa_rules.specs.Points.{attrs_at, function_at, is_a_try, local_begun, mentions, try_kept, try_number, try_variables}
 use Rattle.tsa_sched.specs.declared.event.Mode.{Mode}
@@ -36,7 +38,8 @@ use Rattle.tsa_mean.specs.States.{Frame, Holds}
 use Rattle.tsa_mean.specs.Working.{Locals, local_at, rvalue, with_answer, with_local}
 use Rattle.tsa_sound.specs.CallFacts.{CallFacts, Declares, IsAnswer, IsUnmentioned, TakesAnswer, UsesAnswer}
 use Rattle.tsa_sound.specs.Facts.{FunctionFacts, RightFits}
-use Rattle.tsa_sound.specs.FramesFit.{FrameFits, IsDecided, ProgramRows, function_of, owned_below, owned_by_caller, paths_of, setting_behind, stable_of, status_before}
+use Rattle.tsa_sound.specs.FramesFit.{FrameFits, IsDecided, ProgramRows, function_of, owned_below, owned_by_caller, paths_of}
+use Rattle.tsa_sound.specs.FramesFit.{setting_behind, stable_of, status_before}
 use Rattle.tsa_sound.specs.Invariant.{LowerFit, StackFits}
 use Rattle.tsa_sound.specs.LaidOut.{LaidOut}
 use Rattle.tsa_sound.specs.SettledStatuses.{answer_held, left_by, left_in, lock_in, lock_named, settled}

@@ -1,5 +1,6 @@
 -- The point that follows another is one to which an edge leads.
-use Rattle.std.proofs.Common.{◌≡◌, ℕ, ℤ, pos, negsuc, int_le, nat_eq, Bool, true, false, ◌&&◌, List, [], ◌∷◌, Some, None, option_map, find, refl, ap, subst, arith, eqb-true}
+use Rattle.std.proofs.Common.{◌≡◌, ℕ, ℤ, pos, negsuc, int_le, nat_eq, Bool, true, false, ◌&&◌, List, [], ◌∷◌, Some, None, option_map, find}
+use Rattle.std.proofs.Common.{refl, ap, subst, arith, eqb-true}
 use Rattle.std.proofs.lemmas.Bool.Decides.{nat_tests}
 use Rattle.std.specs.Prelude.{Contains, cond}
 use Rattle.tsa_core.specs.Control.{Edge, Outcome, Next, Yes, No, Rest, Chosen, edge, leaves_by, next_point, same_outcome}

@@ -1,5 +1,6 @@
 -- A call of a function with a body keeps the invariant, and so does one that finds no room for a frame more.
-use Rattle.std.proofs.Common.{◌≡◌, ℕ, ◌+◌, nat_lt, Bool, true, false, List, ◌∷◌, length, Option, Some, None, find, is_some, option_and_then, slice_get, if◌then◌else◌, refl, ap, sym, subst}
+use Rattle.std.proofs.Common.{◌≡◌, ℕ, ◌+◌, nat_lt, Bool, true, false, List, ◌∷◌, length, Option, Some, None, find, is_some, option_and_then}
+use Rattle.std.proofs.Common.{slice_get, if◌then◌else◌, refl, ap, sym, subst}
 use Rattle.std.specs.Prelude.{IsSome}
 use Rattle.tsa_base.specs.declared.value.Value.{Value}
 use Rattle.tsa_tree.specs.declared.attr.AttrKind.{AttrKind}

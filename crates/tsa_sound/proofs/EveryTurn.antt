@@ -2,7 +2,8 @@
 use Rattle.std.proofs.Common.{◌≡◌, Option, Some, None, refl}
 use Rattle.tsa_core.specs.Programs.{Program}
 use Rattle.tsa_sched.specs.declared.pick.Pick.{Pick}
-use Rattle.tsa_mean.specs.Acts.{Act, act_of, to_read, to_write, to_step, to_set, to_branch, to_choose, to_take, to_try, to_give, to_ask, to_enter, to_leave, to_trap}
+use Rattle.tsa_mean.specs.Acts.{Act, act_of, to_read, to_write, to_step, to_set, to_branch, to_choose, to_take, to_try, to_give, to_ask}
+use Rattle.tsa_mean.specs.Acts.{to_enter, to_leave, to_trap}
 use Rattle.tsa_mean.specs.Sound.{IsPick}
 use Rattle.tsa_mean.specs.States.{State, Thread, running, trapped, ended, thread_at}
 use Rattle.tsa_sound.specs.Facts.{ProgramFacts}

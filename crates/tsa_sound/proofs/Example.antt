@@ -1,5 +1,6 @@
 -- A unit that takes a lock meets all that the laws ask of a program.
-use Rattle.std.proofs.Common.{◌≡◌, ◌∙◌, ℕ, zero, suc, Bool, true, false, List, [], ◌∷◌, length, ◌^◌, Some, None, inl, option_and_then, slice_get, refl, ap, sym, subst, leb-true}
+use Rattle.std.proofs.Common.{◌≡◌, ◌∙◌, ℕ, zero, suc, Bool, true, false, List, [], ◌∷◌, length, ◌^◌, Some, None, inl, option_and_then}
+use Rattle.std.proofs.Common.{slice_get, refl, ap, sym, subst, leb-true}
 use Rattle.std.specs.Prelude.{All, IsSome}
 use Rattle.tsa_tree.specs.declared.attr.AttrKind.TheVariants as attr
 use Rattle.tsa_tree.specs.declared.kind.Kind.TheVariants as type
@@ -28,7 +29,8 @@ use Rattle.tsa_sound.specs.PartlyWorked.{guard_ways, target_way}
 use Rattle.tsa_sound.proofs.Sums.{first_in}
 use Rattle.tsa_path.specs.Laws.{IsSmall}
 use Rattle.tsa_sound.proofs.Constants.{differ}
-use Rattle.tsa_sound.proofs.ExampleForms.{OfCall, OfSet, assigns, for_call, for_set, goes_next, joins, no_assign, no_call, no_declaration, no_join, nothing_loaded}
+use Rattle.tsa_sound.proofs.ExampleForms.{OfCall, OfSet, assigns, for_call, for_set, goes_next, joins, no_assign, no_call, no_declaration}
+use Rattle.tsa_sound.proofs.ExampleForms.{no_join, nothing_loaded}
 use Rattle.tsa_sound.proofs.ExampleLayout.{laid_out}
 use Rattle.tsa_sound.proofs.Tests.{none_is_some, same_some}
 use Rattle.tsa_sound.proofs.ExampleCaller.{IsNamed, alone, has_path, no_body, none_claimed, one_named}

@@ -1,5 +1,6 @@
 -- A function that is handed a lock and gives it back meets all that the laws ask of it.
-use Rattle.std.proofs.Common.{◌≡◌, ◌∙◌, ℕ, zero, suc, Bool, true, false, List, [], ◌∷◌, length, ◌≤◌, ◌<◌, filter, if◌then◌else◌, Some, None, inl, option_and_then, slice_get, refl, ap, sym, subst, arith, eqb-true, nat_eq}
+use Rattle.std.proofs.Common.{◌≡◌, ◌∙◌, ℕ, zero, suc, Bool, true, false, List, [], ◌∷◌, length, ◌≤◌, ◌<◌, filter, if◌then◌else◌, Some, None}
+use Rattle.std.proofs.Common.{inl, option_and_then, slice_get, refl, ap, sym, subst, arith, eqb-true, nat_eq}
 use Rattle.std.specs.List.{list_any}
 use Rattle.std.specs.Prelude.{All, AllPairs, Contains, IsSome}
 use Rattle.tsa_place_model.specs.declared.path.PathStep.TheVariants.{Follow}
@@ -30,7 +31,8 @@ use Rattle.tsa_sound.proofs.Sums.{first_in}
 use Rattle.tsa_path.specs.Sameness.{same_way}
 use Rattle.tsa_rules.specs.Attributes.{claim_count, claims_path}
 use Rattle.tsa_sound.proofs.Constants.{differ}
-use Rattle.tsa_sound.proofs.ExampleForms.{OfCall, OfSet, assigns, for_call, for_set, goes_next, joins, no_assign, no_call, no_declaration, no_join, nothing_loaded}
+use Rattle.tsa_sound.proofs.ExampleForms.{OfCall, OfSet, assigns, for_call, for_set, goes_next, joins, no_assign, no_call, no_declaration}
+use Rattle.tsa_sound.proofs.ExampleForms.{no_join, nothing_loaded}
 use Rattle.tsa_sound.proofs.Tests.{none_is_some, same_some}
 
 -- the function, and its points

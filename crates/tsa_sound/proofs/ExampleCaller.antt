@@ -1,5 +1,6 @@
 -- A function that takes a lock and hands it over meets all that the laws ask of it.
-use Rattle.std.proofs.Common.{◌≡◌, ◌∙◌, ℕ, zero, suc, Bool, true, false, List, [], ◌∷◌, ◌≤◌, Some, None, inl, option_and_then, slice_get, refl, ap, sym, subst, arith}
+use Rattle.std.proofs.Common.{◌≡◌, ◌∙◌, ℕ, zero, suc, Bool, true, false, List, [], ◌∷◌, ◌≤◌, Some, None, inl, option_and_then, slice_get}
+use Rattle.std.proofs.Common.{refl, ap, sym, subst, arith}
 use Rattle.std.specs.List.{list_any}
 use Rattle.std.specs.Prelude.{All, AllPairs, Contains, IsSome}
 use Rattle.tsa_tree.specs.declared.attr.AttrKind.{AttrKind}
@@ -31,7 +32,8 @@ use Rattle.tsa_path.specs.Sameness.{same_way}
 use Rattle.tsa_rules.specs.Attributes.{claim_count, is_try}
 use Rattle.tsa_rules.specs.Conditions.{condition_at}
 use Rattle.tsa_sound.proofs.Constants.{differ}
-use Rattle.tsa_sound.proofs.ExampleForms.{OfCall, OfSet, assigns, for_call, for_set, goes_next, joins, no_assign, no_call, no_declaration, no_join, nothing_loaded}
+use Rattle.tsa_sound.proofs.ExampleForms.{OfCall, OfSet, assigns, for_call, for_set, goes_next, joins, no_assign, no_call, no_declaration}
+use Rattle.tsa_sound.proofs.ExampleForms.{no_join, nothing_loaded}
 use Rattle.tsa_sound.proofs.Tests.{none_is_some, same_some}
 
 -- the function, and its points

@@ -1,5 +1,6 @@
 -- A function that returns owns what its attributes say for the answer that it gives.
-use Rattle.std.proofs.Common.{◌≡◌, ◌∙◌, ℕ, zero, suc, pos, negsuc, Bool, true, false, List, [], ◌∷◌, Option, Some, None, option_and_then, refl, ap, sym, subst, arith}
+use Rattle.std.proofs.Common.{◌≡◌, ◌∙◌, ℕ, zero, suc, pos, negsuc, Bool, true, false, List, [], ◌∷◌, Option, Some, None, option_and_then}
+use Rattle.std.proofs.Common.{refl, ap, sym, subst, arith}
 use Rattle.std.specs.List.{list_any}
 use Rattle.std.specs.Prelude.{All, Contains, IsSome}
 use Rattle.tsa_base.specs.declared.value.Value.{Value}
@@ -37,7 +38,8 @@ use Rattle.tsa_mean.specs.States.{Frame, Holds}
 use Rattle.tsa_mean.specs.Working.{rvalue}
 use Rattle.tsa_sound.specs.BodyFacts.{GivesAnAnswer, IsScalar}
 use Rattle.tsa_sound.specs.Facts.{FunctionFacts, IsAmong, RightFits}
-use Rattle.tsa_sound.specs.FramesFit.{ProgramRows, WorkFits, function_of, owned, paths_of, setting_behind, settled_in, stable_of, status_before, status_by, status_now}
+use Rattle.tsa_sound.specs.FramesFit.{ProgramRows, WorkFits, function_of, owned, paths_of, setting_behind, settled_in, stable_of}
+use Rattle.tsa_sound.specs.FramesFit.{status_before, status_by, status_now}
 use Rattle.tsa_sound.specs.Invariant.{StackFits}
 use Rattle.tsa_sound.specs.LaidOut.{LaidOut}
 use Rattle.tsa_sound.specs.PartlyWorked.{IsWorked}

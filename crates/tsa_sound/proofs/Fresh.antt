@@ -7,7 +7,8 @@ use Rattle.tsa_core.specs.Control.{Outcome, Next}
 use Rattle.tsa_core.specs.Kinds.{Setting}
 use Rattle.tsa_core.specs.Meanings.{Call}
 use Rattle.tsa_core.specs.Programs.{Function, Program}
-use Rattle.tsa_core.specs.Terms.{Term, constant, variable, answer, global, member, element, target, load, address, converted, prefixed, joined}
+use Rattle.tsa_core.specs.Terms.{Term, constant, variable, answer, global, member, element, target, load, address, converted, prefixed}
+use Rattle.tsa_core.specs.Terms.{joined}
 use Rattle.tsa_rules.specs.declared.status.Status.{Status}
 use Rattle.tsa_rules.specs.Attributes.{all_as_called, claim}
 use Rattle.tsa_rules.specs.Conditions.{Condition, Subject, the_call, the_local, answer_by, condition_at}

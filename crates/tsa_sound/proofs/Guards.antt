@@ -1,5 +1,6 @@
 -- The guards of a place that is worked out are the locks to which the paths of its access lead.
-use Rattle.std.proofs.Common.{◌≡◌, ◌∙◌, ℕ, Bool, true, List, [], ◌∷◌, ◌++◌, Option, Some, None, option_map, option_and_then, slice_get, refl, ap, sym, subst}
+use Rattle.std.proofs.Common.{◌≡◌, ◌∙◌, ℕ, Bool, true, List, [], ◌∷◌, ◌++◌, Option, Some, None, option_map, option_and_then, slice_get}
+use Rattle.std.proofs.Common.{refl, ap, sym, subst}
 use Rattle.std.specs.Prelude.{All}
 use Rattle.tsa_base.specs.declared.value.Value.{Value}
 use Rattle.tsa_place_model.specs.declared.spot.Spot.{Spot}
@@ -13,11 +14,13 @@ use Rattle.tsa_place_model.specs.declared.path.PathStep.{PathStep}
 use Rattle.tsa_place_model.specs.declared.path.PathStep.TheVariants.{Field, Constant, Variable, Follow}
 use Rattle.tsa_place_model.specs.declared.path.Root.{Root}
 use Rattle.tsa_place_model.specs.declared.path.Root.TheVariants.{Global, Local, Owner}
-use Rattle.tsa_place_model.specs.Calls.{Layout, evaluated, global_place, guard_by, guards_by, guards_of, index_in, member_place, no_locals, part_guards, place_in, take_root, take_step, take_steps}
+use Rattle.tsa_place_model.specs.Calls.{Layout, evaluated, global_place, guard_by, guards_by, guards_of, index_in, member_place, no_locals}
+use Rattle.tsa_place_model.specs.Calls.{part_guards, place_in, take_root, take_step, take_steps}
 use Rattle.tsa_core.specs.Kinds.{Setting, member_thing, place_type, struct_in, value_kind, within}
 use Rattle.tsa_place_model.specs.Layouts.{Part, structure_at}
 use Rattle.tsa_place_model.specs.Stores.{is_value_of}
-use Rattle.tsa_core.specs.Terms.{Term, constant, variable, answer, global, member, element, target, load, address, converted, prefixed, joined}
+use Rattle.tsa_core.specs.Terms.{Term, constant, variable, answer, global, member, element, target, load, address, converted, prefixed}
+use Rattle.tsa_core.specs.Terms.{joined}
 use Rattle.tsa_core.specs.Uses.{guards_owned, owned_by}
 use Rattle.tsa_path.specs.Values.{at_index}
 use Rattle.tsa_sched.specs.declared.event.TrapKind.TheVariants as trap

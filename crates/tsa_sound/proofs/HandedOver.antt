@@ -1,5 +1,6 @@
 -- What a caller hands over are locks, and what it lends is held by it or by a frame below.
-use Rattle.std.proofs.Common.{◌≡◌, ◌∙◌, ℕ, zero, suc, ◌<◌, ◌≤◌, nat_le, Bool, true, false, ◌&&◌, List, [], ◌∷◌, length, map, filter, Option, Some, None, option_and_then, if◌then◌else◌, refl, ap, sym, subst, arith, leb-true}
+use Rattle.std.proofs.Common.{◌≡◌, ◌∙◌, ℕ, zero, suc, ◌<◌, ◌≤◌, nat_le, Bool, true, false, ◌&&◌, List, [], ◌∷◌, length, map, filter, Option}
+use Rattle.std.proofs.Common.{Some, None, option_and_then, if◌then◌else◌, refl, ap, sym, subst, arith, leb-true}
 use Rattle.std.specs.Prelude.{All, Contains, IsSome, cond}
 use Rattle.tsa_tree.specs.declared.attr.AttrKind.{AttrKind}
 use Rattle.tsa_tree.specs.declared.attr.AttrKind.TheVariants as attr
@@ -20,7 +21,8 @@ use Rattle.tsa_mean.specs.Acts.{point_of}
 use Rattle.tsa_mean.specs.States.{Frame}
 use Rattle.tsa_mean.proofs.Lists.{all_more, all_none}
 use Rattle.tsa_sound.specs.Facts.{FunctionFacts, IsAmong}
-use Rattle.tsa_sound.specs.FramesFit.{FrameFits, IsLentOf, ProgramRows, function_of, kept_back, owned_below, paths_of, settled_in, status_before, status_kept}
+use Rattle.tsa_sound.specs.FramesFit.{FrameFits, IsLentOf, ProgramRows, function_of, kept_back, owned_below, paths_of, settled_in}
+use Rattle.tsa_sound.specs.FramesFit.{status_before, status_kept}
 use Rattle.tsa_sound.specs.SettledStatuses.{hold, lock_in, lock_named, settled, units}
 use Rattle.tsa_sound.proofs.Constants.{both, differ}
 use Rattle.tsa_sound.proofs.HeldLocks.{hold_is, total_has}

@@ -1,5 +1,6 @@
 -- What a frame's statuses say of the holds of its thread.
-use Rattle.std.proofs.Common.{◌≡◌, ◌∙◌, ℕ, zero, suc, ◌+◌, ◌<◌, ◌≤◌, nat_le, Bool, true, List, [], ◌∷◌, length, Option, Some, None, slice_index_or, if◌then◌else◌, refl, ap, sym, arith, eq-eqb, leb-true}
+use Rattle.std.proofs.Common.{◌≡◌, ◌∙◌, ℕ, zero, suc, ◌+◌, ◌<◌, ◌≤◌, nat_le, Bool, true, List, [], ◌∷◌, length, Option, Some, None}
+use Rattle.std.proofs.Common.{slice_index_or, if◌then◌else◌, refl, ap, sym, arith, eq-eqb, leb-true}
 use Rattle.std.specs.Prelude.{Contains, IsSome}
 use Rattle.tsa_place_model.specs.Ways.{Way}
 use Rattle.tsa_core.specs.Control.{Next}
@@ -15,7 +16,8 @@ use Rattle.tsa_sched.specs.declared.event.Mode.TheVariants.{Exclusive, Shared}
 use Rattle.tsa_mean.specs.Returns.{if_lock}
 use Rattle.tsa_mean.specs.States.{Frame, Holds, Work, calling, working}
 use Rattle.tsa_sound.specs.Facts.{FunctionFacts}
-use Rattle.tsa_sound.specs.FramesFit.{IsLentOf, ProgramRows, function_of, owned_below, paths_of, settled_in, status_before, status_by, status_now}
+use Rattle.tsa_sound.specs.FramesFit.{IsLentOf, ProgramRows, function_of, owned_below, paths_of, settled_in, status_before, status_by}
+use Rattle.tsa_sound.specs.FramesFit.{status_now}
 use Rattle.tsa_sound.specs.Invariant.{StackFits}
 use Rattle.tsa_sound.specs.SettledStatuses.{hold, lock_in, settled, total, units}
 use Rattle.tsa_sound.proofs.Constants.{both}

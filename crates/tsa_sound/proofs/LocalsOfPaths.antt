@@ -1,5 +1,6 @@
 -- Where a path leads is told by the locals that it mentions.
-use Rattle.std.proofs.Common.{◌≡◌, ◌∙◌, ℕ, Bool, true, false, ◌||◌, List, [], ◌∷◌, Option, Some, None, option_map, option_and_then, if◌then◌else◌, refl, ap, eq-eqb}
+use Rattle.std.proofs.Common.{◌≡◌, ◌∙◌, ℕ, Bool, true, false, ◌||◌, List, [], ◌∷◌, Option, Some, None, option_map, option_and_then}
+use Rattle.std.proofs.Common.{if◌then◌else◌, refl, ap, eq-eqb}
 use Rattle.std.specs.List.{list_any}
 use Rattle.tsa_base.specs.declared.value.Value.{Value}
 use Rattle.tsa_base.proofs.Truths.{or_right}

@@ -1,5 +1,6 @@
 -- A call of a lock function: to which lock it leads, what its caller hands over, and what it has back.
-use Rattle.std.proofs.Common.{◌≡◌, ◌∙◌, ℕ, ◌+◌, ◌<◌, Bool, true, false, ◌&&◌, List, [], ◌∷◌, ◌++◌, length, map, Option, Some, None, ◌⊎◌, inl, inr, option_and_then, option_map, slice_get, if◌then◌else◌, refl, ap, sym, subst, arith}
+use Rattle.std.proofs.Common.{◌≡◌, ◌∙◌, ℕ, ◌+◌, ◌<◌, Bool, true, false, ◌&&◌, List, [], ◌∷◌, ◌++◌, length, map, Option, Some, None, ◌⊎◌}
+use Rattle.std.proofs.Common.{inl, inr, option_and_then, option_map, slice_get, if◌then◌else◌, refl, ap, sym, subst, arith}
 use Rattle.std.specs.Prelude.{All, Contains, IsSome, cond}
 use Rattle.tsa_base.specs.declared.value.Value.{Value}
 use Rattle.tsa_base.specs.declared.value.Value.TheVariants.{Int, Unsigned, Pointer}
@@ -37,7 +38,8 @@ use Rattle.tsa_mean.specs.Working.{Locals, rvalue, rvalues}
 use Rattle.tsa_mean.proofs.Lists.{all_first, all_more, all_none}
 use Rattle.tsa_sound.specs.CallFacts.{CallFacts}
 use Rattle.tsa_sound.specs.Facts.{FunctionFacts, IsAmong}
-use Rattle.tsa_sound.specs.FramesFit.{ArgsFit, FrameFits, ProgramRows, WorkFits, function_of, owned_below, owned_by_caller, paths_of, settled_in, setting_with, stable_of, status_before, status_by, status_now}
+use Rattle.tsa_sound.specs.FramesFit.{ArgsFit, FrameFits, ProgramRows, WorkFits, function_of, owned_below, owned_by_caller, paths_of}
+use Rattle.tsa_sound.specs.FramesFit.{settled_in, setting_with, stable_of, status_before, status_by, status_now}
 use Rattle.tsa_sound.specs.Invariant.{StackFits}
 use Rattle.tsa_sound.specs.LaidOut.{LaidOut}
 use Rattle.tsa_sound.specs.PartlyWorked.{AreWorked, IsWorked, PointsAlong}

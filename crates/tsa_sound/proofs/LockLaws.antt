@@ -20,9 +20,12 @@ use Rattle.tsa_sound.specs.FramesFit.{ProgramRows, owned_below, owned_by_caller}
 use Rattle.tsa_sound.specs.Invariant.{Invariant, StackFits}
 use Rattle.tsa_sound.specs.Laws.{GoesWell, IsGive, IsTake, IsTry, TakesTurn, TurnsGoWell}
 use Rattle.tsa_sound.specs.SettledStatuses.{units}
-use Rattle.tsa_sound.proofs.CallComes.{CallSource, IsOfCall, IsOutsideAct, LockCall, OutsideSource, called_by, of_same, on_a_lock, on_nothing, outside}
+use Rattle.tsa_sound.proofs.CallComes.{CallSource, IsOfCall, IsOutsideAct, LockCall, OutsideSource, called_by, of_same, on_a_lock}
+use Rattle.tsa_sound.proofs.CallComes.{on_nothing, outside}
 use Rattle.tsa_sound.proofs.IdleTurns.{waits_go_well}
-use Rattle.tsa_sound.proofs.LockActs.{GivesOne, IsGiving, IsTaking, IsTrying, can_be_given, give_back, give_is_not, gives_as, gives_held, gives_one, here_is, missed_back, mode_is, once_self, other_success, same_success, take_back, take_handed, take_is_not, takes_as, tries_as, try_back, try_handed, try_is_not}
+use Rattle.tsa_sound.proofs.LockActs.{GivesOne, IsGiving, IsTaking, IsTrying, can_be_given, give_back, give_is_not, gives_as, gives_held}
+use Rattle.tsa_sound.proofs.LockActs.{gives_one, here_is, missed_back, mode_is, once_self, other_success, same_success, take_back}
+use Rattle.tsa_sound.proofs.LockActs.{take_handed, take_is_not, takes_as, tries_as, try_back, try_handed, try_is_not}
 use Rattle.tsa_sound.proofs.LockCalls.{answered_here, calls, fits_here, lock_inside, owned_here, status_here}
 use Rattle.tsa_sound.proofs.LocksChange.{gave_holds, lock_turn, told_is, took_holds, tried_holds}
 use Rattle.tsa_sound.proofs.Sums.{no_hold}

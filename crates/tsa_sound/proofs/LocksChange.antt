@@ -1,5 +1,6 @@
 -- A lock that is taken, or given back: the holds of the thread whose turn it is, and the invariant.
-use Rattle.std.proofs.Common.{◌≡◌, ◌∙◌, ℕ, zero, suc, ◌+◌, ◌<◌, ◌≤◌, nat_eq, nat_lt, Bool, true, false, List, [], ◌∷◌, length, Some, slice_set, slice_index_or, if◌then◌else◌, refl, ap, sym, subst, arith, eqb-true, ltb-true}
+use Rattle.std.proofs.Common.{◌≡◌, ◌∙◌, ℕ, zero, suc, ◌+◌, ◌<◌, ◌≤◌, nat_eq, nat_lt, Bool, true, false, List, [], ◌∷◌, length, Some}
+use Rattle.std.proofs.Common.{slice_set, slice_index_or, if◌then◌else◌, refl, ap, sym, subst, arith, eqb-true, ltb-true}
 use Rattle.std.proofs.lemmas.Bool.Decides.{nat_tests}
 use Rattle.tsa_core.specs.Programs.{Program}
 use Rattle.tsa_locks.specs.Locks.{Lock, count_of, free, holds}

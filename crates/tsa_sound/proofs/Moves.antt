@@ -11,7 +11,8 @@ use Rattle.tsa_mean.specs.Frames.{frame_at}
 use Rattle.tsa_mean.specs.Returns.{attrs_of, lock_of}
 use Rattle.tsa_mean.specs.States.{Frame, Holds}
 use Rattle.tsa_mean.specs.Working.{Locals}
-use Rattle.tsa_sound.specs.FramesFit.{FrameFits, IsDecided, IsLentOf, LocalsFit, ProgramRows, function_of, owned, owned_below, paths_of, settled_in, status_now}
+use Rattle.tsa_sound.specs.FramesFit.{FrameFits, IsDecided, IsLentOf, LocalsFit, ProgramRows, function_of, owned, owned_below, paths_of}
+use Rattle.tsa_sound.specs.FramesFit.{settled_in, status_now}
 use Rattle.tsa_sound.specs.Invariant.{LowerFit, StackFits}
 use Rattle.tsa_sound.specs.SettledStatuses.{lock_in, lock_named, settled}
 use Rattle.tsa_sound.proofs.Fresh.{fresh_status, work_fits}
@@ -21,7 +22,8 @@ use Rattle.tsa_sound.proofs.Sums.{holds_same}
 pub free_is_not_lent : {A : Type 0} → Free ≡ Lent → A
 free_is_not_lent e = cc
 
--- What is to be known of a frame that goes to a point with some locals: it is listed, settled statuses stay, and what isn't free leads where it led.
+-- What is to be known of a frame that goes to a point with some locals: it is listed, settled statuses stay, and what isn't free leads
+-- where it led.
 pub record Goes (u : Program) (x : ProgramRows) (frame : Frame) (locals : Locals) (q : ℕ) : Type 0 where
   pub listed : (x.rows frame.function).has_point q ≡ true
   pub settles : (c : Way) → Contains (paths_of x frame) c

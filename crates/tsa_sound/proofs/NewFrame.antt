@@ -22,7 +22,8 @@ use Rattle.tsa_mean.specs.States.{Frame, Holds, calling}
 use Rattle.tsa_mean.specs.Working.{Locals, rvalues}
 use Rattle.tsa_sound.specs.BodyFacts.{SaysItsMode}
 use Rattle.tsa_sound.specs.Facts.{FunctionFacts}
-use Rattle.tsa_sound.specs.FramesFit.{FrameFits, IsLentOf, ProgramRows, function_of, handed_over, owned, owned_below, paths_of, settled_in, status_before, status_by, status_now}
+use Rattle.tsa_sound.specs.FramesFit.{FrameFits, IsLentOf, ProgramRows, function_of, handed_over, owned, owned_below, paths_of, settled_in}
+use Rattle.tsa_sound.specs.FramesFit.{status_before, status_by, status_now}
 use Rattle.tsa_sound.specs.Invariant.{StackFits}
 use Rattle.tsa_sound.specs.LaidOut.{LaidOut}
 use Rattle.tsa_sound.specs.SettledStatuses.{hold, holds_for, lock_in, lock_named, settled, total, units}

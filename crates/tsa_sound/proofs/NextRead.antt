@@ -5,13 +5,15 @@ use Rattle.tsa_base.specs.declared.value.Value.TheVariants.{Pointer}
 use Rattle.tsa_tree.specs.declared.expr.BinaryOp.{BinaryOp}
 use Rattle.tsa_place_model.specs.Calls.{global_place, index_in, member_place}
 use Rattle.tsa_core.specs.Kinds.{Setting, value_kind}
-use Rattle.tsa_core.specs.Terms.{Term, constant, variable, answer, global, member, element, target, load, address, converted, prefixed, joined}
+use Rattle.tsa_core.specs.Terms.{Term, constant, variable, answer, global, member, element, target, load, address, converted, prefixed}
+use Rattle.tsa_core.specs.Terms.{joined}
 use Rattle.tsa_path.specs.Values.{at_index, in_kind, pointed_place}
 use Rattle.tsa_sched.specs.declared.event.TrapKind.TheVariants as trap
 use Rattle.tsa_mean.specs.Operators.{converted_to, joined_with, prefix_on}
 use Rattle.tsa_mean.specs.Outs.{reads, yields, bind, or_trap}
 use Rattle.tsa_mean.specs.Working.{Locals, at_first, filled, filled_all, lvalue, rvalue, rvalues}
-use Rattle.tsa_mean.proofs.Filling.{ReadOf, join_read, no_trap, no_yield, or_trap_reads_none, prefix_reads_none, read_of, read_of_first, same_read}
+use Rattle.tsa_mean.proofs.Filling.{ReadOf, join_read, no_trap, no_yield, or_trap_reads_none, prefix_reads_none, read_of, read_of_first}
+use Rattle.tsa_mean.proofs.Filling.{same_read}
 use Rattle.tsa_sound.specs.PartlyWorked.{AreWorked, IsOfKind, IsWorked, PointsAlong, target_way}
 use Rattle.tsa_sound.specs.TermFacts.{AllLoad, Loads}
 

@@ -1,5 +1,6 @@
 -- Operators make numbers in range of numbers in range, of the kinds that are told.
-use Rattle.std.proofs.Common.{◌≡◌, ℕ, zero, suc, ◌-◌, ◌/◌, ◌%◌, ◌^◌, ◌<◌, ◌≤◌, ℤ, pos, negsuc, neg_ℤ, ◌+ℤ◌, ◌-ℤ◌, ◌*ℤ◌, int_div, int_rem, nat_lt, Bool, true, false, Option, Some, Result, Ok, Err, if◌then◌else◌, refl, sym, subst, arith}
+use Rattle.std.proofs.Common.{◌≡◌, ℕ, zero, suc, ◌-◌, ◌/◌, ◌%◌, ◌^◌, ◌<◌, ◌≤◌, ℤ, pos, negsuc, neg_ℤ, ◌+ℤ◌, ◌-ℤ◌, ◌*ℤ◌, int_div, int_rem}
+use Rattle.std.proofs.Common.{nat_lt, Bool, true, false, Option, Some, Result, Ok, Err, if◌then◌else◌, refl, sym, subst, arith}
 use Rattle.std.proofs.lemmas.Bool.Decides.{nat_tests}
 use Rattle.std.proofs.lemmas.Nat.{and_le_l, or_of_32, xor_of_32}
 use Rattle.tsa_tree.specs.declared.expr.BinaryOp.{BinaryOp}
@@ -12,7 +13,8 @@ use Rattle.tsa_tree.specs.declared.number.Number.{Number}
 use Rattle.tsa_tree.specs.declared.number.Number.TheVariants as numeral
 use Rattle.tsa_tree.specs.declared.number.Trap.{Trap}
 use Rattle.tsa_tree.specs.declared.number.Trap.TheVariants.{Overflow}
-use Rattle.tsa_tree.specs.types.Arithmetic.{divided, exactly, int_of, is_int, on_int, on_unsigned, operate, operate_prefix, truth, unsigned_of}
+use Rattle.tsa_tree.specs.types.Arithmetic.{divided, exactly, int_of, is_int, on_int, on_unsigned, operate, operate_prefix, truth}
+use Rattle.tsa_tree.specs.types.Arithmetic.{unsigned_of}
 use Rattle.tsa_core.specs.Kinds.{binary_kind, prefix_kind}
 use Rattle.tsa_core.proofs.IntRange.{int_opposite, int_pos, remainder_fits}
 use Rattle.tsa_sound.specs.Facts.{IsWhole}

@@ -1,17 +1,20 @@
 -- What stands at a place that is worked out has the type of its term, and pointers point to what is unguarded.
-use Rattle.std.proofs.Common.{◌≡◌, ◌∙◌, ℕ, nat_eq, Bool, true, false, not, ◌&&◌, ◌||◌, List, [], ◌∷◌, ◌++◌, map, Option, Some, None, option_map, option_and_then, slice_get, refl, ap, sym, subst, eqb-true, eq-eqb}
+use Rattle.std.proofs.Common.{◌≡◌, ◌∙◌, ℕ, nat_eq, Bool, true, false, not, ◌&&◌, ◌||◌, List, [], ◌∷◌, ◌++◌, map, Option, Some, None}
+use Rattle.std.proofs.Common.{option_map, option_and_then, slice_get, refl, ap, sym, subst, eqb-true, eq-eqb}
 use Rattle.tsa_base.specs.declared.value.Value.{Value}
 use Rattle.tsa_base.specs.declared.value.Value.TheVariants.{Int, Unsigned, Pointer}
 use Rattle.tsa_tree.specs.declared.kind.Kind.{Kind}
 use Rattle.tsa_tree.specs.declared.kind.Kind.TheVariants as type
 use Rattle.tsa_tree.specs.declared.kind.ThingType.{ThingType}
 use Rattle.tsa_place_model.specs.Calls.{Layout, global_place, index_in, is_addressable, is_structure, member_place, part_guards}
-use Rattle.tsa_core.specs.Kinds.{Setting, by_index, element_thing, member_thing, place_type, pointer_kind_to, struct_in, target_thing, value_kind, within}
+use Rattle.tsa_core.specs.Kinds.{Setting, by_index, element_thing, member_thing, place_type, pointer_kind_to, struct_in, target_thing}
+use Rattle.tsa_core.specs.Kinds.{value_kind, within}
 use Rattle.tsa_place_model.specs.Layouts.{Part, structure_at}
 use Rattle.tsa_place_model.specs.declared.place.Placed.{Placed}
 use Rattle.tsa_place_model.specs.Places.{has_some}
 use Rattle.tsa_place_model.specs.Stores.{is_of, is_value_of, may_point}
-use Rattle.tsa_core.specs.Terms.{Term, constant, variable, answer, global, member, element, target, load, address, converted, prefixed, joined}
+use Rattle.tsa_core.specs.Terms.{Term, constant, variable, answer, global, member, element, target, load, address, converted, prefixed}
+use Rattle.tsa_core.specs.Terms.{joined}
 use Rattle.tsa_core.specs.Uses.{guards_owned}
 use Rattle.tsa_path.specs.Values.{at_index, pointed_place}
 use Rattle.tsa_sched.specs.declared.event.TrapKind.TheVariants as trap

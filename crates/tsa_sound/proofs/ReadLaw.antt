@@ -31,7 +31,8 @@ use Rattle.tsa_mean.specs.Safe.{IsHeld}
 use Rattle.tsa_mean.specs.States.{Frame, Holds, State, Work, calling, working, running, holds_of, value_at}
 use Rattle.tsa_mean.specs.Working.{filled, filled_all, lvalue, rvalue, rvalues}
 use Rattle.tsa_sound.specs.Facts.{FunctionFacts, PointFacts, ReadsUnder}
-use Rattle.tsa_sound.specs.FramesFit.{OldFits, ArgsFit, FrameFits, IsWorkedLeft, settled_in, ProgramRows, SidesFit, WorkFits, function_of, owned_below, paths_of, setting_with, stable_of, status_before, status_by, status_now}
+use Rattle.tsa_sound.specs.FramesFit.{OldFits, ArgsFit, FrameFits, IsWorkedLeft, settled_in, ProgramRows, SidesFit, WorkFits, function_of}
+use Rattle.tsa_sound.specs.FramesFit.{owned_below, paths_of, setting_with, stable_of, status_before, status_by, status_now}
 use Rattle.tsa_sound.specs.Invariant.{LowerFit, StackFits}
 use Rattle.tsa_sound.specs.LaidOut.{LaidOut}
 use Rattle.tsa_sound.specs.Laws.{IsRead, TurnsGoWell}

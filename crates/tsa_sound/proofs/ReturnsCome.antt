@@ -1,5 +1,6 @@
 -- From which points returns come.
-use Rattle.std.proofs.Common.{◌≡◌, ℕ, Bool, true, false, List, Option, Some, None, find, is_some, option_and_then, slice_get, if◌then◌else◌, refl, sym, subst}
+use Rattle.std.proofs.Common.{◌≡◌, ℕ, Bool, true, false, List, Option, Some, None, find, is_some, option_and_then, slice_get, if◌then◌else◌}
+use Rattle.std.proofs.Common.{refl, sym, subst}
 use Rattle.tsa_base.specs.declared.value.Value.{Value}
 use Rattle.tsa_tree.specs.declared.attr.AttrKind.{AttrKind}
 use Rattle.tsa_tree.specs.declared.attr.AttrKind.TheVariants as attr
@@ -11,7 +12,9 @@ use Rattle.tsa_core.specs.Programs.{Attr, Function, Program}
 use Rattle.tsa_core.specs.Terms.{Term}
 use Rattle.tsa_rules.specs.Points.{function_at}
 use Rattle.tsa_path.specs.Values.{pointed_place}
-use Rattle.tsa_mean.specs.Acts.{Act, act_at, act_of, act_of_call, act_outside, args_act, changes_lock, finish, on_lock, on_pointed, on_value, place_act, point_of, set_act, unless_trap, write_act, to_ask, to_enter, to_leave, to_set, to_write}
+use Rattle.tsa_mean.specs.Acts.{Act, act_at, act_of, act_of_call, act_outside, args_act, changes_lock, finish, on_lock, on_pointed}
+use Rattle.tsa_mean.specs.Acts.{on_value, place_act, point_of, set_act, unless_trap, write_act, to_ask, to_enter, to_leave, to_set}
+use Rattle.tsa_mean.specs.Acts.{to_write}
 use Rattle.tsa_mean.specs.Outs.{Out, traps, reads, yields}
 use Rattle.tsa_mean.specs.States.{Frame, Work, calling, working}
 use Rattle.tsa_mean.specs.Working.{Locals, filled, lvalue, rvalue, rvalues}

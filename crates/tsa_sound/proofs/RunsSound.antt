@@ -8,7 +8,8 @@ use Rattle.tsa_core.specs.Programs.{Program}
 use Rattle.tsa_sched.specs.declared.event.Mode.TheVariants.{Exclusive}
 use Rattle.tsa_locks.proofs.Takings.{locks_are_taken_where_they_can_be}
 use Rattle.tsa_sched.specs.declared.pick.Pick.{Pick}
-use Rattle.tsa_mean.specs.Acts.{Act, act_of, to_read, to_write, to_step, to_set, to_branch, to_choose, to_take, to_try, to_give, to_ask, to_enter, to_leave, to_trap, touched_cell}
+use Rattle.tsa_mean.specs.Acts.{Act, act_of, to_read, to_write, to_step, to_set, to_branch, to_choose, to_take, to_try, to_give, to_ask}
+use Rattle.tsa_mean.specs.Acts.{to_enter, to_leave, to_trap, touched_cell}
 use Rattle.tsa_mean.specs.Laws.{IsSafeIn}
 use Rattle.tsa_mean.specs.Runs.{run, step}
 use Rattle.tsa_mean.specs.Safe.{IsHeld, IsHeldAlone, IsSafe}

@@ -1,5 +1,6 @@
 -- What is worked out is where its path leads.
-use Rattle.std.proofs.Common.{◌≡◌, ◌∙◌, ℕ, pos, negsuc, Bool, true, false, List, [], ◌∷◌, ◌++◌, Option, Some, None, Result, Ok, Err, option_map, option_and_then, if◌then◌else◌, refl, ap, sym, subst}
+use Rattle.std.proofs.Common.{◌≡◌, ◌∙◌, ℕ, pos, negsuc, Bool, true, false, List, [], ◌∷◌, ◌++◌, Option, Some, None, Result, Ok, Err}
+use Rattle.std.proofs.Common.{option_map, option_and_then, if◌then◌else◌, refl, ap, sym, subst}
 use Rattle.tsa_base.specs.declared.value.Value.{Value}
 use Rattle.tsa_base.specs.declared.value.Value.TheVariants.{Int, Unsigned, Pointer}
 use Rattle.tsa_tree.specs.declared.number.Number.{Number}
@@ -11,10 +12,12 @@ use Rattle.tsa_place_model.specs.declared.spot.Spot.TheVariants.{Place}
 use Rattle.tsa_place_model.specs.Ways.{Way, onward}
 use Rattle.tsa_place_model.specs.declared.path.PathStep.{PathStep}
 use Rattle.tsa_place_model.specs.declared.path.PathStep.TheVariants.{Field, Variable}
-use Rattle.tsa_place_model.specs.Calls.{Layout, element_place, global_place, index_in, member_place, pointee, take_root, take_step, take_steps}
+use Rattle.tsa_place_model.specs.Calls.{Layout, element_place, global_place, index_in, member_place, pointee, take_root, take_step}
+use Rattle.tsa_place_model.specs.Calls.{take_steps}
 use Rattle.tsa_core.specs.Kinds.{Setting}
 use Rattle.tsa_core.specs.Meanings.{of_number}
-use Rattle.tsa_core.specs.Terms.{Term, constant, variable, answer, global, member, element, target, load, address, converted, prefixed, joined}
+use Rattle.tsa_core.specs.Terms.{Term, constant, variable, answer, global, member, element, target, load, address, converted, prefixed}
+use Rattle.tsa_core.specs.Terms.{joined}
 use Rattle.tsa_rules.specs.Conditions.{constant_in, constant_result, is_constant}
 use Rattle.tsa_path.specs.Values.{at_index, pointed_place}
 use Rattle.tsa_sched.specs.declared.event.TrapKind.{TrapKind}
@@ -22,7 +25,8 @@ use Rattle.tsa_sched.specs.declared.event.TrapKind.TheVariants as trap
 use Rattle.tsa_mean.specs.Outs.{Out, traps, reads, yields, bind, or_trap}
 use Rattle.tsa_mean.specs.WorthLaws.{values}
 use Rattle.tsa_mean.specs.Working.{Locals, local_at, lvalue, rvalue}
-use Rattle.tsa_sound.specs.PartlyWorked.{IsWorked, PointsAlong, constant_step, further, index_by, index_step, local_way, place_way, target_way}
+use Rattle.tsa_sound.specs.PartlyWorked.{IsWorked, PointsAlong, constant_step, further, index_by, index_step, local_way, place_way}
+use Rattle.tsa_sound.specs.PartlyWorked.{target_way}
 use Rattle.tsa_sound.proofs.Constants.{Matches, constant_as_written, constants_match}
 use Rattle.tsa_sound.proofs.Tests.{never_yields, none_is_some, read_yields, same_some, same_yields}
 

@@ -1,5 +1,6 @@
 -- Locals that are set: paths that aren't free lead where they led, and what was tried stays known.
-use Rattle.std.proofs.Common.{◌≡◌, ◌∙◌, ℕ, ◌≤◌, nat_eq, Bool, true, false, List, length, Option, Some, None, slice_get, ◌⊎◌, inl, inr, refl, ap, sym, subst}
+use Rattle.std.proofs.Common.{◌≡◌, ◌∙◌, ℕ, ◌≤◌, nat_eq, Bool, true, false, List, length, Option, Some, None, slice_get, ◌⊎◌, inl, inr, refl}
+use Rattle.std.proofs.Common.{ap, sym, subst}
 use Rattle.std.specs.Prelude.{Contains}
 use Rattle.tsa_base.specs.declared.value.Value.{Value}
 use Rattle.tsa_tree.specs.declared.kind.Kind.{Kind}
@@ -27,7 +28,8 @@ use Rattle.tsa_mean.specs.Returns.{attrs_of, lock_of}
 use Rattle.tsa_mean.specs.States.{Frame, Holds, Work, working, running, holds_of}
 use Rattle.tsa_mean.specs.Working.{local_at, rvalue, with_local}
 use Rattle.tsa_sound.specs.Facts.{RightFits, FunctionFacts, IsUnmentioned, PointFacts, set_by}
-use Rattle.tsa_sound.specs.FramesFit.{ProgramRows, SidesFit, WorkFits, function_of, paths_of, setting_with, settled_in, stable_of, status_before, status_by, status_now}
+use Rattle.tsa_sound.specs.FramesFit.{ProgramRows, SidesFit, WorkFits, function_of, paths_of, setting_with, settled_in, stable_of}
+use Rattle.tsa_sound.specs.FramesFit.{status_before, status_by, status_now}
 use Rattle.tsa_sound.specs.Invariant.{StackFits}
 use Rattle.tsa_sound.specs.LaidOut.{LaidOut}
 use Rattle.tsa_sound.specs.Laws.{IsSet, TurnsGoWell}

@@ -1,5 +1,6 @@
 -- What a call takes along of one path, and what it leaves: the tables of statuses, as holds.
-use Rattle.std.proofs.Common.{◌≡◌, ◌∙◌, ℕ, ◌+◌, ◌-◌, ◌<◌, min, nat_le, nat_lt, Bool, true, false, Option, Some, None, ◌⊎◌, inl, inr, if◌then◌else◌, refl, ap, sym, subst, arith}
+use Rattle.std.proofs.Common.{◌≡◌, ◌∙◌, ℕ, ◌+◌, ◌-◌, ◌<◌, min, nat_le, nat_lt, Bool, true, false, Option, Some, None, ◌⊎◌, inl, inr}
+use Rattle.std.proofs.Common.{if◌then◌else◌, refl, ap, sym, subst, arith}
 use Rattle.std.proofs.lemmas.Bool.Decides.{nat_tests}
 use Rattle.tsa_tree.specs.declared.attr.AttrKind.{AttrKind}
 use Rattle.tsa_tree.specs.declared.attr.AttrKind.TheVariants as attr

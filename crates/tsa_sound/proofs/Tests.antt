@@ -1,5 +1,6 @@
 -- A test of a local that holds an answer goes by that answer.
-use Rattle.std.proofs.Common.{◌≡◌, ◌∙◌, ℕ, pos, negsuc, nat_eq, Bool, true, false, Option, Some, None, Result, Ok, Err, option_and_then, if◌then◌else◌, refl, ap, sym, subst, eqb-true}
+use Rattle.std.proofs.Common.{◌≡◌, ◌∙◌, ℕ, pos, negsuc, nat_eq, Bool, true, false, Option, Some, None, Result, Ok, Err, option_and_then}
+use Rattle.std.proofs.Common.{if◌then◌else◌, refl, ap, sym, subst, eqb-true}
 use Rattle.tsa_base.specs.declared.value.Value.{Value}
 use Rattle.tsa_base.specs.declared.value.Value.TheVariants.{Int, Unsigned, Pointer}
 use Rattle.tsa_tree.specs.declared.number.Number.{Number}

@@ -1,5 +1,6 @@
 -- A turn of one thread, and the invariant of all others.
-use Rattle.std.proofs.Common.{◌≡◌, ◌∙◌, ℕ, zero, suc, false, List, [], ◌∷◌, length, Option, Some, None, slice_get, slice_set, refl, ap, sym, subst}
+use Rattle.std.proofs.Common.{◌≡◌, ◌∙◌, ℕ, zero, suc, false, List, [], ◌∷◌, length, Option, Some, None, slice_get, slice_set, refl, ap, sym}
+use Rattle.std.proofs.Common.{subst}
 use Rattle.std.proofs.Math.Decide.{ℕ_discrete}
 use Rattle.tsa_core.specs.Programs.{Program}
 use Rattle.tsa_place_model.specs.Stores.{IsWellTyped}
@@ -56,8 +57,8 @@ pub safe_by_act : (u : Program) (s : State) (pick : Pick) (act : Act) (turn : Ta
 safe_by_act u s pick act turn safe =
     (turns_are_safe_by_their_acts u s pick).1 (subst (IsSafeIn u s pick.thread) (sym turn.runs) (subst (IsSafe u (holds_of s pick.thread) turn.frame) (sym turn.does) safe))
 
--- The state after a turn has the invariant, where store and consts are as they should be, the locks are as many, the other threads hold what they held, and the
--- one whose turn it is fits what it holds now.
+-- The state after a turn has the invariant, where store and consts are as they should be, the locks are as many, the other threads hold
+-- what they held, and the one whose turn it is fits what it holds now.
 pub turned : (u : Program) (x : ProgramRows) (s new : State) (pick : Pick) → (step u s pick).0 ≡ new → Invariant u x s
     → IsWellTyped u.layout (value_at new) → KeepsConst u.layout (value_at new) → length new.locks ≡ length s.locks
     → ((other : ℕ) → (other ≡ pick.thread → ⊥) → (lock : ℕ) (mode : Mode) → holds_of new other lock mode ≡ holds_of s other lock mode)

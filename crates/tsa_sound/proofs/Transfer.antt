@@ -1,5 +1,6 @@
 -- What a frame owns before a call and behind it: what it keeps as a caller, and what the attributes of the call stand for.
-use Rattle.std.proofs.Common.{◌≡◌, ◌∙◌, ℕ, ◌+◌, ◌≤◌, length, Bool, true, false, List, [], ◌∷◌, Option, Some, None, ◌⊎◌, inl, inr, refl, ap, sym, subst}
+use Rattle.std.proofs.Common.{◌≡◌, ◌∙◌, ℕ, ◌+◌, ◌≤◌, length, Bool, true, false, List, [], ◌∷◌, Option, Some, None, ◌⊎◌, inl, inr, refl, ap}
+use Rattle.std.proofs.Common.{sym, subst}
 use Rattle.std.specs.Prelude.{All, Contains, cond}
 use Rattle.tsa_tree.specs.declared.attr.AttrKind.{AttrKind}
 use Rattle.tsa_tree.specs.declared.attr.AttrKind.TheVariants as attr
@@ -10,9 +11,11 @@ use Rattle.tsa_rules.specs.declared.rule.Rule.{Rule}
 use Rattle.tsa_rules.specs.declared.rule.Rule.TheVariants.{TS03, TS04, TS06, TS07, TS08, TS11}
 use Rattle.tsa_rules.specs.declared.status.Status.{Status}
 use Rattle.tsa_rules.specs.declared.status.Status.TheVariants.{Free, Lent}
-use Rattle.tsa_rules.specs.Attributes.{all_as_called, as_called, claim, claim_count, claims, claims_path, is_reentrant, is_try, kind_of, names}
+use Rattle.tsa_rules.specs.Attributes.{all_as_called, as_called, claim, claim_count, claims, claims_path, is_reentrant, is_try, kind_of}
+use Rattle.tsa_rules.specs.Attributes.{names}
 use Rattle.tsa_rules.specs.Conditions.{condition_at}
-use Rattle.tsa_rules.specs.Effects.{after_attempt, after_claim, after_test, attempt_at, effect, entry_by, exit_by, exit_with, if_taken, is_success, is_taken_by, taken_by}
+use Rattle.tsa_rules.specs.Effects.{after_attempt, after_claim, after_test, attempt_at, effect, entry_by, exit_by, exit_with, if_taken}
+use Rattle.tsa_rules.specs.Effects.{is_success, is_taken_by, taken_by}
 use Rattle.tsa_rules.specs.Fits.{Fits, FitsAcquire, FitsMode, FitsRelease, FitsRequires, FitsRequiresShared}
 use Rattle.tsa_rules.specs.Points.{attrs_at, try_variables}
 use Rattle.tsa_rules.proofs.Fitting.{what_does_not_fail_fits}
@@ -28,7 +31,8 @@ use Rattle.tsa_sound.proofs.Claims.{holds_named, split_claimed, split_named, tot
 use Rattle.tsa_sound.proofs.Constants.{both, differ}
 use Rattle.tsa_sound.proofs.Deciding.{settled_is}
 use Rattle.tsa_sound.proofs.Sums.{first_in, hold_same, rest_in, total_same}
-use Rattle.tsa_sound.proofs.Tables.{FitsClaim, after_units, before_units, call_settled, claim_settled, fits_claim, handed, left_by_call, left_lent, left_some}
+use Rattle.tsa_sound.proofs.Tables.{FitsClaim, after_units, before_units, call_settled, claim_settled, fits_claim, handed, left_by_call}
+use Rattle.tsa_sound.proofs.Tables.{left_lent, left_some}
 
 pub all_at : {A : Type 0} (P : A → Type 0) (xs : List A) (a : A) → All P xs → Contains xs a → P a
 all_at P xs a all i = subst P i.2 (all i.0 a i.1)

@@ -1,5 +1,6 @@
 -- What is worked out has the kind that is told of its term.
-use Rattle.std.proofs.Common.{◌≡◌, ◌∙◌, ℕ, Bool, true, false, not, ◌&&◌, Option, Some, None, Result, Ok, Err, if◌then◌else◌, refl, ap, sym, subst}
+use Rattle.std.proofs.Common.{◌≡◌, ◌∙◌, ℕ, Bool, true, false, not, ◌&&◌, Option, Some, None, Result, Ok, Err, if◌then◌else◌, refl, ap, sym}
+use Rattle.std.proofs.Common.{subst}
 use Rattle.tsa_base.specs.declared.value.Value.{Value}
 use Rattle.tsa_base.specs.declared.value.Value.TheVariants.{Int, Unsigned, Pointer}
 use Rattle.tsa_tree.specs.declared.expr.BinaryOp.{BinaryOp}
@@ -16,10 +17,12 @@ use Rattle.tsa_tree.specs.types.Arithmetic.{operate, operate_prefix}
 use Rattle.tsa_tree.specs.types.Operands.{integer_kind}
 use Rattle.tsa_place_model.specs.Calls.{Layout}
 use Rattle.tsa_place_model.specs.Items as cell
-use Rattle.tsa_core.specs.Kinds.{Setting, binary_kind, conversion_kind, if_so, of_both, place_type, pointer_kind_to, prefix_kind, struct_in, value_kind}
+use Rattle.tsa_core.specs.Kinds.{Setting, binary_kind, conversion_kind, if_so, of_both, place_type, pointer_kind_to, prefix_kind, struct_in}
+use Rattle.tsa_core.specs.Kinds.{value_kind}
 use Rattle.tsa_core.specs.Meanings.{of_number}
 use Rattle.tsa_place_model.specs.Stores.{is_value_of}
-use Rattle.tsa_core.specs.Terms.{Term, constant, variable, answer, global, member, element, target, load, address, converted, prefixed, joined}
+use Rattle.tsa_core.specs.Terms.{Term, constant, variable, answer, global, member, element, target, load, address, converted, prefixed}
+use Rattle.tsa_core.specs.Terms.{joined}
 use Rattle.tsa_path.specs.Values.{in_kind, is_true, number_in, of_truth, on_pointers}
 use Rattle.tsa_sched.specs.declared.event.TrapKind.TheVariants as trap
 use Rattle.tsa_mean.specs.Operators.{as_number, converted_to, joined_with, of_result, operate_on, prefix_on, truth_of}

@@ -1,5 +1,6 @@
 -- Writes of cells: their guards are held alone, and the store stays well-typed.
-use Rattle.std.proofs.Common.{◌≡◌, ◌∙◌, ℕ, ◌<◌, nat_eq, Bool, true, false, not, ◌&&◌, ◌||◌, List, Option, Some, None, slice_get, refl, ap, sym, subst, eqb-true}
+use Rattle.std.proofs.Common.{◌≡◌, ◌∙◌, ℕ, ◌<◌, nat_eq, Bool, true, false, not, ◌&&◌, ◌||◌, List, Option, Some, None, slice_get, refl, ap}
+use Rattle.std.proofs.Common.{sym, subst, eqb-true}
 use Rattle.std.specs.Prelude.{All, Contains}
 use Rattle.tsa_base.specs.declared.value.Value.{Value}
 use Rattle.tsa_base.specs.declared.value.Value.TheVariants.{Int, Unsigned, Pointer}
@@ -36,7 +37,8 @@ use Rattle.tsa_mean.specs.States.{Frame, Holds, State, Work, working, running, h
 use Rattle.tsa_mean.specs.Working.{lvalue, rvalue}
 use Rattle.tsa_mean.proofs.Lists.{set_keeps}
 use Rattle.tsa_sound.specs.Facts.{RightFits, FunctionFacts, PointFacts, WritesUnder}
-use Rattle.tsa_sound.specs.FramesFit.{IsWorkedLeft, OldFits, ProgramRows, SidesFit, WorkFits, function_of, paths_of, setting_with, stable_of, status_before, status_by}
+use Rattle.tsa_sound.specs.FramesFit.{IsWorkedLeft, OldFits, ProgramRows, SidesFit, WorkFits, function_of, paths_of, setting_with}
+use Rattle.tsa_sound.specs.FramesFit.{stable_of, status_before, status_by}
 use Rattle.tsa_sound.specs.Invariant.{StackFits, ThreadFits}
 use Rattle.tsa_sound.specs.LaidOut.{LaidOut}
 use Rattle.tsa_sound.specs.Laws.{IsWrite, TurnsGoWell}

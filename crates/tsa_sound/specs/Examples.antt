@@ -1,5 +1,5 @@
--- Units that meet all that the laws ask of a program: one that takes a lock, writes what is under it, and gives the lock back; and one that hands the lock over to a
--- function that gives it back.
+-- Units that meet all that the laws ask of a program: one that takes a lock, writes what is under it, and gives the lock back; and one that
+-- hands the lock over to a function that gives it back.
 use Rattle.std.specs.Prelude.{ℕ, nat_eq, [], ◌∷◌, ◌++◌, codes, if◌then◌else◌}
 use Rattle.tsa_rules.specs.declared.status.Status.TheVariants.{Free, Exclusive}
 use Rattle.tsa_core.specs.Examples.{program}

@@ -3,7 +3,8 @@ use Rattle.std.specs.Prelude.{◌≡◌, ℕ, false, List, Option, Some, None, A
 use Rattle.tsa_core.specs.Programs.{Program}
 use Rattle.tsa_sched.specs.declared.event.EventKind.TheVariants as event
 use Rattle.tsa_sched.specs.declared.pick.Pick.{Pick}
-use Rattle.tsa_mean.specs.Acts.{Act, act_of, to_branch, to_read, to_set, to_write, to_step, to_choose, to_trap, to_take, to_try, to_give, to_ask, to_enter, to_leave}
+use Rattle.tsa_mean.specs.Acts.{Act, act_of, to_branch, to_read, to_set, to_write, to_step, to_choose, to_trap, to_take, to_try, to_give}
+use Rattle.tsa_mean.specs.Acts.{to_ask, to_enter, to_leave}
 use Rattle.tsa_mean.specs.Runs.{step}
 use Rattle.tsa_mean.specs.Sound.{IsPick, SoundRun, Start}
 use Rattle.tsa_mean.specs.States.{Frame, State, Thread, running, trapped, ended, thread_at}

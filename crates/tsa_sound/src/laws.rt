@@ -1,9 +1,11 @@
 //! The laws of turns.
 ghost use Rattle.tsa_sound.specs.Examples.{ACallMeetsTheFacts, ALockedWriteMeetsTheFacts};
-ghost use Rattle.tsa_sound.specs.Laws.{EnvironmentCallsGoWell, EveryTurnGoesWell, IsBranch, IsChoice, IsEnter, IsGive, IsLeave, IsRead, IsSet, IsStep, IsTake, IsTrap, IsTry, IsWrite, ProgramsAreSound, RunsAreSound, StartsHaveTheInvariant, ThreadsThatDoNotRunGoWell, TurnsGoWell, WaitsGoWell};
+ghost use Rattle.tsa_sound.specs.Laws.{EnvironmentCallsGoWell, EveryTurnGoesWell, IsBranch, IsChoice, IsEnter, IsGive, IsLeave, IsRead};
+ghost use Rattle.tsa_sound.specs.Laws.{IsSet, IsStep, IsTake, IsTrap, IsTry, IsWrite, ProgramsAreSound, RunsAreSound};
+ghost use Rattle.tsa_sound.specs.Laws.{StartsHaveTheInvariant, ThreadsThatDoNotRunGoWell, TurnsGoWell, WaitsGoWell};
 
-/// A turn of a thread that isn't there, has ended or has stopped for good keeps the invariant, and so does one that waits and one that traps; none of them is
-/// a violation.
+/// A turn of a thread that isn't there, has ended or has stopped for good keeps the invariant, and so does one that waits and one that
+/// traps; none of them is a violation.
 pub fn turns_that_change_nothing_go_well()
     ensures no_run { ThreadsThatDoNotRunGoWell }
     ensures waits { WaitsGoWell }
@@ -20,7 +22,8 @@ pub fn choices_go_well()
     ensures { TurnsGoWell IsChoice }
 {}
 
-/// A turn that goes by a test keeps the invariant, and is no violation: where the test looks at a try variable, the outcome tells the answer that it holds.
+/// A turn that goes by a test keeps the invariant, and is no violation: where the test looks at a try variable, the outcome tells the
+/// answer that it holds.
 pub fn branches_go_well()
     ensures { TurnsGoWell IsBranch }
 {}
@@ -55,7 +58,8 @@ pub fn tries_go_well()
     ensures { TurnsGoWell IsTry }
 {}
 
-/// A turn that gives a lock back keeps the invariant, and is no violation: its thread holds the lock, in the mode in which it gives it back.
+/// A turn that gives a lock back keeps the invariant, and is no violation: its thread holds the lock, in the mode in which it gives it
+/// back.
 pub fn givings_go_well()
     ensures { TurnsGoWell IsGive }
 {}
@@ -65,13 +69,14 @@ pub fn environment_calls_go_well()
     ensures { EnvironmentCallsGoWell }
 {}
 
-/// A turn that calls a function with a body keeps the invariant, and is no violation: what the caller hands over is what the function begins with. So does one
-/// that finds no room for a frame more.
+/// A turn that calls a function with a body keeps the invariant, and is no violation: what the caller hands over is what the function
+/// begins with. So does one that finds no room for a frame more.
 pub fn calls_go_well()
     ensures { TurnsGoWell IsEnter }
 {}
 
-/// A turn in which a function returns keeps the invariant, and is no violation: its holds are as it declares, and its caller goes on with them.
+/// A turn in which a function returns keeps the invariant, and is no violation: its holds are as it declares, and its caller goes on with
+/// them.
 pub fn returns_go_well()
     ensures { TurnsGoWell IsLeave }
 {}
@@ -96,7 +101,8 @@ pub fn programs_are_sound()
     ensures { ProgramsAreSound }
 {}
 
-/// A unit that takes a lock, writes what is under it and hands the lock over to a function that gives it back meets all that the laws of turns ask of a program.
+/// A unit that takes a lock, writes what is under it and hands the lock over to a function that gives it back meets all that the laws of
+/// turns ask of a program.
 pub fn a_call_meets_the_facts()
     ensures { ACallMeetsTheFacts }
 {}

@@ -16,7 +16,8 @@ pub fn units_keep_their_rows()
     ensures { UnitsKeepTheirRows }
 {}
 
-/// In a typed unit in the profile no path mentions a local that is assigned, no attribute one that is set, and a try variable is set at its own declaration alone.
+/// In a typed unit in the profile no path mentions a local that is assigned, no attribute one that is set, and a try variable is set at its
+/// own declaration alone.
 pub fn locals_are_set_apart()
     ensures { LocalsAreSetApart }
 {}

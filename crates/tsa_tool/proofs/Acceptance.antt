@@ -1,5 +1,6 @@
 -- A text that is answered by `accepted` is a unit in the profile that breaks no rule, and the other way.
-use Rattle.std.proofs.Common.{◌≡◌, ◌∙◌, ◌≤◌, arith, ℕ, Bool, true, false, List, length, Result, Ok, Err, ◌==◌, if◌then◌else◌, nat_lt, eqb-true, ltb-true, refl, sym, ap, subst}
+use Rattle.std.proofs.Common.{◌≡◌, ◌∙◌, ◌≤◌, arith, ℕ, Bool, true, false, List, length, Result, Ok, Err, ◌==◌, if◌then◌else◌, nat_lt}
+use Rattle.std.proofs.Common.{eqb-true, ltb-true, refl, sym, ap, subst}
 use Rattle.tsa_base.specs.declared.limits.TheConstants.{INPUT_LIMIT}
 use Rattle.tsa_tree.specs.units.Syntax.{UnitItem}
 use Rattle.tsa_expr.specs.declared.refusal.SyntaxCode.{SyntaxCode}
@@ -11,7 +12,8 @@ use Rattle.tsa_rules.specs.Warnings.{HasNoWarnings}
 use Rattle.tsa_warn.specs.WarningLines.{Warned}
 use Rattle.tsa_warn.proofs.Silence.{units_without_lines, units_without_warnings}
 use Rattle.tsa_tool.specs.Checks.{fit_in}
-use Rattle.tsa_tool.specs.Reports.{IsCheckOf, IsReportBy, OfUnit, Report, accepted, profile_status, refused_report, syntax_status, warned_report}
+use Rattle.tsa_tool.specs.Reports.{IsCheckOf, IsReportBy, OfUnit, Report, accepted, profile_status, refused_report, syntax_status}
+use Rattle.tsa_tool.specs.Reports.{warned_report}
 use Rattle.tsa_tool.specs.Units.{AcceptedUnitsBreakNoRule, IsAccepted, UnitsThatBreakNoRuleAreAccepted}
 use Rattle.tsa_tool.specs.declared.answer.Status.TheVariants.{Accepted, Warned as Warns}
 use Rattle.tsa_tool.specs.declared.check.Refusal.{Refusal}

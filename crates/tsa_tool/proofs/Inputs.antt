@@ -1,5 +1,6 @@
 -- What is written and taken where an input is read to its end, where it is too long, and where the words are refused.
-use Rattle.std.proofs.Common.{◌≡◌, ◌∙◌, ◌+◌, ◌≤◌, arith, ℕ, true, List, [], ◌++◌, length, take, Option, Some, None, Result, Ok, Err, nat_lt, refl, sym, ap, subst, append-nil}
+use Rattle.std.proofs.Common.{◌≡◌, ◌∙◌, ◌+◌, ◌≤◌, arith, ℕ, true, List, [], ◌++◌, length, take, Option, Some, None, Result, Ok, Err, nat_lt}
+use Rattle.std.proofs.Common.{refl, sym, ap, subst, append-nil}
 use Rattle.std.proofs.Math.Nat.{min_comm}
 use Rattle.std.proofs.lemmas.Bool.{le-ltb, lt-ltb}
 use Rattle.std.proofs.lemmas.List.{length-append, take_all, take_at, take_min}

@@ -1,5 +1,6 @@
 -- The unit of an input that `check` answers by 0 is sound.
-use Rattle.std.proofs.Common.{◌≡◌, ◌∙◌, ℕ, Bool, true, false, List, length, Option, Some, None, Result, Ok, Err, ◌==◌, if◌then◌else◌, nat_lt, refl, sym, ap, subst}
+use Rattle.std.proofs.Common.{◌≡◌, ◌∙◌, ℕ, Bool, true, false, List, length, Option, Some, None, Result, Ok, Err, ◌==◌, if◌then◌else◌}
+use Rattle.std.proofs.Common.{nat_lt, refl, sym, ap, subst}
 use Rattle.std.specs.Prelude.{IfOk}
 use Rattle.tsa_base.specs.declared.limits.TheConstants.{INPUT_LIMIT}
 use Rattle.tsa_tree.specs.units.Syntax.{UnitItem}
@@ -12,7 +13,8 @@ use Rattle.tsa_sound_accepted.specs.terms.Units.{IsInProfile}
 use Rattle.tsa_warn.specs.WarningLines.{Warned}
 use Rattle.tsa_sound_accepted.proofs.AcceptedUnits.{units_without_warnings_are_sound}
 use Rattle.tsa_tool.specs.Checks.{fit_in}
-use Rattle.tsa_tool.specs.Reports.{IsCheckOf, IsReport, IsReportBy, OfUnit, Report, accepted, profile_status, refused_report, status_number, syntax_status, warned_report}
+use Rattle.tsa_tool.specs.Reports.{IsCheckOf, IsReport, IsReportBy, OfUnit, Report, accepted, profile_status, refused_report, status_number}
+use Rattle.tsa_tool.specs.Reports.{syntax_status, warned_report}
 use Rattle.tsa_tool.specs.Runs.{Gives, OfInput, ReadsItsInput}
 use Rattle.tsa_tool.specs.Units.{AcceptedUnitsAreSound, IsAccepted, IsFit, SpellsSoundUnit}
 use Rattle.tsa_tool.specs.declared.answer.Status.{Status}

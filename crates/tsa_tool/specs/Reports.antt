@@ -1,5 +1,6 @@
 -- What is written for the words and the input, and the status.
-use Rattle.std.specs.Prelude.{◌≡◌, ℕ, Bool, true, false, ◌+◌, min, List, [], ◌∷◌, ◌++◌, length, Some, None, Ok, Err, codes, ◌==◌, if◌then◌else◌, nat_lt}
+use Rattle.std.specs.Prelude.{◌≡◌, ℕ, Bool, true, false, ◌+◌, min, List, [], ◌∷◌, ◌++◌, length, Some, None, Ok, Err, codes, ◌==◌}
+use Rattle.std.specs.Prelude.{if◌then◌else◌, nat_lt}
 use Rattle.std.specs.declared.option.Option.{Option}
 use Rattle.std.specs.declared.result.Result.{Result}
 use Rattle.tsa_base.specs.declared.limits.TheConstants.{INPUT_LIMIT}

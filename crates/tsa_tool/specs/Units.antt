@@ -46,7 +46,8 @@ AcceptedUnitsBreakNoRule = (text : List ℕ) (report : Report) → IsReport (Som
 abbrev pub UnitsThatBreakNoRuleAreAccepted : Type 0
 UnitsThatBreakNoRuleAreAccepted = (text : List ℕ) (report : Report) → length text ≤ INPUT_LIMIT → IsAccepted text → IsReport (Some Check) text report → report ≡ accepted
 
--- A text spells a unit that is fit, and sound: from any start, whoever takes the turns, no event breaks what guards and attributes say, and no two threads race.
+-- A text spells a unit that is fit, and sound: from any start, whoever takes the turns, no event breaks what guards and attributes say, and
+-- no two threads race.
 pub record SpellsSoundUnit (text : List ℕ) : Type 0 where
   pub items : List UnitItem
   pub fit : IsFit text items
@@ -56,8 +57,8 @@ pub record SpellsSoundUnit (text : List ℕ) : Type 0 where
 abbrev pub AcceptedUnitsAreSound : Type 0
 AcceptedUnitsAreSound = (text : List ℕ) (report : Report) → IsReport (Some Check) text report → report.status ≡ Accepted → SpellsSoundUnit text
 
--- Such a unit is judged, and another text is refused by what fails first: a byte, a token or a function, a node by its types, a declarator with too many
--- places, or a node by the profile.
+-- Such a unit is judged, and another text is refused by what fails first: a byte, a token or a function, a node by its types, a declarator
+-- with too many places, or a node by the profile.
 pub record TextsAreRefusedByWhatFailsFirst : Type 0 where
   pub fit : (text : List ℕ) (items : List UnitItem) → IsFit text items → fit_in text ≡ Ok items
   pub bad : (text : List ℕ) (byte : BadByte) → tokens_of text ≡ Err byte → fit_in text ≡ Err (Lex byte.code byte.byte)

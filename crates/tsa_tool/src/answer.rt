@@ -2,7 +2,9 @@
 ghost use Rattle.std.specs.Prelude.{◌≡◌, ◌≤◌, ◌∷◌, ◌++◌, [], codes, IfOk, OnOk, length};
 ghost use Rattle.tsa_base.specs.declared.limits.TheConstants.{INPUT_LIMIT};
 ghost use Rattle.tsa_tool.specs.Checks.{fit_in, tree_in};
-ghost use Rattle.tsa_tool.specs.Reports.{IsCheckOf, IsPrintOf, OfUnit, status_number, words_refused, too_long, accepted, warned_report, refused_report, lex_text, syntax_text, syntax_status, type_text, profile_text, profile_status, line};
+ghost use Rattle.tsa_tool.specs.Reports.{IsCheckOf, IsPrintOf, OfUnit, status_number, words_refused, too_long, accepted, warned_report};
+ghost use Rattle.tsa_tool.specs.Reports.{refused_report, lex_text, syntax_text, syntax_status, type_text, profile_text, profile_status};
+ghost use Rattle.tsa_tool.specs.Reports.{line};
 ghost use Rattle.tsa_tool.specs.Answer.{report_of};
 ghost use Rattle.tsa_warn.specs.OneBody.{warned_of};
 ghost use Rattle.tsa_tree.specs.units.Shapes.{HaveTheirPoints, item_shapes};

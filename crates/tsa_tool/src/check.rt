@@ -30,8 +30,8 @@ use tsa_types_expressions::TypeRefusal;
 use tsa_types::{Typed, type_check};
 use tsa_unit::parse;
 
-/// Why a unit is refused, with a line of its own: a byte that makes it no tokens, a token or a function that its syntax
-/// refuses, a node that its types refuse, a declarator at which there are too many places, or a node or a function that the profile refuses.
+/// Why a unit is refused, with a line of its own: a byte that makes it no tokens, a token or a function that its syntax refuses, a node
+/// that its types refuse, a declarator at which there are too many places, or a node or a function that the profile refuses.
 #[derive(Clone, Copy)]
 pub enum Refusal {
     Lex { code: LexCode, byte: u32 },
@@ -112,9 +112,11 @@ fn tree_of<'a>(
 ) -> Result<Parsed<'a>, ToolRefusal>
     requires bound { length bytes.now ≤ INPUT_LIMIT }
     requires text { AreOfText (lexemes tokens.now) }
-    ensures tree { IfOk result (λ parsed. placed bytes.now (lexemes tokens.now) (unit_of (lexemes tokens.now)) ≡ Ok (item_shapes parsed.unit.now.items.now)) }
+    ensures tree { IfOk result (λ parsed. placed bytes.now (lexemes tokens.now) (unit_of (lexemes tokens.now))
+        ≡ Ok (item_shapes parsed.unit.now.items.now)) }
     ensures points { IfOk result (λ parsed. HaveTheirPoints parsed.unit.now.items.now) }
-    ensures refused { (r : _) → IsErrOf result (ToolRefusal.Refused r) → placed bytes.now (lexemes tokens.now) (unit_of (lexemes tokens.now)) ≡ Err r }
+    ensures refused { (r : _) → IsErrOf result (ToolRefusal.Refused r)
+        → placed bytes.now (lexemes tokens.now) (unit_of (lexemes tokens.now)) ≡ Err r }
 {
     match parse(alloc, bump, tokens) {
         Ok(parsed) => Ok(parsed),
@@ -169,8 +171,10 @@ fn read_typed<'a>(alloc: Global, bump: &'a Bump, bytes: &[u8]) -> Result<Typed<'
 #[tactic(auto, using(crate::proofs::TypedLaws::places))]
 fn places_of(alloc: Global, typed: &Typed<'_>) -> Result<Places, ToolRefusal>
     ensures places { IfOk result (λ places. placed_in (item_shapes typed.now.unit.now.items.now) ≡ Ok places) }
-    ensures sized { IfOk result (λ places. or_too_many (item_shapes typed.now.unit.now.items.now) (placed_in (item_shapes typed.now.unit.now.items.now)) ≡ Ok (item_shapes typed.now.unit.now.items.now)) }
-    ensures refused { (r : _) → IsErrOf result (ToolRefusal.Refused r) → or_too_many (item_shapes typed.now.unit.now.items.now) (placed_in (item_shapes typed.now.unit.now.items.now)) ≡ Err r }
+    ensures sized { IfOk result (λ places. or_too_many (item_shapes typed.now.unit.now.items.now)
+        (placed_in (item_shapes typed.now.unit.now.items.now)) ≡ Ok (item_shapes typed.now.unit.now.items.now)) }
+    ensures refused { (r : _) → IsErrOf result (ToolRefusal.Refused r)
+        → or_too_many (item_shapes typed.now.unit.now.items.now) (placed_in (item_shapes typed.now.unit.now.items.now)) ≡ Err r }
 {
     match Places::new(alloc, typed.unit()) {
         Ok(places) => Ok(places),
@@ -186,8 +190,10 @@ fn places_of(alloc: Global, typed: &Typed<'_>) -> Result<Places, ToolRefusal>
 fn fit_of<'a>(alloc: Global, typed: Typed<'a>, places: &Places) -> Result<Fit<'a>, ToolRefusal>
     requires placed { placed_in (item_shapes typed.unit.now.items.now) ≡ Ok places.now }
     ensures tree { IfOk result (λ fit. fit.typed ≡ typed.entry) }
-    ensures fits { IfOk result (λ fit. or_misfit (item_shapes typed.entry.unit.now.items.now) (refusal_of_profile (item_shapes typed.entry.unit.now.items.now)) ≡ Ok (item_shapes typed.entry.unit.now.items.now)) }
-    ensures refused { (r : _) → IsErrOf result (ToolRefusal.Refused r) → or_misfit (item_shapes typed.entry.unit.now.items.now) (refusal_of_profile (item_shapes typed.entry.unit.now.items.now)) ≡ Err r }
+    ensures fits { IfOk result (λ fit. or_misfit (item_shapes typed.entry.unit.now.items.now)
+        (refusal_of_profile (item_shapes typed.entry.unit.now.items.now)) ≡ Ok (item_shapes typed.entry.unit.now.items.now)) }
+    ensures refused { (r : _) → IsErrOf result (ToolRefusal.Refused r)
+        → or_misfit (item_shapes typed.entry.unit.now.items.now) (refusal_of_profile (item_shapes typed.entry.unit.now.items.now)) ≡ Err r }
 {
     match fit(alloc, typed, places) {
         Ok(fit) => Ok(fit),
@@ -201,8 +207,8 @@ fn fit_of<'a>(alloc: Global, typed: Typed<'a>, places: &Places) -> Result<Fit<'a
     }
 }
 
-/// The unit of an input of at most `INPUT_LIMIT` bytes that has no more places than it may and is in the profile, in an arena, or the first refusal in
-/// the order of the stages.
+/// The unit of an input of at most `INPUT_LIMIT` bytes that has no more places than it may and is in the profile, in an arena, or the first
+/// refusal in the order of the stages.
 #[tactic(auto, unfolding(crate::specs::Checks::sized_in, crate::specs::Checks::fit_in))]
 pub fn read_ready<'a>(alloc: Global, bump: &'a Bump, bytes: &[u8]) -> Result<Ready<'a>, ToolRefusal>
     requires { length bytes.now ≤ INPUT_LIMIT }

@@ -54,7 +54,8 @@ fn write<O: Sink>(answer: &Answer, out: &mut O) -> Result<Status, Trouble>
 fn show_held<O: Sink>(alloc: Global, bytes: &[u8], out: &mut O) -> Result<Status, Trouble>
     requires { length bytes.now ≤ INPUT_LIMIT }
     ensures given { IfOk result (Gives (OfUnit bytes.now (IsHeldOf bytes.now) (fit_in bytes.now)) (O.taken out.old) (O.taken out.new)) }
-    ensures front { OnErr result (WritesFront (OfUnit bytes.now (IsHeldOf bytes.now) (fit_in bytes.now)) (O.taken out.old) (O.taken out.new)) }
+    ensures front { OnErr result (WritesFront (OfUnit bytes.now (IsHeldOf bytes.now) (fit_in bytes.now)) (O.taken out.old)
+        (O.taken out.new)) }
     ensures fault { IsErrOf result Trouble.SinkFailed → Rose (O.faults out.old) (O.faults out.new) }
     ensures source { IsErrOf result Trouble.SourceFailed → ⊥ }
 {
@@ -90,8 +91,8 @@ fn respond<O: Sink>(
     }
 }
 
-/// Reads what the command reads, and writes its answer, whose status is given. `SourceFailed` comes only for a command that reads, and where the
-/// source's count of faults rose.
+/// Reads what the command reads, and writes its answer, whose status is given. `SourceFailed` comes only for a command that reads, and
+/// where the source's count of faults rose.
 pub fn ask<I: Source, O: Sink>(
     alloc: Global,
     command: Option<Command>,
@@ -108,8 +109,10 @@ pub fn ask<I: Source, O: Sink>(
 
     // The sink failed, or there was no memory: a first part of the report was written.
     ensures fault { IsErrOf result Trouble.SinkFailed → Rose (O.faults out.old) (O.faults out.new) }
-    ensures front { IsErrOf result Trouble.SinkFailed → OfInput (I.left input.old) (λ bytes. WritesFront (IsReport command bytes) (O.taken out.old) (O.taken out.new)) }
-    ensures memory { IsErrOf result Trouble.NoMemory → OfInput (I.left input.old) (λ bytes. WritesFront (IsReport command bytes) (O.taken out.old) (O.taken out.new)) }
+    ensures front { IsErrOf result Trouble.SinkFailed
+        → OfInput (I.left input.old) (λ bytes. WritesFront (IsReport command bytes) (O.taken out.old) (O.taken out.new)) }
+    ensures memory { IsErrOf result Trouble.NoMemory
+        → OfInput (I.left input.old) (λ bytes. WritesFront (IsReport command bytes) (O.taken out.old) (O.taken out.new)) }
 {
     let Some(command) = command else {
         return write(&refuse_words(alloc)?, out);

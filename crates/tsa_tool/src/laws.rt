@@ -2,7 +2,8 @@
 ghost use Rattle.tsa_tool.specs.CheckExamples.{ChecksAreAsWritten};
 ghost use Rattle.tsa_tool.specs.PrintedAgain.{PrintedIsPrintedAgain};
 ghost use Rattle.tsa_tool.specs.Reports.{OneReportIsRight};
-ghost use Rattle.tsa_tool.specs.Units.{AcceptedUnitsAreSound, AcceptedUnitsBreakNoRule, TextsAreRefusedByWhatFailsFirst, UnitsThatBreakNoRuleAreAccepted};
+ghost use Rattle.tsa_tool.specs.Units.{AcceptedUnitsAreSound, AcceptedUnitsBreakNoRule, TextsAreRefusedByWhatFailsFirst};
+ghost use Rattle.tsa_tool.specs.Units.{UnitsThatBreakNoRuleAreAccepted};
 
 /// There is one report at most for each command and input.
 #[tactic(auto, using(crate::proofs::OneReport::one_report))]
@@ -10,8 +11,8 @@ pub fn one_report_is_right()
     ensures { OneReportIsRight }
 {}
 
-/// Where `check` answers `accepted`, the text is a unit of right types, in the profile and within the limits, of which no rule fails at any point of any
-/// function for any path, on any walk.
+/// Where `check` answers `accepted`, the text is a unit of right types, in the profile and within the limits, of which no rule fails at any
+/// point of any function for any path, on any walk.
 #[tactic(auto, using(crate::proofs::Acceptance::accepted_units))]
 pub fn accepted_units_break_no_rule()
     ensures { AcceptedUnitsBreakNoRule }

@@ -9,7 +9,8 @@ use Rattle.tsa_warn_text.specs.Orders.{IsToldBefore, texts_of}
 use Rattle.tsa_warn_text.specs.Ranks.{numbers_of}
 use Rattle.tsa_warn_text.proofs.Telling.{not_both_are_told_first}
 use Rattle.tsa_warn_bodies.specs.Bodies.{BodyText}
-use Rattle.tsa_tool_held.specs.Held.{Account, IsAccountHeld, IsBodyHeld, IsOrder, IsPathLine, IsPointText, IsSetAt, account, paths_in, set_line}
+use Rattle.tsa_tool_held.specs.Held.{Account, IsAccountHeld, IsBodyHeld, IsOrder, IsPathLine, IsPointText, IsSetAt, account, paths_in}
+use Rattle.tsa_tool_held.specs.Held.{set_line}
 use Rattle.tsa_tool_held.specs.Pieces.{Pieces}
 use Rattle.tsa_tool_held.proofs.Pieces.{one_text}
 use Rattle.tsa_warn.proofs.SortedOnce.{sorted_once}

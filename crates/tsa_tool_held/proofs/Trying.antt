@@ -1,5 +1,6 @@
 -- The names of try variables, point by point.
-use Rattle.std.proofs.Common.{◌≡◌, ◌∙◌, ◌+◌, ◌≤◌, ◌<◌, arith, ℕ, suc, List, ◌∷◌, ◌++◌, drop, length, map, slice_index_or, sym, ap, append_assoc, append-nil}
+use Rattle.std.proofs.Common.{◌≡◌, ◌∙◌, ◌+◌, ◌≤◌, ◌<◌, arith, ℕ, suc, List, ◌∷◌, ◌++◌, drop, length, map, slice_index_or, sym, ap}
+use Rattle.std.proofs.Common.{append_assoc, append-nil}
 use Rattle.std.proofs.Math.Seq.{drop-cons}
 use Rattle.std.proofs.lemmas.List.{drop_all}
 use Rattle.tsa_tree.specs.declared.stmt.Point.{Point}

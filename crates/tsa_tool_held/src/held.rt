@@ -24,8 +24,8 @@ use tsa_flow::UnitTables;
 use tsa_warn_text::{Held, push_held};
 use tsa_warn::{Ready, push_place};
 
-/// A body whose held sets are written: what is told of it, its paths in the order in which they are told, the names of its try variables, and where
-/// lines begin.
+/// A body whose held sets are written: what is told of it, its paths in the order in which they are told, the names of its try variables,
+/// and where lines begin.
 #[derive(Clone, Copy)]
 struct Page<'b, 's, 't, 'a> {
     body: &'b ToldBody<'a>,
@@ -146,8 +146,11 @@ fn write_bodies<'s, 'a, O: Sink>(
 ) -> Result<(), WriteRefusal>
     requires begun { course_of course.old ≡ course_outset (unit_of [] (item_shapes teller.now.pass.ground.items.now)) }
     requires points { HaveTheirPoints teller.now.pass.ground.items.now }
-    ensures all { OnOk result ((lines : List ℕ) × (IsHeld desk.entry.starts.now (item_shapes teller.now.pass.ground.items.now) lines × Appends (O.taken out.old) (O.taken out.new) lines)) }
-    ensures front { OnErr result ((lines : List ℕ) → IsHeld desk.entry.starts.now (item_shapes teller.now.pass.ground.items.now) lines → AppendsFront (O.taken out.old) (O.taken out.new) lines) }
+    ensures all { OnOk result ((lines : List ℕ)
+        × (IsHeld desk.entry.starts.now (item_shapes teller.now.pass.ground.items.now) lines
+        × Appends (O.taken out.old) (O.taken out.new) lines)) }
+    ensures front { OnErr result ((lines : List ℕ) → IsHeld desk.entry.starts.now (item_shapes teller.now.pass.ground.items.now) lines
+        → AppendsFront (O.taken out.old) (O.taken out.new) lines) }
     ensures fault { IsErrOf result WriteRefusal.SinkFailed → Rose (O.faults out.old) (O.faults out.new) }
     ensures later { O.faults out.old ≤ O.faults out.new }
 {
@@ -166,8 +169,11 @@ fn write_told<'s, O: Sink>(
     out: &mut O,
 ) -> Result<(), WriteRefusal>
     requires { HaveTheirPoints teller.now.pass.ground.items.now }
-    ensures all { OnOk result ((lines : List ℕ) × (IsHeld desk.entry.starts.now (item_shapes teller.now.pass.ground.items.now) lines × Appends (O.taken out.old) (O.taken out.new) lines)) }
-    ensures front { OnErr result ((lines : List ℕ) → IsHeld desk.entry.starts.now (item_shapes teller.now.pass.ground.items.now) lines → AppendsFront (O.taken out.old) (O.taken out.new) lines) }
+    ensures all { OnOk result ((lines : List ℕ)
+        × (IsHeld desk.entry.starts.now (item_shapes teller.now.pass.ground.items.now) lines
+        × Appends (O.taken out.old) (O.taken out.new) lines)) }
+    ensures front { OnErr result ((lines : List ℕ) → IsHeld desk.entry.starts.now (item_shapes teller.now.pass.ground.items.now) lines
+        → AppendsFront (O.taken out.old) (O.taken out.new) lines) }
     ensures fault { IsErrOf result WriteRefusal.SinkFailed → Rose (O.faults out.old) (O.faults out.new) }
     ensures later { O.faults out.old ≤ O.faults out.new }
 {
@@ -184,8 +190,11 @@ fn write_by<'s, 'a, O: Sink>(
 ) -> Result<(), WriteRefusal>
     requires same { fit.now.typed.unit.now.items ≡ tables.now.items }
     requires points { HaveTheirPoints fit.now.typed.unit.now.items.now }
-    ensures all { OnOk result ((lines : List ℕ) × (IsHeld desk.entry.starts.now (item_shapes fit.now.typed.unit.now.items.now) lines × Appends (O.taken out.old) (O.taken out.new) lines)) }
-    ensures front { OnErr result ((lines : List ℕ) → IsHeld desk.entry.starts.now (item_shapes fit.now.typed.unit.now.items.now) lines → AppendsFront (O.taken out.old) (O.taken out.new) lines) }
+    ensures all { OnOk result ((lines : List ℕ)
+        × (IsHeld desk.entry.starts.now (item_shapes fit.now.typed.unit.now.items.now) lines
+        × Appends (O.taken out.old) (O.taken out.new) lines)) }
+    ensures front { OnErr result ((lines : List ℕ) → IsHeld desk.entry.starts.now (item_shapes fit.now.typed.unit.now.items.now) lines
+        → AppendsFront (O.taken out.old) (O.taken out.new) lines) }
     ensures fault { IsErrOf result WriteRefusal.SinkFailed → Rose (O.faults out.old) (O.faults out.new) }
     ensures later { O.faults out.old ≤ O.faults out.new }
 {
@@ -204,8 +213,11 @@ fn write_of<'s, O: Sink>(
 ) -> Result<(), WriteRefusal>
     requires placed { placed_in (item_shapes fit.now.typed.unit.now.items.now) ≡ Ok places.now }
     requires points { HaveTheirPoints fit.now.typed.unit.now.items.now }
-    ensures all { OnOk result ((lines : List ℕ) × (IsHeld desk.entry.starts.now (item_shapes fit.now.typed.unit.now.items.now) lines × Appends (O.taken out.old) (O.taken out.new) lines)) }
-    ensures front { OnErr result ((lines : List ℕ) → IsHeld desk.entry.starts.now (item_shapes fit.now.typed.unit.now.items.now) lines → AppendsFront (O.taken out.old) (O.taken out.new) lines) }
+    ensures all { OnOk result ((lines : List ℕ)
+        × (IsHeld desk.entry.starts.now (item_shapes fit.now.typed.unit.now.items.now) lines
+        × Appends (O.taken out.old) (O.taken out.new) lines)) }
+    ensures front { OnErr result ((lines : List ℕ) → IsHeld desk.entry.starts.now (item_shapes fit.now.typed.unit.now.items.now) lines
+        → AppendsFront (O.taken out.old) (O.taken out.new) lines) }
     ensures fault { IsErrOf result WriteRefusal.SinkFailed → Rose (O.faults out.old) (O.faults out.new) }
     ensures later { O.faults out.old ≤ O.faults out.new }
 {
@@ -213,7 +225,8 @@ fn write_of<'s, O: Sink>(
     write_by(desk, fit, &tables, out)
 }
 
-/// Writes the lines of the held sets of a unit in the profile, body by body as they are worked out. After a refusal a first part of them is written.
+/// Writes the lines of the held sets of a unit in the profile, body by body as they are worked out. After a refusal a first part of them is
+/// written.
 pub fn write_held<O: Sink>(
     alloc: Global,
     ready: &Ready<'_>,
@@ -221,8 +234,11 @@ pub fn write_held<O: Sink>(
     out: &mut O,
 ) -> Result<(), WriteRefusal>
     requires { HaveTheirPoints ready.now.fit.typed.unit.now.items.now }
-    ensures all { OnOk result ((lines : List ℕ) × (IsHeld bytes.now (item_shapes ready.now.fit.typed.unit.now.items.now) lines × Appends (O.taken out.old) (O.taken out.new) lines)) }
-    ensures front { OnErr result ((lines : List ℕ) → IsHeld bytes.now (item_shapes ready.now.fit.typed.unit.now.items.now) lines → AppendsFront (O.taken out.old) (O.taken out.new) lines) }
+    ensures all { OnOk result ((lines : List ℕ)
+        × (IsHeld bytes.now (item_shapes ready.now.fit.typed.unit.now.items.now) lines × Appends (O.taken out.old) (O.taken out.new) lines))
+        }
+    ensures front { OnErr result ((lines : List ℕ) → IsHeld bytes.now (item_shapes ready.now.fit.typed.unit.now.items.now) lines
+        → AppendsFront (O.taken out.old) (O.taken out.new) lines) }
     ensures fault { IsErrOf result WriteRefusal.SinkFailed → Rose (O.faults out.old) (O.faults out.new) }
     ensures later { O.faults out.old ≤ O.faults out.new }
 {

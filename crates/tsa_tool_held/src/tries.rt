@@ -14,7 +14,8 @@ use tsa_tree::stmt::{Action, Point};
 
 /// Notes the name of a try variable where a point begins one.
 fn note_try<'a>(names: &mut Vec<&'a [u8]>, point: &Point<'a>, role: Role) -> Result<(), NoMemory>
-    ensures { OnOk result (map (λ name. name.now) names.new.items ≡ map (λ name. name.now) names.old.items ++ name_if_try role (point_shape point.now)) }
+    ensures { OnOk result (map (λ name. name.now) names.new.items ≡ map (λ name. name.now) names.old.items
+        ++ name_if_try role (point_shape point.now)) }
 {
     let Role::Declares(_) = role else {
         return Ok(());

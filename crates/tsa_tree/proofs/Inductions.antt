@@ -1,7 +1,9 @@
 -- What holds of every text that the parts of a grammar spell, or that begins them: what each row keeps.
 use Rattle.std.proofs.Common.{ℕ, ◌+◌, ◌≡◌, Bool, true, Option, Some, None}
 use Rattle.tsa_grammar.specs.Form.{Form, done, bar, token, part, limit, only, either}
-use Rattle.tsa_grammar.specs.Spelling.{Spells, by_rule, Goes, goes_done, goes_token, goes_part, goes_bar, goes_limit, goes_only, goes_left, goes_right, Begins, begins_rule, Starts, starts_here, starts_barred, starts_bar, starts_token, starts_in, starts_over, starts_limit, starts_only, starts_left, starts_right}
+use Rattle.tsa_grammar.specs.Spelling.{Spells, by_rule, Goes, goes_done, goes_token, goes_part, goes_bar, goes_limit, goes_only, goes_left}
+use Rattle.tsa_grammar.specs.Spelling.{goes_right, Begins, begins_rule, Starts, starts_here, starts_barred, starts_bar, starts_token}
+use Rattle.tsa_grammar.specs.Spelling.{starts_in, starts_over, starts_limit, starts_only, starts_left, starts_right}
 
 -- Needs says what holds of the place where a part is asked for, Means what a part's text is, and Begun what begins one.
 module _ {S : Type 0} {C N : S → Type 0} {K : Type 0}

@@ -1,5 +1,6 @@
 -- What is known of the token where a part begins, and of the token after a part.
-use Rattle.std.proofs.Common.{ℕ, suc, ◌+◌, ◌-◌, ◌<◌, ◌≡◌, ◌∙◌, ap, sym, subst, refl, Bool, true, false, ◌&&◌, ◌||◌, Option, Some, None, List, [], ◌∷◌, length, slice_get, arith, inl, inr, nat_eq, nat_le}
+use Rattle.std.proofs.Common.{ℕ, suc, ◌+◌, ◌-◌, ◌<◌, ◌≡◌, ◌∙◌, ap, sym, subst, refl, Bool, true, false, ◌&&◌, ◌||◌, Option, Some, None}
+use Rattle.std.proofs.Common.{List, [], ◌∷◌, length, slice_get, arith, inl, inr, nat_eq, nat_le}
 use Rattle.std.proofs.lemmas.Bool.{cases_lt, eqb-true}
 use Rattle.std.proofs.lemmas.Option.{slice_get_past}
 use Rattle.tsa_base.specs.Tokens.{Lexeme}
@@ -8,12 +9,19 @@ use Rattle.tsa_tree.specs.declared.sign.Keyword.TheVariants as key
 use Rattle.tsa_tree.specs.declared.sign.Sign.{Sign}
 use Rattle.tsa_tree.specs.declared.sign.Sign.TheVariants as sign
 use Rattle.tsa_tree.specs.expressions.Syntax.{Expression, number, null, named, call, unary, binary, field, index}
-use Rattle.tsa_tree.specs.tokens.Signs.{Aliases, sign_in, sign_at, is_word_at, identifier_in, identifier_at, is_word, kind_in, is_plain_sign, is_tag, is_storage, is_star, assigns, operator, level}
+use Rattle.tsa_tree.specs.tokens.Signs.{Aliases, sign_in, sign_at, is_word_at, identifier_in, identifier_at, is_word, kind_in}
+use Rattle.tsa_tree.specs.tokens.Signs.{is_plain_sign, is_tag, is_storage, is_star, assigns, operator, level}
 pub use Rattle.tsa_tree.specs.tokens.Signs.{begins_type, begins_operand, begins_statement, is_prefix}
 use Rattle.tsa_tree.specs.attributes.Syntax.{try_value}
 use Rattle.tsa_tree.specs.declarations.Syntax.{Initialiser, value, list, Declaration}
 use Rattle.tsa_tree.specs.statements.Syntax.{Ending, by_expression, by_operand, by_step, Statement, ends_short}
-use Rattle.tsa_tree.specs.Rows.{Sort, Node, Call, expression, operation, operand, postfix, series, attributes, group, entries, balanced, consts, storage, specifier, declarator, initialiser, initialisers, declared_rest, declarators, member_line, members, variable, variables, locals, parameter_list, parameters, signature, head, struct_body, constants, enum_body, declared, item, items, simple, for_init, statement, statements, rank, mark, Kind, kind, a_word, a_result, a_plain, a_keyword, a_tag, a_storage_word, a_star, an_assignment, is_assignment, nothing, a_name, an_open, an_open_bracket, an_open_brace, an_equals, a_comma, is_keyword, is_given, sees, is_postfix, is_attribute_sign, is_past, Row}
+use Rattle.tsa_tree.specs.Rows.{Sort, Node, Call, expression, operation, operand, postfix, series, attributes, group, entries, balanced}
+use Rattle.tsa_tree.specs.Rows.{consts, storage, specifier, declarator, initialiser, initialisers, declared_rest, declarators, member_line}
+use Rattle.tsa_tree.specs.Rows.{members, variable, variables, locals, parameter_list, parameters, signature, head, struct_body, constants}
+use Rattle.tsa_tree.specs.Rows.{enum_body, declared, item, items, simple, for_init, statement, statements, rank, mark, Kind, kind, a_word}
+use Rattle.tsa_tree.specs.Rows.{a_result, a_plain, a_keyword, a_tag, a_storage_word, a_star, an_assignment, is_assignment, nothing, a_name}
+use Rattle.tsa_tree.specs.Rows.{an_open, an_open_bracket, an_open_brace, an_equals, a_comma, is_keyword, is_given, sees, is_postfix}
+use Rattle.tsa_tree.specs.Rows.{is_attribute_sign, is_past, Row}
 use Rattle.tsa_grammar.proofs.Good as g
 use Rattle.tsa_tree.proofs.tokens.Facts.{is_plain, plain_no_postfix, plain_no_operator, plain_no_open}
 

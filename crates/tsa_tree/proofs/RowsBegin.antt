@@ -7,7 +7,11 @@ use Rattle.tsa_tree.specs.declared.sign.Sign.{Sign}
 use Rattle.tsa_tree.specs.declared.sign.Sign.TheVariants as sign
 use Rattle.tsa_tree.specs.expressions.Syntax.{Expression}
 use Rattle.tsa_tree.specs.tokens.Signs.{Aliases, sign_at, operator, prefix_of, entry_meaning}
-use Rattle.tsa_tree.specs.Rows.{Sort, an_expression, Call, expression, operation, operand, postfix, series, attributes, group, entries, consts, storage, specifier, declarator, initialiser, initialisers, declared_rest, declarators, member_line, variable, variables, locals, parameter_list, signature, struct_body, constants, enum_body, declared, item, items, simple, statement, statements, Kind, an_operator, is_postfix, operation_row, postfix_row, prefix_row, operand_row, rule}
+use Rattle.tsa_tree.specs.Rows.{Sort, an_expression, Call, expression, operation, operand, postfix, series, attributes, group, entries}
+use Rattle.tsa_tree.specs.Rows.{consts, storage, specifier, declarator, initialiser, initialisers, declared_rest, declarators, member_line}
+use Rattle.tsa_tree.specs.Rows.{variable, variables, locals, parameter_list, signature, struct_body, constants, enum_body, declared, item}
+use Rattle.tsa_tree.specs.Rows.{items, simple, statement, statements, Kind, an_operator, is_postfix, operation_row, postfix_row, prefix_row}
+use Rattle.tsa_tree.specs.Rows.{operand_row, rule}
 use Rattle.tsa_tree.proofs.RowFacts.{is_prefix, begins_operand, First, Start, never}
 use Rattle.tsa_tree.proofs.attributes.Meet.{first_group, first_entry}
 use Rattle.tsa_tree.proofs.declarations.Meet.{first_specifier, first_declarator, first_initialiser}

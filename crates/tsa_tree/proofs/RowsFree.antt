@@ -3,7 +3,9 @@ use Rattle.std.proofs.Common.{ℕ, refl, List, Bool, Option, None}
 use Rattle.tsa_base.specs.Tokens.{Lexeme}
 use Rattle.tsa_tree.specs.Rows.{Sort, Node, Call, sees, Row, rule}
 use Rattle.tsa_grammar.specs.Spelling as forms
-use Rattle.tsa_grammar.specs.Spelling.{by_rule, goes_done, goes_token, goes_part, goes_bar, goes_limit, goes_only, goes_left, goes_right, begins_rule, starts_here, starts_barred, starts_bar, starts_token, starts_in, starts_over, starts_limit, starts_only, starts_left, starts_right}
+use Rattle.tsa_grammar.specs.Spelling.{by_rule, goes_done, goes_token, goes_part, goes_bar, goes_limit, goes_only, goes_left, goes_right}
+use Rattle.tsa_grammar.specs.Spelling.{begins_rule, starts_here, starts_barred, starts_bar, starts_token, starts_in, starts_over}
+use Rattle.tsa_grammar.specs.Spelling.{starts_limit, starts_only, starts_left, starts_right}
 use Rattle.tsa_grammar.specs.Reading.{all}
 use Rattle.tsa_grammar.proofs.Exactly.{forget}
 

@@ -1,5 +1,6 @@
 -- The rows meet what their reader needs.
-use Rattle.std.proofs.Common.{ℕ, ◌+◌, ◌<◌, ◌≤◌, ◌≡◌, ◌∙◌, ap, sym, subst, refl, true, false, Option, Some, None, List, arith, ◌⊎◌, inl, inr, nat_eq, nat_le}
+use Rattle.std.proofs.Common.{ℕ, ◌+◌, ◌<◌, ◌≤◌, ◌≡◌, ◌∙◌, ap, sym, subst, refl, true, false, Option, Some, None, List, arith, ◌⊎◌, inl, inr}
+use Rattle.std.proofs.Common.{nat_eq, nat_le}
 use Rattle.std.proofs.lemmas.Bool.{leb-true, leb-false, le-leb, lt-leb}
 use Rattle.tsa_base.specs.Tokens.{Lexeme}
 use Rattle.tsa_tree.specs.declared.expr.UnaryOp.{UnaryOp}
@@ -7,14 +8,23 @@ use Rattle.tsa_tree.specs.declared.expr.BinaryOp.{BinaryOp}
 use Rattle.tsa_tree.specs.declared.sign.Sign.{Sign}
 use Rattle.tsa_tree.specs.declared.sign.Sign.TheVariants as sign
 use Rattle.tsa_tree.specs.expressions.Syntax.{Expression, number, null, named, call, binary, field, index, none}
-use Rattle.tsa_tree.specs.tokens.Signs.{Aliases, sign_at, span_at, span_over, identifier_at, value_at, unsigned_at, operator, prefix, prefix_of, level, entry_meaning}
-use Rattle.tsa_tree.specs.Rows.{Sort, an_expression, some_arguments, Call, expression, operation, operand, postfix, series, attributes, group, entries, balanced, consts, storage, specifier, declarator, initialiser, initialisers, declared_rest, declarators, member_line, members, variable, variables, locals, parameter_list, parameters, signature, head, struct_body, constants, enum_body, declared, item, items, simple, for_init, statement, statements, rank, mark, Kind, a_name, an_open, a_close, a_comma, a_not, a_flip, an_operator, sees, is_postfix, tightest, climb_on, operation_row, post, postfix_row, prefix_row, call_row, operand_row, rule}
+use Rattle.tsa_tree.specs.tokens.Signs.{Aliases, sign_at, span_at, span_over, identifier_at, value_at, unsigned_at, operator, prefix}
+use Rattle.tsa_tree.specs.tokens.Signs.{prefix_of, level, entry_meaning}
+use Rattle.tsa_tree.specs.Rows.{Sort, an_expression, some_arguments, Call, expression, operation, operand, postfix, series, attributes}
+use Rattle.tsa_tree.specs.Rows.{group, entries, balanced, consts, storage, specifier, declarator, initialiser, initialisers, declared_rest}
+use Rattle.tsa_tree.specs.Rows.{declarators, member_line, members, variable, variables, locals, parameter_list, parameters, signature, head}
+use Rattle.tsa_tree.specs.Rows.{struct_body, constants, enum_body, declared, item, items, simple, for_init, statement, statements, rank}
+use Rattle.tsa_tree.specs.Rows.{mark, Kind, a_name, an_open, a_close, a_comma, a_not, a_flip, an_operator, sees, is_postfix, tightest}
+use Rattle.tsa_tree.specs.Rows.{climb_on, operation_row, post, postfix_row, prefix_row, call_row, operand_row, rule}
 use Rattle.tsa_grammar.specs.Form.{done}
-use Rattle.tsa_tree.proofs.tokens.Facts.{is_plain, operator_mark, operator_no_postfix, operator_no_open, postfix_no_open, close_plain, bracket_plain, comma_plain, plain_no_name, close_no_comma, level_low}
+use Rattle.tsa_tree.proofs.tokens.Facts.{is_plain, operator_mark, operator_no_postfix, operator_no_open, postfix_no_open, close_plain}
+use Rattle.tsa_tree.proofs.tokens.Facts.{bracket_plain, comma_plain, plain_no_name, close_no_comma, level_low}
 use Rattle.tsa_tree.proofs.RowFacts.{begins_no_close, lone, Ended, Loose, Ends, Next, Good, never, ended, no_callee, is_lone}
 use Rattle.tsa_tree.proofs.declarations.Meet.{good_consts, good_specifier, good_declarator, good_initialiser, good_initialisers}
-use Rattle.tsa_tree.proofs.declarations.DeclaratorsMeet.{good_rest, good_declarators, good_member_line, good_members, good_variable, good_variables, good_locals}
-use Rattle.tsa_tree.proofs.declarations.ItemsMeet.{good_storage, good_parameter_list, good_parameters, good_signature, good_head, good_struct_body, good_constants, good_enum_body, good_declared}
+use Rattle.tsa_tree.proofs.declarations.DeclaratorsMeet.{good_rest, good_declarators, good_member_line, good_members, good_variable}
+use Rattle.tsa_tree.proofs.declarations.DeclaratorsMeet.{good_variables, good_locals}
+use Rattle.tsa_tree.proofs.declarations.ItemsMeet.{good_storage, good_parameter_list, good_parameters, good_signature, good_head}
+use Rattle.tsa_tree.proofs.declarations.ItemsMeet.{good_struct_body, good_constants, good_enum_body, good_declared}
 use Rattle.tsa_tree.proofs.declarations.ItemRowsMeet.{good_item}
 use Rattle.tsa_tree.proofs.units.Meet.{good_items}
 use Rattle.tsa_tree.proofs.statements.Meet.{good_simple, good_statement}

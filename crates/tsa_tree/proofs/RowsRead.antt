@@ -7,12 +7,15 @@ use Rattle.tsa_tree.specs.declared.sign.Sign.{Sign}
 use Rattle.tsa_tree.specs.declared.sign.Sign.TheVariants as sign
 use Rattle.tsa_tree.specs.expressions.Syntax.{Expression}
 use Rattle.tsa_tree.specs.tokens.Signs.{Aliases, sign_at, operator, prefix, prefix_of}
-use Rattle.tsa_tree.specs.Rows.{Sort, an_expression, some_arguments, Node, Call, expression, operation, operand, postfix, series, rank, Kind, a_not, a_flip, an_operator, sees, Row, tightest, climb_on, operation_row, postfix_row, prefix_row, operand_row, rule}
+use Rattle.tsa_tree.specs.Rows.{Sort, an_expression, some_arguments, Node, Call, expression, operation, operand, postfix, series, rank}
+use Rattle.tsa_tree.specs.Rows.{Kind, a_not, a_flip, an_operator, sees, Row, tightest, climb_on, operation_row, postfix_row, prefix_row}
+use Rattle.tsa_tree.specs.Rows.{operand_row, rule}
 use Rattle.tsa_tree.specs.expressions.Answers.{below_limit}
 use Rattle.tsa_tree.specs.Reads.{read}
 use Rattle.tsa_grammar.specs.Form.{done, bar, token, part, limit, only, either}
 use Rattle.tsa_grammar.specs.Reading.{Code, syntax, deep, barred, refuse, Outcome, stop, follow, run, all}
-use Rattle.tsa_grammar.specs.Spelling.{Spells, Begins, begins_rule, Starts, starts_here, starts_barred, starts_bar, starts_token, starts_in, starts_over, starts_limit, starts_only, starts_left, starts_right}
+use Rattle.tsa_grammar.specs.Spelling.{Spells, Begins, begins_rule, Starts, starts_here, starts_barred, starts_bar, starts_token, starts_in}
+use Rattle.tsa_grammar.specs.Spelling.{starts_over, starts_limit, starts_only, starts_left, starts_right}
 use Rattle.tsa_grammar.specs.Exact.{Exact, ExactAt}
 use Rattle.tsa_grammar.proofs.Reach.{Reached, Far}
 use Rattle.tsa_grammar.proofs.Runs as runs

@@ -178,7 +178,8 @@ pub fn spans_lie_in_text()
     ensures { SpansLieInText }
 {}
 
-/// The nodes of a unit, each before its parts and all in the order of the text, have rising places, and so have the attributes of each struct.
+/// The nodes of a unit, each before its parts and all in the order of the text, have rising places, and so have the attributes of each
+/// struct.
 pub fn nodes_rise()
     ensures { NodesRise }
 {}

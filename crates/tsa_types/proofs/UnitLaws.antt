@@ -1,5 +1,6 @@
 -- Items one by one, and functions with their bodies.
-use Rattle.std.proofs.Common.{ℕ, ◌≡◌, ◌∙◌, ◌+◌, suc, Bool, true, false, List, [], ◌∷◌, drop, Option, Some, None, Err, Result, option_map, refl, sym, ap, subst}
+use Rattle.std.proofs.Common.{ℕ, ◌≡◌, ◌∙◌, ◌+◌, suc, Bool, true, false, List, [], ◌∷◌, drop, Option, Some, None, Err, Result, option_map}
+use Rattle.std.proofs.Common.{refl, sym, ap, subst}
 use Rattle.std.specs.Borrow.{Bor}
 use Rattle.std.specs.Prelude.{⊤, is_some}
 use Rattle.tsa_tree.specs.declared.item.FnTree.{FnTree}

@@ -3,7 +3,8 @@ ghost use Rattle.std.specs.Prelude.{◌≡◌, ◌&&◌, not, false, slice_get, 
 ghost use Rattle.tsa_types_expressions.specs.Judgements.{Judges};
 ghost use Rattle.tsa_tree.specs.declarations.Shapes.{param_shapes, head_shape};
 ghost use Rattle.tsa_tree.specs.types.DeclaredTypes.{resolve as spec_resolve, declared_premises};
-ghost use Rattle.tsa_tree.specs.types.Heads.{params_of, same_kind as spec_same_kind, agrees as spec_agrees, agree, differs as spec_differs, is_another as spec_is_another, behind_head};
+ghost use Rattle.tsa_tree.specs.types.Heads.{params_of, same_kind as spec_same_kind, agrees as spec_agrees, agree, differs as spec_differs};
+ghost use Rattle.tsa_tree.specs.types.Heads.{is_another as spec_is_another, behind_head};
 ghost use Rattle.tsa_tree.specs.types.Premises.{first};
 ghost use Rattle.tsa_tree.specs.types.Scopes.{found, is_taken};
 ghost use Rattle.tsa_tree.specs.types.Symbols.{meant_function as spec_meant_function, number_of};
@@ -71,7 +72,8 @@ fn same_params(view: View<'_, '_>, known: &[ThingType], params: &[Param<'_>]) ->
 
 /// Whether a head has other types than are known.
 fn retypes(view: View<'_, '_>, head: &FnTree<'_>, known: &FunctionTypes) -> bool
-    ensures { result ≡ not (spec_agrees known.now.result.kind (spec_resolve view.entry.scope.now (head_shape head.now).result) && agree view.entry.scope.now known.now.params (head_shape head.now).params) }
+    ensures { result ≡ not (spec_agrees known.now.result.kind (spec_resolve view.entry.scope.now (head_shape head.now).result)
+        && agree view.entry.scope.now known.now.params (head_shape head.now).params) }
 {
     let result = view.resolve(&head.result);
     !(agrees(known.result.kind, result) && same_params(view, &known.params, head.params))
@@ -93,7 +95,8 @@ fn differs(scope: &Scope<'_>, head: &FnTree<'_>, function: u32) -> bool
 
 /// Whether the name of a head is declared as something else.
 fn is_another(scope: &Scope<'_>, head: &FnTree<'_>) -> bool
-    ensures { result ≡ spec_is_another scope.now (head_shape head.now) (is_some head.now.body) (found scope.now.names head.now.name.text.now) }
+    ensures { result ≡ spec_is_another scope.now (head_shape head.now) (is_some head.now.body)
+        (found scope.now.names head.now.name.text.now) }
 {
     match scope.declared(head.name.text) {
         None => false,
@@ -124,7 +127,8 @@ fn add_function<'a>(
     head: &FnTree<'a>,
     gives: ThingType,
 ) -> Result<(), NoMemory>
-    ensures { OnOk result (is_taken head.now.name.text.now scope.old ≡ false → scope.new ≡ first_known scope.old (head_shape head.now) (is_some head.now.body) gives) }
+    ensures { OnOk result (is_taken head.now.name.text.now scope.old ≡ false
+        → scope.new ≡ first_known scope.old (head_shape head.now) (is_some head.now.body) gives) }
 {
     let number = scope.next_function()?;
     let params = params_types(scope, head.params)?;
@@ -142,7 +146,9 @@ fn add_function<'a>(
 
 /// The name of a function with its result: the function is known from its first declaration on.
 pub fn declare_function<'a>(scope: &mut Scope<'a>, head: &FnTree<'a>) -> Result<(), TypeRefusal>
-    ensures judged { Judges (first (declared_premises scope.old Declaring.Result (spec_is_another scope.old (head_shape head.now) (is_some head.now.body) (found scope.old.names head.now.name.text.now)) head.now.name.span (head_shape head.now).result)) result }
+    ensures judged { Judges (first (declared_premises scope.old Declaring.Result
+        (spec_is_another scope.old (head_shape head.now) (is_some head.now.body) (found scope.old.names head.now.name.text.now))
+        head.now.name.span (head_shape head.now).result)) result }
     ensures behind { OnOk result (scope.new ≡ behind_head scope.old (head_shape head.now) (is_some head.now.body)) }
 {
     let view = View { scope, function: 0 };

@@ -59,9 +59,11 @@ fn declare_param<'a>(
     local: LocalNumber,
     param: &Param<'a>,
 ) -> Result<(), TypeRefusal>
-    ensures judged { Judges (first (declared_premises scope.old Declaring.Thing (is_named_taken (param_shape param.now).name scope.old) param.now.span (param_shape param.now).ctype)) result }
+    ensures judged { Judges (first (declared_premises scope.old Declaring.Thing (is_named_taken (param_shape param.now).name scope.old)
+        param.now.span (param_shape param.now).ctype)) result }
     ensures behind { OnOk result (scope.new ≡ with_param local.number (param_shape param.now) scope.old) }
-    ensures names { OnOk result (symbols.new ≡ symbols.old ++ names_in_param scope.old local.function local.number (param_shape param.now)) }
+    ensures names { OnOk result (symbols.new ≡ symbols.old ++ names_in_param scope.old local.function local.number (param_shape param.now))
+        }
 {
     note_name(symbols, local, param.name)?;
     let view = View {
@@ -105,7 +107,8 @@ pub fn declare_head<'a>(
 ) -> Result<(), TypeRefusal>
     ensures judged { Judges (first (head_premises scope.old (head_shape head.now) (is_some head.now.body))) result }
     ensures behind { OnOk result (scope.new ≡ inside scope.old (head_shape head.now) (is_some head.now.body)) }
-    ensures names { OnOk result (symbols.new ≡ symbols.old ++ names_in_head scope.old function (head_shape head.now) (is_some head.now.body)) }
+    ensures names { OnOk result (symbols.new ≡ symbols.old
+        ++ names_in_head scope.old function (head_shape head.now) (is_some head.now.body)) }
 {
     declare_function(scope, head)?;
     symbols.note(head.name.span, Symbol::Function(function))?;

@@ -8,7 +8,8 @@ ghost use Rattle.tsa_tree.specs.types.Heads.{behind_head};
 ghost use Rattle.tsa_tree.specs.types.Premises.{first};
 ghost use Rattle.tsa_tree.specs.types.Statements.{statements_premises, behind_all};
 ghost use Rattle.tsa_tree.specs.types.Symbols.{names_in_statements, names_in_item};
-ghost use Rattle.tsa_tree.specs.types.Units.{outermost, item_premises, behind_item, items_premises, names_in_unit_items, names_in_unit, refusal_of_types};
+ghost use Rattle.tsa_tree.specs.types.Units.{outermost, item_premises, behind_item, items_premises, names_in_unit_items, names_in_unit};
+ghost use Rattle.tsa_tree.specs.types.Units.{refusal_of_types};
 ghost use Rattle.tsa_tree.specs.units.Shapes.{function_shape, item_shape, item_shapes};
 
 use crate::functions::function_number;
@@ -31,9 +32,11 @@ fn body_statements<'a>(
     gives: ThingType,
     body: &[Stmt<'a>],
 ) -> Result<(), TypeRefusal>
-    ensures judged { Judges (first (statements_premises (outermost function gives (stmt_shapes body.now)) walk.old.scope (stmt_shapes body.now))) result }
+    ensures judged { Judges (first (statements_premises (outermost function gives (stmt_shapes body.now)) walk.old.scope
+        (stmt_shapes body.now))) result }
     ensures behind { OnOk result (walk.new.scope ≡ behind_all walk.old.scope (stmt_shapes body.now)) }
-    ensures names { OnOk result (walk.new.symbols ≡ walk.old.symbols ++ names_in_statements walk.old.scope function (stmt_shapes body.now)) }
+    ensures names { OnOk result (walk.new.symbols ≡ walk.old.symbols ++ names_in_statements walk.old.scope function (stmt_shapes body.now))
+        }
 {
     let mut labels = Names::new(walk.scope.allocator());
     collect_all_labels(&mut labels, body)?;

@@ -1,5 +1,6 @@
 -- What an enumerator is worth, what is wrong with it, and what is taken after enumerators.
-use Rattle.std.proofs.Common.{◌≡◌, ◌∙◌, ℕ, ℤ, pos, ◌+ℤ◌, Bool, true, false, not, ◌||◌, List, [], ◌∷◌, ◌++◌, Option, Some, None, Result, Ok, Err, refl, sym, ap, is_some, if◌then◌else◌}
+use Rattle.std.proofs.Common.{◌≡◌, ◌∙◌, ℕ, ℤ, pos, ◌+ℤ◌, Bool, true, false, not, ◌||◌, List, [], ◌∷◌, ◌++◌, Option, Some, None, Result, Ok}
+use Rattle.std.proofs.Common.{Err, refl, sym, ap, is_some, if◌then◌else◌}
 use Rattle.std.specs.Option.{ok_or}
 use Rattle.std.specs.Str.{bytes_eq}
 use Rattle.tsa_base.specs.declared.token.Span.{Span}
@@ -11,7 +12,8 @@ use Rattle.tsa_tree.specs.declarations.Syntax.{EnumConstant}
 use Rattle.tsa_tree.specs.expressions.Syntax.{Identifier, Expression}
 use Rattle.tsa_tree.specs.expressions.Shapes.{shape}
 use Rattle.tsa_tree.specs.types.Arithmetic.{is_int}
-use Rattle.tsa_tree.specs.types.Enums.{int_value, as_int, or_worth, value_or_zero, value_verdict, value_premises, enumerator_value, enumerator_entry, enumerator_premises, behind_enumerators, other_enum, is_enumerator, enum_premises}
+use Rattle.tsa_tree.specs.types.Enums.{int_value, as_int, or_worth, value_or_zero, value_verdict, value_premises, enumerator_value}
+use Rattle.tsa_tree.specs.types.Enums.{enumerator_entry, enumerator_premises, behind_enumerators, other_enum, is_enumerator, enum_premises}
 use Rattle.tsa_tree.specs.types.Premises.{or_else, first}
 use Rattle.tsa_tree.specs.types.Scopes.{Scope, found, context_of, tag_in, with_name, is_taken, is_named_taken}
 use Rattle.tsa_types_expressions.specs.Found.{number_in, with_constant, constant_in, found_in}

@@ -1,5 +1,6 @@
 -- What is wrong with the initialisers of globals, by what their expressions were found to be.
-use Rattle.std.proofs.Common.{◌≡◌, ◌∙◌, ℕ, ◌+◌, zero, suc, arith, Bool, true, false, not, ◌&&◌, List, [], ◌∷◌, ◌++◌, drop, Option, Some, None, Result, Ok, Err, is_some, refl, sym, ap, if◌then◌else◌}
+use Rattle.std.proofs.Common.{◌≡◌, ◌∙◌, ℕ, ◌+◌, zero, suc, arith, Bool, true, false, not, ◌&&◌, List, [], ◌∷◌, ◌++◌, drop, Option, Some}
+use Rattle.std.proofs.Common.{None, Result, Ok, Err, is_some, refl, sym, ap, if◌then◌else◌}
 use Rattle.std.specs.Prelude.{slice_get}
 use Rattle.tsa_base.specs.declared.token.Span.{Span}
 use Rattle.tsa_tree.specs.declared.decl.Init.{Init}
@@ -14,7 +15,8 @@ use Rattle.tsa_tree.specs.declarations.Shapes.{init_shape, init_shapes}
 use Rattle.tsa_tree.specs.expressions.Syntax.{Expression}
 use Rattle.tsa_tree.specs.expressions.Shapes.{shape}
 use Rattle.tsa_tree.specs.types.Expressions.{type_of, premises_of}
-use Rattle.tsa_tree.specs.types.Initialisers.{is_constant_for, cell_premises, cell_or_nothing, parts_of, is_misfit, or_no_parts, initialiser_premises, list_premises}
+use Rattle.tsa_tree.specs.types.Initialisers.{is_constant_for, cell_premises, cell_or_nothing, parts_of, is_misfit, or_no_parts}
+use Rattle.tsa_tree.specs.types.Initialisers.{initialiser_premises, list_premises}
 use Rattle.tsa_tree.specs.types.Known.{Context}
 use Rattle.tsa_tree.specs.types.Operands.{goes_to, integer_kind}
 use Rattle.tsa_tree.specs.types.Premises.{Premise, or_else, first}

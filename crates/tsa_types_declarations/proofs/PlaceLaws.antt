@@ -1,5 +1,6 @@
 -- What an expression is as a constant tells which places of globals, and which pointers to them, are constant.
-use Rattle.std.proofs.Common.{◌≡◌, ◌∙◌, ℕ, zero, suc, arith, Bool, true, false, not, ◌&&◌, ◌||◌, nat_eq, nat_lt, List, Option, Some, None, option_map, is_some, refl, sym, ap, if◌then◌else◌}
+use Rattle.std.proofs.Common.{◌≡◌, ◌∙◌, ℕ, zero, suc, arith, Bool, true, false, not, ◌&&◌, ◌||◌, nat_eq, nat_lt, List, Option, Some, None}
+use Rattle.std.proofs.Common.{option_map, is_some, refl, sym, ap, if◌then◌else◌}
 use Rattle.std.proofs.lemmas.Bool.Decides.{nat_tests}
 use Rattle.std.specs.Prelude.{option_and_then}
 use Rattle.tsa_base.specs.declared.token.Span.{Span}
@@ -14,13 +15,15 @@ use Rattle.tsa_tree.specs.declared.meaning.Meaning.{Meaning}
 use Rattle.tsa_tree.specs.declared.meaning.Meaning.TheVariants as known
 use Rattle.tsa_tree.specs.expressions.Syntax.{Identifier, Expression, Arguments, number, null, named, call, unary, binary, field, index}
 use Rattle.tsa_tree.specs.types.Constants.{constant_of}
-use Rattle.tsa_tree.specs.types.Expressions.{type_of, types_of, known_and, breaks_call, miscounts, all_typed, unless, both, entry_type, result_type, owner, member_of, member_type, number_type}
+use Rattle.tsa_tree.specs.types.Expressions.{type_of, types_of, known_and, breaks_call, miscounts, all_typed, unless, both, entry_type}
+use Rattle.tsa_tree.specs.types.Expressions.{result_type, owner, member_of, member_type, number_type}
 use Rattle.tsa_tree.specs.types.Initialisers.{is_earlier, is_index, length_at, is_constant_place, is_constant_pointer}
 use Rattle.tsa_tree.specs.types.Known.{Context}
 use Rattle.tsa_tree.specs.types.Operands.{lacks, breaks_prefix, breaks_binary, breaks_index, prefix_type, binary_type, element_type}
 use Rattle.tsa_types_expressions.specs.declared.constants.Constant.{Constant}
 use Rattle.tsa_types_expressions.specs.declared.constants.Constant.TheVariants as constant
-use Rattle.tsa_types_expressions.specs.Found.{number_in, entry_constant, known_constant, prefix_constant, binary_constant, field_constant, index_constant, constant_in}
+use Rattle.tsa_types_expressions.specs.Found.{number_in, entry_constant, known_constant, prefix_constant, binary_constant, field_constant}
+use Rattle.tsa_types_expressions.specs.Found.{index_constant, constant_in}
 use Rattle.tsa_types_expressions.proofs.ConstantLaws.{constant_is}
 use Rattle.tsa_types_declarations.specs.Cells.{fixed_by}
 

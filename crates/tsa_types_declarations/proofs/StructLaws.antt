@@ -1,5 +1,6 @@
 -- What is wrong with a member, with the attributes of a struct, and with what stands in it.
-use Rattle.std.proofs.Common.{◌≡◌, ◌∙◌, ℕ, ◌+◌, suc, drop, Bool, true, false, not, ◌||◌, List, [], ◌∷◌, ◌++◌, Option, Some, None, Err, length, is_some, refl, sym, ap, if◌then◌else◌}
+use Rattle.std.proofs.Common.{◌≡◌, ◌∙◌, ℕ, ◌+◌, suc, drop, Bool, true, false, not, ◌||◌, List, [], ◌∷◌, ◌++◌, Option, Some, None, Err}
+use Rattle.std.proofs.Common.{length, is_some, refl, sym, ap, if◌then◌else◌}
 use Rattle.std.proofs.lemmas.List.{append-nil}
 use Rattle.tsa_base.specs.declared.token.Span.{Span}
 use Rattle.tsa_tree.specs.declared.attr.Attr.{Attr}
@@ -17,7 +18,8 @@ use Rattle.tsa_tree.specs.types.Attributes.{attribute_premises, attributes_premi
 use Rattle.tsa_tree.specs.types.DeclaredTypes.{thing_type, declared_premises}
 use Rattle.tsa_tree.specs.types.Premises.{Premise, or_else, first}
 use Rattle.tsa_tree.specs.types.Scopes.{Scope, Members, found, tag_in, with_owned, with_struct, with_named, is_named_taken, a_type_name}
-use Rattle.tsa_tree.specs.types.Structs.{member_premises, with_member, members_premises, members_behind, first_place, other_struct, inside_struct, struct_premises, behind_struct}
+use Rattle.tsa_tree.specs.types.Structs.{member_premises, with_member, members_premises, members_behind, first_place, other_struct}
+use Rattle.tsa_tree.specs.types.Structs.{inside_struct, struct_premises, behind_struct}
 use Rattle.tsa_tree.specs.types.Types.{single}
 use Rattle.tsa_types_expressions.specs.declared.refusal.TypeRefusal.{TypeRefusal}
 use Rattle.tsa_types_expressions.specs.Judgements.{Judges}

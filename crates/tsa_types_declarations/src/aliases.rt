@@ -32,9 +32,12 @@ pub fn declare_alias<'a>(
     symbols: &mut Symbols,
     alias: &AliasDef<'a>,
 ) -> Result<(), TypeRefusal>
-    ensures judged { Judges (first (item_premises scope.old (alias_item (name_shape alias.now.name) (type_shape alias.now.ctype) alias.now.span))) result }
-    ensures behind { OnOk result (scope.new ≡ behind_item scope.old (alias_item (name_shape alias.now.name) (type_shape alias.now.ctype) alias.now.span)) }
-    ensures names { OnOk result (symbols.new ≡ symbols.old ++ names_in_item scope.old (alias_item (name_shape alias.now.name) (type_shape alias.now.ctype) alias.now.span)) }
+    ensures judged { Judges (first (item_premises scope.old
+        (alias_item (name_shape alias.now.name) (type_shape alias.now.ctype) alias.now.span))) result }
+    ensures behind { OnOk result (scope.new
+        ≡ behind_item scope.old (alias_item (name_shape alias.now.name) (type_shape alias.now.ctype) alias.now.span)) }
+    ensures names { OnOk result (symbols.new ≡ symbols.old
+        ++ names_in_item scope.old (alias_item (name_shape alias.now.name) (type_shape alias.now.ctype) alias.now.span)) }
 {
     let view = View { scope, function: 0 };
     let typing = judge_type(view, symbols, Declaring::Type, &alias.ctype)?;

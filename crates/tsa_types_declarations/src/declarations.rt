@@ -46,9 +46,14 @@ pub fn judge_type(
     ctype: &CType<'_>,
 ) -> Result<Typing, NoMemory>
     ensures thing { IfOk result (λ typing. typing.written.thing ≡ thing_type view.entry.scope.now (type_shape ctype.now)) }
-    ensures outer { IfOk result (λ typing. (taken : Bool) (span : Span) → first (name_premises taken typing.refused span typing.written.resolved) ≡ first (typed_premises view.entry.scope.now what taken span (type_shape ctype.now))) }
-    ensures whole { IfOk result (λ typing. (taken : Bool) (span : Span) → or_else (first (name_premises taken typing.refused span typing.written.resolved)) typing.written.length ≡ first (declared_premises view.entry.scope.now what taken span (type_shape ctype.now))) }
-    ensures names { OnOk result (symbols.new ≡ symbols.old ++ names_in_given (context_of view.entry.scope.now) view.entry.function (type_shape ctype.now).length) }
+    ensures outer { IfOk result (λ typing. (taken : Bool) (span : Span)
+        → first (name_premises taken typing.refused span typing.written.resolved)
+        ≡ first (typed_premises view.entry.scope.now what taken span (type_shape ctype.now))) }
+    ensures whole { IfOk result (λ typing. (taken : Bool) (span : Span)
+        → or_else (first (name_premises taken typing.refused span typing.written.resolved)) typing.written.length
+        ≡ first (declared_premises view.entry.scope.now what taken span (type_shape ctype.now))) }
+    ensures names { OnOk result (symbols.new ≡ symbols.old ++ names_in_given (context_of view.entry.scope.now) view.entry.function
+        (type_shape ctype.now).length) }
 {
     let written = view.written(symbols, ctype)?;
     let refused = view.is_refused(what, written.resolved);

@@ -3,7 +3,9 @@ ghost use Rattle.std.specs.Prelude.{◌≡◌, ◌++◌, ◌||◌, ◌∷◌, po
 ghost use Rattle.tsa_types_expressions.specs.Judgements.{Judges, forget};
 ghost use Rattle.tsa_tree.specs.declarations.Shapes.{enumerator_shape, enumerator_shapes};
 ghost use Rattle.tsa_tree.specs.expressions.Shapes.{name_shape};
-ghost use Rattle.tsa_tree.specs.types.Enums.{int_value as spec_int_value, as_int, next_after, enumerator_premises, behind_enumerators, value_verdict, enumerator_value, enumerator_entry as spec_entry, other_enum, is_enumerator as spec_is_enumerator, enum_premises, behind_enum};
+ghost use Rattle.tsa_tree.specs.types.Enums.{int_value as spec_int_value, as_int, next_after, enumerator_premises, behind_enumerators};
+ghost use Rattle.tsa_tree.specs.types.Enums.{value_verdict, enumerator_value, enumerator_entry as spec_entry, other_enum};
+ghost use Rattle.tsa_tree.specs.types.Enums.{is_enumerator as spec_is_enumerator, enum_premises, behind_enum};
 ghost use Rattle.tsa_tree.specs.types.Premises.{first};
 ghost use Rattle.tsa_tree.specs.types.Scopes.{context_of, tag_in, with_name, is_taken, is_named_taken};
 ghost use Rattle.tsa_tree.specs.types.Symbols.{names_in_given, names_in_enumerators};
@@ -73,7 +75,8 @@ fn worth(
     last: Option<i32>,
 ) -> Result<Result<i32, Failure>, NoMemory>
     ensures worth { IfOk result (λ worth. worth ≡ value_verdict view.entry.scope.now (enumerator_shape enumerator.now) (next_after last)) }
-    ensures names { OnOk result (symbols.new ≡ symbols.old ++ names_in_given (context_of view.entry.scope.now) view.entry.function (enumerator_shape enumerator.now).value) }
+    ensures names { OnOk result (symbols.new ≡ symbols.old ++ names_in_given (context_of view.entry.scope.now) view.entry.function
+        (enumerator_shape enumerator.now).value) }
 {
     match &enumerator.value {
         Some(value) => {
@@ -108,7 +111,9 @@ fn declare_enumerator<'a>(
     ensures judged { Judges (first (own_premises scope.old (next_after last) (enumerator_shape enumerator.now))) (forget result) }
     ensures worth { IfOk result (λ z. z ≡ enumerator_value scope.old (enumerator_shape enumerator.now) (next_after last)) }
     ensures behind { IfOk result (λ z. scope.new ≡ with_name enumerator.now.name.text.now (spec_entry z) scope.old) }
-    ensures names { IfOk result (λ z. symbols.new ≡ symbols.old ++ ((enumerator.now.name.span, Symbol.Constant z) ∷ names_in_given (context_of scope.old) 0 (enumerator_shape enumerator.now).value)) }
+    ensures names { IfOk result (λ z. symbols.new ≡ symbols.old
+        ++ ((enumerator.now.name.span, Symbol.Constant z) ∷ names_in_given (context_of scope.old) 0
+        (enumerator_shape enumerator.now).value)) }
 {
     let again = at(TypeCode::TY2, enumerator.name.span);
     let view = View { scope, function: 0 };
@@ -173,7 +178,8 @@ fn is_enumerator(name: &[u8], values: &[Enumerator<'_>]) -> bool
 /// Whether a name is taken after enumerators; one that is left out isn't.
 #[tactic(auto, using(crate::proofs::EnumLaws::taken_behind))]
 fn is_taken_after(scope: &Scope<'_>, values: &[Enumerator<'_>], name: Option<Name<'_>>) -> bool
-    ensures { result ≡ is_named_taken (option_map name_shape name.entry) (behind_enumerators scope.now (pos 0) (enumerator_shapes values.now)) }
+    ensures { result ≡ is_named_taken (option_map name_shape name.entry)
+        (behind_enumerators scope.now (pos 0) (enumerator_shapes values.now)) }
 {
     match name {
         Some(name) => scope.is_taken(name.text) || is_enumerator(name.text, values),
@@ -183,7 +189,9 @@ fn is_taken_after(scope: &Scope<'_>, values: &[Enumerator<'_>], name: Option<Nam
 
 /// Whether the tag of an enum, or its name of a type after the enumerators, is declared by something else.
 fn is_declared_elsewhere(scope: &Scope<'_>, def: &EnumDef<'_>) -> bool
-    ensures { result ≡ (other_enum def.now.span.from (tag_in scope.now (option_map name_shape def.now.tag)) || is_named_taken (option_map name_shape def.now.alias) (behind_enumerators scope.now (pos 0) (enumerator_shapes def.now.values.now))) }
+    ensures { result ≡ (other_enum def.now.span.from (tag_in scope.now (option_map name_shape def.now.tag))
+        || is_named_taken (option_map name_shape def.now.alias)
+        (behind_enumerators scope.now (pos 0) (enumerator_shapes def.now.values.now))) }
 {
     is_other_enum(scope, def.span.from, def.tag) || is_taken_after(scope, def.values, def.alias)
 }
@@ -194,9 +202,12 @@ pub fn declare_enum<'a>(
     symbols: &mut Symbols,
     def: &EnumDef<'a>,
 ) -> Result<(), TypeRefusal>
-    ensures judged { Judges (first (enum_premises scope.old (option_map name_shape def.now.tag) (option_map name_shape def.now.alias) (enumerator_shapes def.now.values.now) def.now.span)) result }
-    ensures behind { OnOk result (scope.new ≡ behind_enum scope.old (option_map name_shape def.now.alias) (enumerator_shapes def.now.values.now)) }
-    ensures names { OnOk result (symbols.new ≡ symbols.old ++ names_in_enumerators scope.old (pos 0) (enumerator_shapes def.now.values.now)) }
+    ensures judged { Judges (first (enum_premises scope.old (option_map name_shape def.now.tag) (option_map name_shape def.now.alias)
+        (enumerator_shapes def.now.values.now) def.now.span)) result }
+    ensures behind { OnOk result (scope.new ≡ behind_enum scope.old (option_map name_shape def.now.alias)
+        (enumerator_shapes def.now.values.now)) }
+    ensures names { OnOk result (symbols.new ≡ symbols.old ++ names_in_enumerators scope.old (pos 0) (enumerator_shapes def.now.values.now))
+        }
 {
     if is_declared_elsewhere(scope, def) {
         return Err(refused(at(TypeCode::TY2, def.span)));

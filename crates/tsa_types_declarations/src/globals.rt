@@ -36,7 +36,8 @@ fn bearer_of(scope: &Scope<'_>, thing: ThingType) -> Bearer
 /// The type of a global where the global isn't known yet. The names in its length are noted elsewhere.
 fn judge_outside(scope: &Scope<'_>, decl: &Decl<'_>) -> Result<Typing, NoMemory>
     ensures thing { IfOk result (λ typing. typing.written.thing ≡ thing_type scope.now (decl_shape decl.now).ctype) }
-    ensures outer { IfOk result (λ typing. (taken : Bool) → first (name_premises taken typing.refused decl.now.span typing.written.resolved) ≡ first (typed_premises scope.now Declaring.Thing taken decl.now.span (decl_shape decl.now).ctype)) }
+    ensures outer { IfOk result (λ typing. (taken : Bool) → first (name_premises taken typing.refused decl.now.span typing.written.resolved)
+        ≡ first (typed_premises scope.now Declaring.Thing taken decl.now.span (decl_shape decl.now).ctype)) }
 {
     let view = View { scope, function: 0 };
     let mut unnoted = Symbols::new(scope.allocator());
@@ -51,8 +52,10 @@ fn given_initialiser(
     thing: ThingType,
     init: &Option<Init<'_>>,
 ) -> Result<Option<Failure>, NoMemory>
-    ensures judged { IfOk result (λ failure. failure ≡ first (global_init view.entry.scope.now view.entry.scope.now.globals thing (option_map init_shape init.now))) }
-    ensures names { OnOk result (symbols.new ≡ symbols.old ++ names_in_given_init (context_of view.entry.scope.now) view.entry.function (option_map init_shape init.now)) }
+    ensures judged { IfOk result (λ failure. failure
+        ≡ first (global_init view.entry.scope.now view.entry.scope.now.globals thing (option_map init_shape init.now))) }
+    ensures names { OnOk result (symbols.new ≡ symbols.old ++ names_in_given_init (context_of view.entry.scope.now) view.entry.function
+        (option_map init_shape init.now)) }
 {
     match init {
         Some(init) => initialiser(view, symbols, Some(thing), init),

@@ -1,7 +1,8 @@
 //! Initialisers of globals (C11 6.7.9p4): constants that fit the shape of what they initialise.
 ghost use Rattle.std.specs.Prelude.{◌≡◌, ◌++◌, Some, None, if◌then◌else◌, IfOk, OnOk};
 ghost use Rattle.tsa_tree.specs.declarations.Shapes.{init_shape, init_shapes};
-ghost use Rattle.tsa_tree.specs.types.Initialisers.{parts_of, is_misfit as spec_is_misfit, or_no_parts, initialiser_premises, list_premises};
+ghost use Rattle.tsa_tree.specs.types.Initialisers.{parts_of, is_misfit as spec_is_misfit, or_no_parts, initialiser_premises};
+ghost use Rattle.tsa_tree.specs.types.Initialisers.{list_premises};
 ghost use Rattle.tsa_tree.specs.types.Premises.{first, or_else};
 ghost use Rattle.tsa_tree.specs.types.Scopes.{context_of};
 ghost use Rattle.tsa_tree.specs.types.Symbols.{names_in_init, names_in_items};
@@ -91,8 +92,10 @@ pub fn initialiser(
     thing: Option<ThingType>,
     init: &Init<'_>,
 ) -> Result<Option<Failure>, NoMemory>
-    ensures judged { IfOk result (λ failure. failure ≡ first (initialiser_premises view.entry.scope.now view.entry.scope.now.globals thing (init_shape init.now))) }
-    ensures names { OnOk result (symbols.new ≡ symbols.old ++ names_in_init (context_of view.entry.scope.now) view.entry.function (init_shape init.now)) }
+    ensures judged { IfOk result (λ failure. failure
+        ≡ first (initialiser_premises view.entry.scope.now view.entry.scope.now.globals thing (init_shape init.now))) }
+    ensures names { OnOk result (symbols.new ≡ symbols.old ++ names_in_init (context_of view.entry.scope.now) view.entry.function
+        (init_shape init.now)) }
 {
     match init {
         Init::Value(expr) => {
@@ -116,8 +119,11 @@ fn list(
     thing: Option<ThingType>,
     items: &[Init<'_>],
 ) -> Result<Option<Failure>, NoMemory>
-    ensures judged { IfOk result (λ failure. failure ≡ first (list_premises view.entry.scope.now view.entry.scope.now.globals (or_no_parts (parts_of view.entry.scope.now thing)) (init_shapes items.now))) }
-    ensures names { OnOk result (symbols.new ≡ symbols.old ++ names_in_items (context_of view.entry.scope.now) view.entry.function (init_shapes items.now)) }
+    ensures judged { IfOk result (λ failure. failure
+        ≡ first (list_premises view.entry.scope.now view.entry.scope.now.globals (or_no_parts (parts_of view.entry.scope.now thing))
+        (init_shapes items.now))) }
+    ensures names { OnOk result (symbols.new ≡ symbols.old ++ names_in_items (context_of view.entry.scope.now) view.entry.function
+        (init_shapes items.now)) }
 {
     let mut failure = None;
     let mut number = 0;

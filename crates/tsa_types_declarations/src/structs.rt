@@ -7,7 +7,9 @@ ghost use Rattle.tsa_tree.specs.expressions.Shapes.{name_shape};
 ghost use Rattle.tsa_tree.specs.types.Attributes.{attributes_premises, attributes_beside, stands_beside as spec_stands_beside};
 ghost use Rattle.tsa_tree.specs.types.Premises.{first};
 ghost use Rattle.tsa_tree.specs.types.Scopes.{context_of, tag_in, with_owned, is_named_taken};
-ghost use Rattle.tsa_tree.specs.types.Structs.{member_premises, with_member, members_premises, members_behind, first_place as spec_first_place, other_struct, inside_struct as spec_inside_struct, struct_premises, behind_struct};
+ghost use Rattle.tsa_tree.specs.types.Structs.{member_premises, with_member, members_premises, members_behind};
+ghost use Rattle.tsa_tree.specs.types.Structs.{first_place as spec_first_place, other_struct, inside_struct as spec_inside_struct};
+ghost use Rattle.tsa_tree.specs.types.Structs.{struct_premises, behind_struct};
 ghost use Rattle.tsa_tree.specs.types.Symbols.{names_in_attributes, names_in_member, names_in_members};
 
 use crate::aliases::a_type_name;
@@ -31,8 +33,10 @@ fn guards<'a>(
     members: &mut Names<'a, ThingType>,
     attrs: &[Attr<'_>],
 ) -> Result<Option<Failure>, NoMemory>
-    ensures judged { IfOk result (λ failure. failure ≡ first (attributes_premises (with_owned members.old scope.old) Bearer.Member (attr_shapes attrs.now))) }
-    ensures names { OnOk result (symbols.new ≡ symbols.old ++ names_in_attributes (context_of (with_owned members.old scope.old)) 0 (attr_shapes attrs.now)) }
+    ensures judged { IfOk result (λ failure. failure
+        ≡ first (attributes_premises (with_owned members.old scope.old) Bearer.Member (attr_shapes attrs.now))) }
+    ensures names { OnOk result (symbols.new ≡ symbols.old ++ names_in_attributes (context_of (with_owned members.old scope.old)) 0
+        (attr_shapes attrs.now)) }
     ensures same { scope.new ≡ scope.old }
     ensures same_members { members.new ≡ members.old }
 {
@@ -103,7 +107,8 @@ fn beside_failure(
     place: u32,
     attrs: &[Attr<'_>],
 ) -> Result<Option<Failure>, NoMemory>
-    ensures { IfOk result (λ failure. failure ≡ first (attributes_premises scope.now Bearer.Structure (attributes_beside before place (attr_shapes attrs.now)))) }
+    ensures { IfOk result (λ failure. failure
+        ≡ first (attributes_premises scope.now Bearer.Structure (attributes_beside before place (attr_shapes attrs.now)))) }
 {
     let view = View { scope, function: 0 };
     let mut unnoted = Symbols::new(scope.allocator());
@@ -127,7 +132,8 @@ fn inside_struct<'a>(
     members: &mut Names<'a, ThingType>,
     def: &StructDef<'a>,
 ) -> Result<(), TypeRefusal>
-    ensures judged { Judges (first (spec_inside_struct scope.old members.old (attr_shapes def.now.attrs.now) (decl_shapes def.now.members.now) def.now.span)) result }
+    ensures judged { Judges (first (spec_inside_struct scope.old members.old (attr_shapes def.now.attrs.now)
+        (decl_shapes def.now.members.now) def.now.span)) result }
     ensures behind { OnOk result (members.new ≡ members_behind scope.old members.old (decl_shapes def.now.members.now)) }
     ensures same { OnOk result (scope.new ≡ scope.old) }
     ensures names { OnOk result (symbols.new ≡ symbols.old ++ names_in_members scope.old members.old (decl_shapes def.now.members.now)) }
@@ -151,7 +157,8 @@ fn is_other_struct(scope: &Scope<'_>, tag: Option<Name<'_>>) -> bool
 
 /// Whether the tag of a struct, or its name of a type, is declared by something else.
 fn is_declared_elsewhere(scope: &Scope<'_>, def: &StructDef<'_>) -> bool
-    ensures { result ≡ (other_struct (length scope.now.structs) (tag_in scope.now (option_map name_shape def.now.tag)) || is_named_taken (option_map name_shape def.now.alias) scope.now) }
+    ensures { result ≡ (other_struct (length scope.now.structs) (tag_in scope.now (option_map name_shape def.now.tag))
+        || is_named_taken (option_map name_shape def.now.alias) scope.now) }
 {
     is_other_struct(scope, def.tag) || scope.is_named_taken(def.alias)
 }
@@ -162,8 +169,10 @@ pub fn declare_struct<'a>(
     symbols: &mut Symbols,
     def: &StructDef<'a>,
 ) -> Result<(), TypeRefusal>
-    ensures judged { Judges (first (struct_premises scope.old (option_map name_shape def.now.tag) (option_map name_shape def.now.alias) (attr_shapes def.now.attrs.now) (decl_shapes def.now.members.now) def.now.span)) result }
-    ensures behind { OnOk result (scope.new ≡ behind_struct scope.old (option_map name_shape def.now.alias) (decl_shapes def.now.members.now)) }
+    ensures judged { Judges (first (struct_premises scope.old (option_map name_shape def.now.tag) (option_map name_shape def.now.alias)
+        (attr_shapes def.now.attrs.now) (decl_shapes def.now.members.now) def.now.span)) result }
+    ensures behind { OnOk result (scope.new ≡ behind_struct scope.old (option_map name_shape def.now.alias)
+        (decl_shapes def.now.members.now)) }
     ensures names { OnOk result (symbols.new ≡ symbols.old ++ names_in_members scope.old [] (decl_shapes def.now.members.now)) }
 {
     if is_declared_elsewhere(scope, def) {

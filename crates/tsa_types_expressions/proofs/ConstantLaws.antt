@@ -12,13 +12,15 @@ use Rattle.tsa_tree.specs.declared.number.Number.TheVariants as numeral
 use Rattle.tsa_tree.specs.declared.number.Trap.{Trap}
 use Rattle.tsa_tree.specs.expressions.Syntax.{Expression, number, null, named, call, unary, binary, field, index}
 use Rattle.tsa_tree.specs.types.Arithmetic.{operate_prefix}
-use Rattle.tsa_tree.specs.types.Constants.{enumerator, is_known_enumerator, takes_integers, is_made_of_constants, named_value, go_on, worked_binary, worked, without_trap, constant_of}
+use Rattle.tsa_tree.specs.types.Constants.{enumerator, is_known_enumerator, takes_integers, is_made_of_constants, named_value, go_on}
+use Rattle.tsa_tree.specs.types.Constants.{worked_binary, worked, without_trap, constant_of}
 use Rattle.tsa_tree.specs.types.Expressions.{type_of}
 use Rattle.tsa_tree.specs.types.Initialisers.{is_index, length_at}
 use Rattle.tsa_tree.specs.types.Known.{Context}
 use Rattle.tsa_types_expressions.specs.declared.constants.Constant.{Constant}
 use Rattle.tsa_types_expressions.specs.declared.constants.Constant.TheVariants as constant
-use Rattle.tsa_types_expressions.specs.Found.{number_in, entry_constant, known_constant, prefix_constant, binary_constant, field_constant, index_constant, constant_in}
+use Rattle.tsa_types_expressions.specs.Found.{number_in, entry_constant, known_constant, prefix_constant, binary_constant, field_constant}
+use Rattle.tsa_types_expressions.specs.Found.{index_constant, constant_in}
 
 -- an integer constant, with a value or without
 abbrev is_number : Constant → Bool

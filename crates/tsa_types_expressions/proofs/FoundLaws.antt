@@ -1,5 +1,6 @@
 -- What each node of an expression is found to be by its parts.
-use Rattle.std.proofs.Common.{◌≡◌, ◌∙◌, ℕ, ◌+◌, suc, drop, Bool, true, false, not, ◌&&◌, ◌||◌, nat_eq, List, ◌∷◌, length, Option, Some, None, is_some, Result, Ok, Err, refl, sym, ap, if◌then◌else◌}
+use Rattle.std.proofs.Common.{◌≡◌, ◌∙◌, ℕ, ◌+◌, suc, drop, Bool, true, false, not, ◌&&◌, ◌||◌, nat_eq, List, ◌∷◌, length, Option, Some}
+use Rattle.std.proofs.Common.{None, is_some, Result, Ok, Err, refl, sym, ap, if◌then◌else◌}
 use Rattle.std.specs.Prelude.{option_and_then, slice_get}
 use Rattle.tsa_base.specs.declared.token.Span.{Span}
 use Rattle.tsa_tree.specs.declared.expr.BinaryOp.{BinaryOp}
@@ -13,7 +14,8 @@ use Rattle.tsa_tree.specs.declared.premise.TypeCode.TheVariants.{TY3, TY4}
 use Rattle.std.specs.Result.{result_err}
 use Rattle.tsa_tree.specs.expressions.Shapes.{shape, shapes}
 use Rattle.tsa_tree.specs.expressions.Syntax.{Identifier, Expression, number, null, named, call, unary, binary, field, index}
-use Rattle.tsa_tree.specs.types.Expressions.{type_of, types_of, owner, member_of, member_type, is_function, breaks_call, miscounts, params_of, arguments_break, result_type}
+use Rattle.tsa_tree.specs.types.Expressions.{type_of, types_of, owner, member_of, member_type, is_function, breaks_call, miscounts}
+use Rattle.tsa_tree.specs.types.Expressions.{params_of, arguments_break, result_type}
 use Rattle.tsa_tree.specs.types.Initialisers.{length_at}
 use Rattle.tsa_tree.specs.types.Known.{Context}
 use Rattle.tsa_tree.specs.types.Premises.{or_else}
@@ -22,10 +24,14 @@ use Rattle.tsa_types_expressions.specs.declared.accesses.Arguments.{Arguments as
 use Rattle.tsa_types_expressions.specs.declared.constants.Constant.{Constant}
 use Rattle.tsa_types_expressions.specs.declared.constants.Constant.TheVariants as constant
 use Rattle.tsa_types_expressions.specs.declared.constants.Found.{Found}
-use Rattle.tsa_types_expressions.specs.Found.{found_number, found_null, found_result, number_in, with_constant, constant_in, found_in, prefix_constant, binary_constant, field_constant, index_constant, known_constant}
+use Rattle.tsa_types_expressions.specs.Found.{found_number, found_null, found_result, number_in, with_constant, constant_in, found_in}
+use Rattle.tsa_types_expressions.specs.Found.{prefix_constant, binary_constant, field_constant, index_constant, known_constant}
 use Rattle.tsa_types_expressions.specs.Judging.{cannot_go, failed}
-use Rattle.tsa_types_expressions.specs.Parts.{worse, found_thing, name_part, one_part, two_parts, prefix_found, prefix_part, binary_found, binary_part, found_at, index_found, index_part, member_part, owned_part, field_part, params_seen, or_found, call_part}
-use Rattle.tsa_types_expressions.specs.Verdicts.{at, verdict_of, failure_of_all, found_type, name_verdict, one_verdict, two_verdict, member_verdict, field_verdict, or_failed, call_verdict}
+use Rattle.tsa_types_expressions.specs.Parts.{worse, found_thing, name_part, one_part, two_parts, prefix_found, prefix_part, binary_found}
+use Rattle.tsa_types_expressions.specs.Parts.{binary_part, found_at, index_found, index_part, member_part, owned_part, field_part}
+use Rattle.tsa_types_expressions.specs.Parts.{params_seen, or_found, call_part}
+use Rattle.tsa_types_expressions.specs.Verdicts.{at, verdict_of, failure_of_all, found_type, name_verdict, one_verdict, two_verdict}
+use Rattle.tsa_types_expressions.specs.Verdicts.{member_verdict, field_verdict, or_failed, call_verdict}
 use Rattle.tsa_types_expressions.proofs.Steps.{found_is, named_step, unary_step, binary_step, index_step, field_step, call_step}
 use Rattle.tsa_types_expressions.proofs.Walk.{number_step, null_step, counts, breaks_next, failure_next}
 

@@ -1,5 +1,6 @@
 -- What is wrong with a length: the first premise that fails in it, or that it is none.
-use Rattle.std.proofs.Common.{◌≡◌, ◌∙◌, Bool, true, false, not, [], ◌∷◌, Option, Some, None, Result, Ok, Err, ℕ, refl, sym, ap, is_some, if◌then◌else◌}
+use Rattle.std.proofs.Common.{◌≡◌, ◌∙◌, Bool, true, false, not, [], ◌∷◌, Option, Some, None, Result, Ok, Err, ℕ, refl, sym, ap, is_some}
+use Rattle.std.proofs.Common.{if◌then◌else◌}
 use Rattle.tsa_base.specs.declared.token.Span.{Span}
 use Rattle.tsa_tree.specs.declared.expr.Expr.{Expr}
 use Rattle.tsa_tree.specs.declared.expr.ExprKind.{ExprKind, Number, Null, Named, Call', Unary', Binary', Field', Index'}

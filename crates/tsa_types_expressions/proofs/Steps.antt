@@ -1,13 +1,16 @@
 -- Each node's verdict from those of its parts: a part has a type exactly where no premise of it fails.
-use Rattle.std.proofs.Common.{◌≡◌, ◌∙◌, Bool, true, false, not, ◌&&◌, ◌||◌, List, [], ◌∷◌, ◌++◌, Option, Some, None, is_some, is_none, option_map, Err, refl, sym, ap, subst, if◌then◌else◌}
+use Rattle.std.proofs.Common.{◌≡◌, ◌∙◌, Bool, true, false, not, ◌&&◌, ◌||◌, List, [], ◌∷◌, ◌++◌, Option, Some, None, is_some, is_none}
+use Rattle.std.proofs.Common.{option_map, Err, refl, sym, ap, subst, if◌then◌else◌}
 use Rattle.std.specs.Prelude.{option_and_then}
 use Rattle.tsa_base.specs.declared.token.Span.{Span}
 use Rattle.tsa_tree.specs.declared.expr.BinaryOp.{BinaryOp}
 use Rattle.tsa_tree.specs.declared.expr.UnaryOp.{UnaryOp}
-use Rattle.tsa_tree.specs.expressions.Syntax.{Identifier, Expression, Arguments, number, null, named, call, unary, binary, field, index, none, more}
+use Rattle.tsa_tree.specs.expressions.Syntax.{Identifier, Expression, Arguments, number, null, named, call, unary, binary, field, index}
+use Rattle.tsa_tree.specs.expressions.Syntax.{none, more}
 use Rattle.tsa_tree.specs.declared.premise.TypeCode.{TypeCode}
 use Rattle.tsa_tree.specs.declared.premise.TypeCode.TheVariants.{TY1, TY3, TY4}
-use Rattle.tsa_tree.specs.types.Expressions.{type_of, types_of, premises_of, premises_of_all, entry_type, result_type, unless, both, all_typed, breaks_call, miscounts, known_and, owner, member_of, member_type}
+use Rattle.tsa_tree.specs.types.Expressions.{type_of, types_of, premises_of, premises_of_all, entry_type, result_type, unless, both}
+use Rattle.tsa_tree.specs.types.Expressions.{all_typed, breaks_call, miscounts, known_and, owner, member_of, member_type}
 use Rattle.tsa_tree.specs.types.Known.{Context}
 use Rattle.tsa_tree.specs.declared.meaning.Entry.{Entry}
 use Rattle.tsa_tree.specs.types.Operands.{lacks, breaks_prefix, breaks_binary, breaks_index, prefix_type, binary_type, element_type}
@@ -15,7 +18,8 @@ use Rattle.tsa_tree.specs.types.Premises.{Premise, premise, failure_of, or_else,
 use Rattle.tsa_tree.specs.declared.premise.Failure.{Failure}
 use Rattle.tsa_tree.specs.declared.kind.ThingType.{ThingType}
 use Rattle.tsa_tree.specs.declared.kind.ExpressionType.{ExpressionType}
-use Rattle.tsa_types_expressions.specs.Verdicts.{at, outcome, verdict_of, failure_of_all, found_type, name_verdict, one_verdict, two_verdict, member_verdict, field_verdict, or_failed, call_verdict}
+use Rattle.tsa_types_expressions.specs.Verdicts.{at, outcome, verdict_of, failure_of_all, found_type, name_verdict, one_verdict}
+use Rattle.tsa_types_expressions.specs.Verdicts.{two_verdict, member_verdict, field_verdict, or_failed, call_verdict}
 
 pub or_else_same : (a b d : Option Failure) → or_else a (or_else b d) ≡ or_else (or_else a b) d
 or_else_same (Some x) b d = refl

@@ -1,12 +1,14 @@
 -- What the walk over an expression comes to at each node.
-use Rattle.std.proofs.Common.{◌≡◌, ◌∙◌, ℕ, ◌+◌, zero, suc, drop, Bool, true, false, not, ◌||◌, nat_eq, List, [], ◌∷◌, Option, Some, None, Result, Ok, Err, refl, sym, ap, length, if◌then◌else◌}
+use Rattle.std.proofs.Common.{◌≡◌, ◌∙◌, ℕ, ◌+◌, zero, suc, drop, Bool, true, false, not, ◌||◌, nat_eq, List, [], ◌∷◌, Option, Some, None}
+use Rattle.std.proofs.Common.{Result, Ok, Err, refl, sym, ap, length, if◌then◌else◌}
 use Rattle.tsa_base.specs.declared.token.Span.{Span}
 use Rattle.tsa_base.proofs.Numbers.{plus_one}
 use Rattle.tsa_tree.specs.declared.expr.Expr.{Expr}
 use Rattle.tsa_tree.specs.expressions.Syntax.{Identifier, Expression, Arguments, number, null, call, more}
 use Rattle.tsa_tree.specs.expressions.Shapes.{shape, shapes}
 use Rattle.tsa_tree.specs.declared.premise.TypeCode.TheVariants.{TY4}
-use Rattle.tsa_tree.specs.types.Expressions.{type_of, types_of, premises_of, premises_of_all, number_type, function_of, params_of, arguments_break, result_type}
+use Rattle.tsa_tree.specs.types.Expressions.{type_of, types_of, premises_of, premises_of_all, number_type, function_of, params_of}
+use Rattle.tsa_tree.specs.types.Expressions.{arguments_break, result_type}
 use Rattle.tsa_tree.specs.types.Known.{Context}
 use Rattle.tsa_tree.specs.declared.meaning.Entry.{Entry}
 use Rattle.tsa_types_expressions.specs.Judging.{cannot_go, failed}
@@ -20,7 +22,8 @@ use Rattle.tsa_tree.specs.declared.kind.ExpressionType.{ExpressionType}
 use Rattle.tsa_types_expressions.specs.Verdicts.{at, outcome, found_type, verdict_of, failure_of_all, or_failed}
 use Rattle.std.specs.Prelude.{slice_get}
 use Rattle.std.proofs.lemmas.Bool.{eqb-true, eqb-false}
-use Rattle.tsa_types_expressions.proofs.Steps.{Alike, alike, found_is, first_append, named_step, unary_step, binary_step, index_step, field_step, call_step, or_else_same}
+use Rattle.tsa_types_expressions.proofs.Steps.{Alike, alike, found_is, first_append, named_step, unary_step, binary_step, index_step}
+use Rattle.tsa_types_expressions.proofs.Steps.{field_step, call_step, or_else_same}
 
 pub number_step : (c : Context) (n : ℕ) (u : Bool) (span : Span) → verdict_of c (number n u span) ≡ Ok (number_type n u)
 unfolding verdict_of type_of premises_of first

@@ -2,7 +2,8 @@
 ghost use Rattle.std.specs.Prelude.{◌≡◌, ◌||◌};
 ghost use Rattle.tsa_types_expressions.specs.Found.{field_constant as spec_field_constant};
 ghost use Rattle.tsa_types_expressions.specs.Parts.{member_part, call_part, worse as spec_worse};
-ghost use Rattle.tsa_tree.specs.types.Expressions.{owner as spec_owner, const_base as spec_const_base, member_type as spec_member_type, function_of as spec_function_of};
+ghost use Rattle.tsa_tree.specs.types.Expressions.{owner as spec_owner, const_base as spec_const_base, member_type as spec_member_type};
+ghost use Rattle.tsa_tree.specs.types.Expressions.{function_of as spec_function_of};
 ghost use Rattle.tsa_tree.specs.types.Premises.{or_else};
 
 use crate::constants::{Constant, Found, called};

@@ -33,7 +33,8 @@ impl<'w, 'a> View<'w, 'a> {
     ghost use Rattle.std.specs.Prelude.{◌++◌, IfOk, OnOk};
     ghost use Rattle.tsa_tree.specs.attributes.Syntax.{attr_shape, attr_shapes};
     ghost use Rattle.tsa_tree.specs.expressions.Shapes.{shape, shapes};
-    ghost use Rattle.tsa_tree.specs.types.Attributes.{is_lock_type as spec_is_lock_type, argument_premises, lock_premises, attribute_premises, attributes_premises};
+    ghost use Rattle.tsa_tree.specs.types.Attributes.{is_lock_type as spec_is_lock_type, argument_premises, lock_premises};
+    ghost use Rattle.tsa_tree.specs.types.Attributes.{attribute_premises, attributes_premises};
     ghost use Rattle.tsa_tree.specs.types.Premises.{first};
     ghost use Rattle.tsa_tree.specs.types.Scopes.{context_of};
     ghost use Rattle.tsa_tree.specs.types.Symbols.{names_in, names_in_all, names_in_attributes};
@@ -66,7 +67,8 @@ impl<'w, 'a> View<'w, 'a> {
     #[tactic(auto, using(crate::proofs::LockLaws::one))]
     fn argument(self, symbols: &mut Symbols, arg: &Expr<'_>) -> Result<Option<Failure>, NoMemory>
         ensures judged { IfOk result (λ failure. failure ≡ first (argument_premises self.entry.scope.now (shape arg.now))) }
-        ensures names { OnOk result (symbols.new ≡ symbols.old ++ names_in (context_of self.entry.scope.now) self.entry.function (shape arg.now)) }
+        ensures names { OnOk result (symbols.new ≡ symbols.old ++ names_in (context_of self.entry.scope.now) self.entry.function
+            (shape arg.now)) }
     {
         let found = self.expression(symbols, arg)?;
         Ok(self.lock_failure(arg.span, found))
@@ -75,7 +77,8 @@ impl<'w, 'a> View<'w, 'a> {
     /// The arguments of an attribute, in order.
     fn locks(self, symbols: &mut Symbols, args: &[Expr<'_>]) -> Result<Option<Failure>, NoMemory>
         ensures judged { IfOk result (λ failure. failure ≡ first (lock_premises self.entry.scope.now (shapes args.now))) }
-        ensures names { OnOk result (symbols.new ≡ symbols.old ++ names_in_all (context_of self.entry.scope.now) self.entry.function (shapes args.now)) }
+        ensures names { OnOk result (symbols.new ≡ symbols.old ++ names_in_all (context_of self.entry.scope.now) self.entry.function
+            (shapes args.now)) }
     {
         let mut failure = None;
         'each: for arg in args {
@@ -93,7 +96,8 @@ impl<'w, 'a> View<'w, 'a> {
         attr: &Attr<'_>,
     ) -> Result<Option<Failure>, NoMemory>
         ensures judged { IfOk result (λ failure. failure ≡ first (attribute_premises self.entry.scope.now bearer (attr_shape attr.now))) }
-        ensures names { OnOk result (symbols.new ≡ symbols.old ++ names_in_all (context_of self.entry.scope.now) self.entry.function (attr_shape attr.now).args) }
+        ensures names { OnOk result (symbols.new ≡ symbols.old ++ names_in_all (context_of self.entry.scope.now) self.entry.function
+            (attr_shape attr.now).args) }
     {
         let locks = self.locks(symbols, attr.args)?;
         if stands_on(attr.kind, bearer) {
@@ -110,8 +114,10 @@ impl<'w, 'a> View<'w, 'a> {
         bearer: Bearer,
         attrs: &[Attr<'_>],
     ) -> Result<Option<Failure>, NoMemory>
-        ensures judged { IfOk result (λ failure. failure ≡ first (attributes_premises self.entry.scope.now bearer (attr_shapes attrs.now))) }
-        ensures names { OnOk result (symbols.new ≡ symbols.old ++ names_in_attributes (context_of self.entry.scope.now) self.entry.function (attr_shapes attrs.now)) }
+        ensures judged { IfOk result (λ failure. failure ≡ first (attributes_premises self.entry.scope.now bearer (attr_shapes attrs.now)))
+            }
+        ensures names { OnOk result (symbols.new ≡ symbols.old ++ names_in_attributes (context_of self.entry.scope.now) self.entry.function
+            (attr_shapes attrs.now)) }
     {
         let mut failure = None;
         'each: for attr in attrs {

@@ -2,7 +2,8 @@
 ghost use Rattle.std.specs.Prelude.{◌≡◌};
 ghost use Rattle.tsa_types_expressions.specs.Found.{found_number, found_null, found_entry, found_result, found_constant};
 ghost use Rattle.tsa_tree.specs.types.Constants.{number_value as spec_number_value};
-ghost use Rattle.tsa_tree.specs.types.Expressions.{entry_type as spec_entry_type, number_type as spec_number_type, result_type as spec_result_type};
+ghost use Rattle.tsa_tree.specs.types.Expressions.{entry_type as spec_entry_type, number_type as spec_number_type};
+ghost use Rattle.tsa_tree.specs.types.Expressions.{result_type as spec_result_type};
 
 use tsa_types_operators::{place, single, value};
 use tsa_tree::kind::{ExpressionType, Kind};

@@ -1,7 +1,10 @@
 //! The types of declarations (C11 6.7.2, 6.7.3, 6.7.6): what a written type is, and what is wrong with it.
 ghost use Rattle.std.specs.Prelude.{◌≡◌, is_some};
 ghost use Rattle.tsa_tree.specs.types.Premises.{first};
-ghost use Rattle.tsa_tree.specs.types.DeclaredTypes.{of_struct as spec_of_struct, of_enum as spec_of_enum, of_alias as spec_of_alias, qualified as spec_qualified, declared_as as spec_declared_as, length_in as spec_length_in, as_length as spec_as_length, with_length, is_nothing as spec_is_nothing, unknown_tag};
+ghost use Rattle.tsa_tree.specs.types.DeclaredTypes.{of_struct as spec_of_struct, of_enum as spec_of_enum, of_alias as spec_of_alias};
+ghost use Rattle.tsa_tree.specs.types.DeclaredTypes.{qualified as spec_qualified, declared_as as spec_declared_as};
+ghost use Rattle.tsa_tree.specs.types.DeclaredTypes.{length_in as spec_length_in, as_length as spec_as_length, with_length};
+ghost use Rattle.tsa_tree.specs.types.DeclaredTypes.{is_nothing as spec_is_nothing, unknown_tag};
 ghost use Rattle.tsa_types_expressions.specs.Lengths.{told_of as spec_told_of, name_premises};
 
 use crate::expressions::View;
@@ -188,7 +191,8 @@ impl<'w, 'a> View<'w, 'a> {
     ghost use Rattle.std.specs.Prelude.{◌++◌, option_map, IfOk, OnOk};
     ghost use Rattle.tsa_tree.specs.declarations.Shapes.{base_shape, type_shape};
     ghost use Rattle.tsa_tree.specs.expressions.Shapes.{shape};
-    ghost use Rattle.tsa_tree.specs.types.DeclaredTypes.{base_of as spec_base_of, resolve as spec_resolve, length_of, thing_type, is_refused as spec_is_refused, may_be as spec_may_be, length_premises};
+    ghost use Rattle.tsa_tree.specs.types.DeclaredTypes.{base_of as spec_base_of, resolve as spec_resolve, length_of, thing_type};
+    ghost use Rattle.tsa_tree.specs.types.DeclaredTypes.{is_refused as spec_is_refused, may_be as spec_may_be, length_premises};
     ghost use Rattle.tsa_tree.specs.types.Scopes.{context_of};
     ghost use Rattle.tsa_tree.specs.types.Symbols.{names_in_given};
 
@@ -243,9 +247,12 @@ impl<'w, 'a> View<'w, 'a> {
         symbols: &mut Symbols,
         length: Option<&Expr<'_>>,
     ) -> Result<Length, NoMemory>
-        ensures elements { IfOk result (λ told. told.elements ≡ length_of (context_of self.entry.scope.now) (option_map (λ x. shape x.now) length.entry)) }
-        ensures failure { IfOk result (λ told. told.failure ≡ first (length_premises (context_of self.entry.scope.now) (option_map (λ x. shape x.now) length.entry))) }
-        ensures names { OnOk result (symbols.new ≡ symbols.old ++ names_in_given (context_of self.entry.scope.now) self.entry.function (option_map (λ x. shape x.now) length.entry)) }
+        ensures elements { IfOk result (λ told. told.elements
+            ≡ length_of (context_of self.entry.scope.now) (option_map (λ x. shape x.now) length.entry)) }
+        ensures failure { IfOk result (λ told. told.failure
+            ≡ first (length_premises (context_of self.entry.scope.now) (option_map (λ x. shape x.now) length.entry))) }
+        ensures names { OnOk result (symbols.new ≡ symbols.old ++ names_in_given (context_of self.entry.scope.now) self.entry.function
+            (option_map (λ x. shape x.now) length.entry)) }
     {
         match length {
             Some(expr) => {
@@ -263,8 +270,10 @@ impl<'w, 'a> View<'w, 'a> {
     pub fn written(self, symbols: &mut Symbols, written: &CType<'_>) -> Result<Written, NoMemory>
         ensures thing { IfOk result (λ told. told.thing ≡ thing_type self.entry.scope.now (type_shape written.now)) }
         ensures resolved { IfOk result (λ told. told.resolved ≡ spec_resolve self.entry.scope.now (type_shape written.now)) }
-        ensures length { IfOk result (λ told. told.length ≡ first (length_premises (context_of self.entry.scope.now) (option_map (λ x. shape x.now) written.now.length))) }
-        ensures names { OnOk result (symbols.new ≡ symbols.old ++ names_in_given (context_of self.entry.scope.now) self.entry.function (option_map (λ x. shape x.now) written.now.length)) }
+        ensures length { IfOk result (λ told. told.length
+            ≡ first (length_premises (context_of self.entry.scope.now) (option_map (λ x. shape x.now) written.now.length))) }
+        ensures names { OnOk result (symbols.new ≡ symbols.old ++ names_in_given (context_of self.entry.scope.now) self.entry.function
+            (option_map (λ x. shape x.now) written.now.length)) }
     {
         let length = self.length(symbols, written.length)?;
         let resolved = self.resolve(written);

@@ -65,7 +65,8 @@ impl<'w, 'a> View<'w, 'a> {
     #[tactic(auto, using(crate::proofs::SymbolLaws::notes))]
     fn known(self, symbols: &mut Symbols, name: Name<'_>) -> Result<Option<Entry>, NoMemory>
         ensures entry { IfOk result (λ entry. entry ≡ known_in self.entry.scope.now name.entry.text.now) }
-        ensures names { OnOk result (symbols.new ≡ symbols.old ++ use_of (context_of self.entry.scope.now) self.entry.function (name_shape name.entry)) }
+        ensures names { OnOk result (symbols.new ≡ symbols.old ++ use_of (context_of self.entry.scope.now) self.entry.function
+            (name_shape name.entry)) }
     {
         let Some(entry) = self.scope.known(name.text) else {
             return Ok(None);
@@ -91,7 +92,8 @@ impl<'w, 'a> View<'w, 'a> {
 
     /// A member by its name.
     fn field(self, access: Access<'_>, base: Result<Found, Failure>) -> Result<Found, Failure>
-        ensures { result ≡ field_part (context_of self.entry.scope.now) access.entry.span (name_shape access.entry.name) access.entry.arrow base }
+        ensures { result ≡ field_part (context_of self.entry.scope.now) access.entry.span (name_shape access.entry.name) access.entry.arrow
+            base }
     {
         let base = base?;
         match owner(access.arrow, base.thing) {
@@ -112,7 +114,8 @@ impl<'w, 'a> View<'w, 'a> {
         expr: &Expr<'_>,
     ) -> Result<Result<Found, Failure>, NoMemory>
         ensures judged { IfOk result (λ found. found ≡ found_in (context_of self.entry.scope.now) (shape expr.now)) }
-        ensures names { OnOk result (symbols.new ≡ symbols.old ++ names_in (context_of self.entry.scope.now) self.entry.function (shape expr.now)) }
+        ensures names { OnOk result (symbols.new ≡ symbols.old ++ names_in (context_of self.entry.scope.now) self.entry.function
+            (shape expr.now)) }
     {
         match &expr.kind {
             ExprKind::Number { value, unsigned } => Ok(Ok(number(*value, *unsigned))),
@@ -161,10 +164,12 @@ impl<'w, 'a> View<'w, 'a> {
         params: &[ThingType],
         args: &[Expr<'_>],
     ) -> Result<Arguments, NoMemory>
-        ensures breaks { IfOk result (λ all. all.breaks ≡ arguments_break params.now (types_of (context_of self.entry.scope.now) (shapes args.now))) }
+        ensures breaks { IfOk result (λ all. all.breaks
+            ≡ arguments_break params.now (types_of (context_of self.entry.scope.now) (shapes args.now))) }
         ensures miscounts { IfOk result (λ all. all.miscounts ≡ not (nat_eq (length params.now) (length args.now))) }
         ensures failure { IfOk result (λ all. all.failure ≡ failure_of_all (context_of self.entry.scope.now) (shapes args.now)) }
-        ensures names { OnOk result (symbols.new ≡ symbols.old ++ names_in_all (context_of self.entry.scope.now) self.entry.function (shapes args.now)) }
+        ensures names { OnOk result (symbols.new ≡ symbols.old ++ names_in_all (context_of self.entry.scope.now) self.entry.function
+            (shapes args.now)) }
     {
         let mut breaks = false;
         let mut failure = None;

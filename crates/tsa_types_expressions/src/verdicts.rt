@@ -1,6 +1,7 @@
 //! What each node of an expression comes to by its parts: what it is found to be, or the first premise that fails.
 ghost use Rattle.std.specs.Prelude.{◌≡◌};
-ghost use Rattle.tsa_types_expressions.specs.Found.{prefix_constant as spec_prefix_constant, binary_constant as spec_binary_constant, index_constant as spec_index_constant, number_in};
+ghost use Rattle.tsa_types_expressions.specs.Found.{prefix_constant as spec_prefix_constant, binary_constant as spec_binary_constant};
+ghost use Rattle.tsa_types_expressions.specs.Found.{index_constant as spec_index_constant, number_in};
 ghost use Rattle.tsa_types_expressions.specs.Parts.{found_thing, found_at, name_part, prefix_part, binary_part, index_part};
 ghost use Rattle.tsa_types_expressions.specs.Verdicts.{at as spec_at};
 ghost use Rattle.tsa_tree.specs.types.Constants.{as_truth as spec_as_truth, go_on, worked_binary as spec_worked_binary};

@@ -1,6 +1,7 @@
 //! What the kinds of types are (C11 6.2.5).
 ghost use Rattle.std.specs.Prelude.{◌≡◌};
-ghost use Rattle.tsa_tree.specs.types.Operands.{integer_kind, unsigned_kind, pointer_kind, target_of as spec_target_of, structure_of as spec_structure_of, same_target, keeps_const as spec_keeps};
+ghost use Rattle.tsa_tree.specs.types.Operands.{integer_kind, unsigned_kind, pointer_kind, target_of as spec_target_of};
+ghost use Rattle.tsa_tree.specs.types.Operands.{structure_of as spec_structure_of, same_target, keeps_const as spec_keeps};
 
 use tsa_tree::kind::Kind;
 

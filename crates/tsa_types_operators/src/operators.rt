@@ -1,6 +1,11 @@
 //! The rules of operators, asked operand by operand, and the types of what they give (C11 6.5).
 ghost use Rattle.std.specs.Prelude.{◌≡◌, not};
-ghost use Rattle.tsa_tree.specs.types.Operands.{lacks, is_integer as spec_is_integer, either_unsigned, breaks_prefix as spec_breaks_prefix, breaks_binary as spec_breaks_binary, breaks_index as spec_breaks_index, breaks_integers as spec_integers, breaks_bits as spec_bits, address_of as spec_address, followed as spec_followed, prefix_type as spec_prefix_type, common as spec_common, common_type, binary_type as spec_binary_type, breaks_comparison as spec_comparison, is_scalar as spec_is_scalar};
+ghost use Rattle.tsa_tree.specs.types.Operands.{lacks, is_integer as spec_is_integer, either_unsigned, breaks_prefix as spec_breaks_prefix};
+ghost use Rattle.tsa_tree.specs.types.Operands.{breaks_binary as spec_breaks_binary, breaks_index as spec_breaks_index};
+ghost use Rattle.tsa_tree.specs.types.Operands.{breaks_integers as spec_integers, breaks_bits as spec_bits, address_of as spec_address};
+ghost use Rattle.tsa_tree.specs.types.Operands.{followed as spec_followed, prefix_type as spec_prefix_type, common as spec_common};
+ghost use Rattle.tsa_tree.specs.types.Operands.{common_type, binary_type as spec_binary_type, breaks_comparison as spec_comparison};
+ghost use Rattle.tsa_tree.specs.types.Operands.{is_scalar as spec_is_scalar};
 
 use crate::values::{
     comparable, is_array, is_integer, is_scalar, is_struct_place, is_unsigned, place, single,

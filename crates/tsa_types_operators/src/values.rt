@@ -1,6 +1,10 @@
 //! What values and places are (C11 6.3.2.1), and which values go to which things.
 ghost use Rattle.std.specs.Prelude.{◌≡◌};
-ghost use Rattle.tsa_tree.specs.types.Operands.{is_single as spec_is_single, is_integer as spec_is_integer, is_unsigned as spec_is_unsigned, is_pointer as spec_is_pointer, is_scalar as spec_is_scalar, is_array as spec_is_array, target as spec_target, struct_of as spec_struct_of, is_struct_place as spec_is_struct_place, comparable as spec_comparable, goes_to as spec_goes, element_type as spec_element_type};
+ghost use Rattle.tsa_tree.specs.types.Operands.{is_single as spec_is_single, is_integer as spec_is_integer};
+ghost use Rattle.tsa_tree.specs.types.Operands.{is_unsigned as spec_is_unsigned, is_pointer as spec_is_pointer};
+ghost use Rattle.tsa_tree.specs.types.Operands.{is_scalar as spec_is_scalar, is_array as spec_is_array, target as spec_target};
+ghost use Rattle.tsa_tree.specs.types.Operands.{struct_of as spec_struct_of, is_struct_place as spec_is_struct_place};
+ghost use Rattle.tsa_tree.specs.types.Operands.{comparable as spec_comparable, goes_to as spec_goes, element_type as spec_element_type};
 ghost use Rattle.tsa_tree.specs.types.Types.{single as spec_single, value as spec_value, place as spec_place};
 
 use crate::kinds::{

@@ -1,5 +1,6 @@
 -- Names in a list: what a search finds among them where they rise, and a further one.
-use Rattle.std.proofs.Common.{◌≡◌, ◌∙◌, ℕ, ◌+◌, zero, suc, ◌<◌, ◌≤◌, arith, Bool, true, false, nat_eq, if◌then◌else◌, List, [], ◌∷◌, drop, length, get_or, Option, None, refl, sym, ap}
+use Rattle.std.proofs.Common.{◌≡◌, ◌∙◌, ℕ, ◌+◌, zero, suc, ◌<◌, ◌≤◌, arith, Bool, true, false, nat_eq, if◌then◌else◌, List, [], ◌∷◌, drop}
+use Rattle.std.proofs.Common.{length, get_or, Option, None, refl, sym, ap}
 use Rattle.std.specs.List.{HoldsAt}
 use Rattle.std.specs.List.Sorted.{IsNonDecreasingBy, IsPartitionPoint}
 use Rattle.std.specs.Ordering.{nat_cmp, ordering_index}

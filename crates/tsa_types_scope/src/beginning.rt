@@ -4,7 +4,8 @@ ghost use Rattle.tsa_tree.specs.attributes.Syntax.{attr_shapes};
 ghost use Rattle.tsa_tree.specs.expressions.Shapes.{name_shape};
 ghost use Rattle.tsa_tree.specs.units.Shapes.{item_shape, item_shapes};
 ghost use Rattle.tsa_tree.specs.units.Syntax.{UnitItem};
-ghost use Rattle.tsa_tree.specs.types.Units.{with_tag, tags_behind, is_capability as spec_is_capability, is_marked as spec_is_marked, locks_of as spec_locks_of, outset as spec_outset};
+ghost use Rattle.tsa_tree.specs.types.Units.{with_tag, tags_behind, is_capability as spec_is_capability, is_marked as spec_is_marked};
+ghost use Rattle.tsa_tree.specs.types.Units.{locks_of as spec_locks_of, outset as spec_outset};
 
 use crate::names::Names;
 use crate::scope::Scope;
@@ -34,7 +35,8 @@ pub fn next_number(number: u32) -> Result<u32, NoMemory>
 
 /// Notes the tag of an item. A struct takes the number, and what is told is the number of the next one.
 fn note_item<'a>(tags: &mut Names<'a, Tag>, number: u32, item: &Item<'a>) -> Result<u32, NoMemory>
-    ensures { IfOk result (λ next. (rest : List UnitItem) → tags_behind tags.new next rest ≡ tags_behind tags.old number (item_shape item.now ∷ rest)) }
+    ensures { IfOk result (λ next. (rest : List UnitItem)
+        → tags_behind tags.new next rest ≡ tags_behind tags.old number (item_shape item.now ∷ rest)) }
 {
     match item {
         Item::Structure(def) => {

@@ -2,7 +2,8 @@
 ghost use Rattle.std.specs.Prelude.{◌≡◌, ◌+◌, ◌-◌, ◌^◌, ◌++◌, ◌∷◌, [], not, true, false, take, slice_get, option_map, OnOk, OnErr, IfOk};
 ghost use Rattle.tsa_tree.specs.expressions.Shapes.{name_shape};
 ghost use Rattle.tsa_tree.specs.types.Heads.{bodied};
-ghost use Rattle.tsa_tree.specs.types.Scopes.{with_struct, with_owned, is_taken, with_name, with_names, with_named, with_functions, with_globals, with_locals, is_named_taken, further};
+ghost use Rattle.tsa_tree.specs.types.Scopes.{with_struct, with_owned, is_taken, with_name, with_names, with_named, with_functions};
+ghost use Rattle.tsa_tree.specs.types.Scopes.{with_globals, with_locals, is_named_taken, further};
 
 use crate::names::Names;
 use crate::scope::{FunctionTypes, Scope};

@@ -11,7 +11,8 @@ use Rattle.tsa_tree.specs.statements.Syntax.{Simple, ForInit}
 use Rattle.tsa_tree.specs.types.Operands.{is_scalar}
 use Rattle.tsa_tree.specs.types.Premises.{Premise, or_else, first}
 use Rattle.tsa_tree.specs.types.Scopes.{Scope, context_of}
-use Rattle.tsa_tree.specs.types.Statements.{init_premises, behind_init, is_again, unless_again, for_test, test_premises, step_premises, for_premises}
+use Rattle.tsa_tree.specs.types.Statements.{init_premises, behind_init, is_again, unless_again, for_test, test_premises, step_premises}
+use Rattle.tsa_tree.specs.types.Statements.{for_premises}
 use Rattle.tsa_types_expressions.specs.Found.{found_in}
 use Rattle.tsa_types_expressions.proofs.Steps.{first_append}
 use Rattle.tsa_types_simple.specs.declared.locals.Told.{Told}

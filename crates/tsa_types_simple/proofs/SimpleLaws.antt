@@ -1,5 +1,6 @@
 -- What is wrong with assignments, tests and values, by what their expressions were found to be.
-use Rattle.std.proofs.Common.{◌≡◌, ◌∙◌, ℕ, Bool, true, false, not, ◌||◌, List, [], ◌∷◌, ◌++◌, Option, Some, None, option_map, Result, Ok, Err, refl, sym, ap, if◌then◌else◌}
+use Rattle.std.proofs.Common.{◌≡◌, ◌∙◌, ℕ, Bool, true, false, not, ◌||◌, List, [], ◌∷◌, ◌++◌, Option, Some, None, option_map, Result, Ok}
+use Rattle.std.proofs.Common.{Err, refl, sym, ap, if◌then◌else◌}
 use Rattle.std.specs.Borrow.{Bor}
 use Rattle.std.specs.Result.{result_err}
 use Rattle.tsa_base.specs.declared.token.Span.{Span}
@@ -23,7 +24,8 @@ use Rattle.tsa_tree.specs.types.Known.{Context}
 use Rattle.tsa_tree.specs.types.Operands.{lacks, goes_to}
 use Rattle.tsa_tree.specs.types.Premises.{Premise, premise, or_else, first}
 use Rattle.tsa_tree.specs.types.Scopes.{Scope}
-use Rattle.tsa_tree.specs.types.Simple.{assignment_breaks, is_written_to, written_type, assignment_premises, tested, tested_premises, is_void, return_premises}
+use Rattle.tsa_tree.specs.types.Simple.{assignment_breaks, is_written_to, written_type, assignment_premises, tested, tested_premises}
+use Rattle.tsa_tree.specs.types.Simple.{is_void, return_premises}
 use Rattle.tsa_tree.specs.types.Statements.{Around, leaf_premises, init_premises, step_premises, behind_init, is_again}
 use Rattle.tsa_tree.specs.types.Symbols.{names_in_leaf, names_in_step, names_in_for_init}
 use Rattle.tsa_types_expressions.specs.declared.constants.Found.{Found}

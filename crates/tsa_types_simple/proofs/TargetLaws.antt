@@ -4,7 +4,8 @@ use Rattle.tsa_base.specs.declared.token.Span.{Span}
 use Rattle.tsa_tree.specs.expressions.Syntax.{Expression}
 use Rattle.tsa_tree.specs.statements.Syntax.{Statements, block}
 use Rattle.tsa_tree.specs.declared.number.Number.{Number}
-use Rattle.tsa_tree.specs.types.Targets.{Labels, labels_behind, labels_behind_all, Cases, cases_behind, cases_behind_all, default_in, default_in_all}
+use Rattle.tsa_tree.specs.types.Targets.{Labels, labels_behind, labels_behind_all, Cases, cases_behind, cases_behind_all, default_in}
+use Rattle.tsa_tree.specs.types.Targets.{default_in_all}
 
 pub labels_block : (known : Labels) (items : Statements) (span : Span) → labels_behind known (block items span) ≡ labels_behind_all known items
 unfolding labels_behind

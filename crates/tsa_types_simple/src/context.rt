@@ -2,7 +2,8 @@
 ghost use Rattle.std.specs.Prelude.{◌≡◌, ◌∷◌, [], not, is_some, true};
 ghost use Rattle.tsa_tree.specs.expressions.Shapes.{name_shape};
 ghost use Rattle.tsa_tree.specs.types.Premises.{first};
-ghost use Rattle.tsa_tree.specs.types.Statements.{is_elsewhere as spec_is_elsewhere, is_case_again as spec_is_case_again, default_premises, label_premises, goto_premises, break_premises, continue_premises, in_a_loop};
+ghost use Rattle.tsa_tree.specs.types.Statements.{is_elsewhere as spec_is_elsewhere, is_case_again as spec_is_case_again, default_premises};
+ghost use Rattle.tsa_tree.specs.types.Statements.{label_premises, goto_premises, break_premises, continue_premises, in_a_loop};
 ghost use Rattle.tsa_types_simple.specs.Cases.{case_by};
 
 use std::marker::Model;
@@ -107,7 +108,8 @@ impl<'t, 'a> Around<'t, 'a> {
     pub fn in_a_switch<'s>(&self, cases: &'s Cases, default: Option<u32>) -> Around<'s, 'a>
     where
         't: 's,
-        ensures { result ≡ record { function = self.now.function; result = self.now.result; labels = self.now.labels; in_loop = self.now.in_loop; in_switch = true; cases = cases.now; default = default } }
+        ensures { result ≡ record { function = self.now.function; result = self.now.result; labels = self.now.labels; in_loop =
+            self.now.in_loop; in_switch = true; cases = cases.now; default = default } }
     {
         Around {
             function: self.function,

@@ -24,7 +24,8 @@ pub fn given(
     expr: Option<&Expr<'_>>,
 ) -> Result<Option<Result<Found, Failure>>, NoMemory>
     ensures found { IfOk result (λ found. found ≡ option_map (λ x. found_in (context_of view.entry.scope.now) (shape x.now)) expr.entry) }
-    ensures names { OnOk result (symbols.new ≡ symbols.old ++ names_in_given (context_of view.entry.scope.now) view.entry.function (option_map (λ x. shape x.now) expr.entry)) }
+    ensures names { OnOk result (symbols.new ≡ symbols.old ++ names_in_given (context_of view.entry.scope.now) view.entry.function
+        (option_map (λ x. shape x.now) expr.entry)) }
 {
     match expr {
         Some(expr) => {
@@ -42,8 +43,10 @@ pub fn simple(
     symbols: &mut Symbols,
     stmt: &Stmt<'_>,
 ) -> Result<Option<Failure>, NoMemory>
-    ensures judged { IfOk result (λ failure. failure ≡ first (alone_premises view.entry.scope.now (stmt_shape stmt.now.kind stmt.now.span))) }
-    ensures names { OnOk result (symbols.new ≡ symbols.old ++ alone_names view.entry.scope.now view.entry.function (stmt_shape stmt.now.kind stmt.now.span)) }
+    ensures judged { IfOk result (λ failure. failure ≡ first (alone_premises view.entry.scope.now (stmt_shape stmt.now.kind stmt.now.span)))
+        }
+    ensures names { OnOk result (symbols.new ≡ symbols.old
+        ++ alone_names view.entry.scope.now view.entry.function (stmt_shape stmt.now.kind stmt.now.span)) }
 {
     match &stmt.kind {
         StmtKind::Eval(tree) => {

@@ -1,4 +1,5 @@
-//! Simple statements, locals and the heads of `for` loops are typed (C11 6.7, 6.8.3, 6.8.5): what is wrong with them, and what their names mean.
+//! Simple statements, locals and the heads of `for` loops are typed (C11 6.7, 6.8.3, 6.8.5): what is wrong with them, and what their names
+//! mean.
 #![tactic(auto)]
 
 mod context;

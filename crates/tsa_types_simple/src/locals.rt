@@ -1,7 +1,9 @@
 //! Locals of a body (C11 6.8.2): each is judged where what stands before it is known, and known behind its initialiser.
 ghost use Rattle.std.specs.Prelude.{◌≡◌, ◌++◌, IfOk, OnOk, option_map};
 ghost use Rattle.tsa_tree.specs.declarations.Shapes.{decl_shape, init_shape, init_shapes};
-ghost use Rattle.tsa_tree.specs.types.Locals.{has_type as spec_has_type, can_not_go, init_breaks, names_in, names_in_init as premises_in_init, names_in_items as premises_in_items, local_premises, behind_local};
+ghost use Rattle.tsa_tree.specs.types.Locals.{has_type as spec_has_type, can_not_go, init_breaks, names_in};
+ghost use Rattle.tsa_tree.specs.types.Locals.{names_in_init as premises_in_init, names_in_items as premises_in_items, local_premises};
+ghost use Rattle.tsa_tree.specs.types.Locals.{behind_local};
 ghost use Rattle.tsa_tree.specs.types.Premises.{first};
 ghost use Rattle.tsa_tree.specs.types.Scopes.{context_of, is_taken};
 ghost use Rattle.tsa_tree.specs.types.Symbols.{names_in_init, names_in_items, names_in_given_init, names_in_local};
@@ -82,7 +84,8 @@ fn names_failure(
     init: &Init<'_>,
 ) -> Result<Option<Failure>, NoMemory>
     ensures judged { IfOk result (λ failure. failure ≡ first (premises_in_init view.entry.scope.now (init_shape init.now))) }
-    ensures names { OnOk result (symbols.new ≡ symbols.old ++ names_in_init (context_of view.entry.scope.now) view.entry.function (init_shape init.now)) }
+    ensures names { OnOk result (symbols.new ≡ symbols.old ++ names_in_init (context_of view.entry.scope.now) view.entry.function
+        (init_shape init.now)) }
 {
     match init {
         Init::Value(expr) => {
@@ -101,7 +104,8 @@ fn items_failure(
     items: &[Init<'_>],
 ) -> Result<Option<Failure>, NoMemory>
     ensures judged { IfOk result (λ failure. failure ≡ first (premises_in_items view.entry.scope.now (init_shapes items.now))) }
-    ensures names { OnOk result (symbols.new ≡ symbols.old ++ names_in_items (context_of view.entry.scope.now) view.entry.function (init_shapes items.now)) }
+    ensures names { OnOk result (symbols.new ≡ symbols.old ++ names_in_items (context_of view.entry.scope.now) view.entry.function
+        (init_shapes items.now)) }
 {
     let mut failure = None;
     'each: for item in items {
@@ -120,7 +124,8 @@ fn initialiser(
 ) -> Result<Initial, NoMemory>
     ensures breaks { IfOk result (λ told. told.breaks ≡ can_not_go view.entry.scope.now thing (init_shape init.now)) }
     ensures failure { IfOk result (λ told. told.failure ≡ first (premises_in_init view.entry.scope.now (init_shape init.now))) }
-    ensures names { OnOk result (symbols.new ≡ symbols.old ++ names_in_init (context_of view.entry.scope.now) view.entry.function (init_shape init.now)) }
+    ensures names { OnOk result (symbols.new ≡ symbols.old ++ names_in_init (context_of view.entry.scope.now) view.entry.function
+        (init_shape init.now)) }
 {
     match init {
         Init::Value(expr) => {
@@ -148,9 +153,12 @@ fn initial_of(
     thing: ThingType,
     init: Option<&Init<'_>>,
 ) -> Result<Initial, NoMemory>
-    ensures breaks { IfOk result (λ told. told.breaks ≡ init_breaks view.entry.scope.now thing (option_map (λ x. init_shape x.now) init.entry)) }
-    ensures failure { IfOk result (λ told. told.failure ≡ first (names_in view.entry.scope.now (option_map (λ x. init_shape x.now) init.entry))) }
-    ensures names { OnOk result (symbols.new ≡ symbols.old ++ names_in_given_init (context_of view.entry.scope.now) view.entry.function (option_map (λ x. init_shape x.now) init.entry)) }
+    ensures breaks { IfOk result (λ told. told.breaks
+        ≡ init_breaks view.entry.scope.now thing (option_map (λ x. init_shape x.now) init.entry)) }
+    ensures failure { IfOk result (λ told. told.failure
+        ≡ first (names_in view.entry.scope.now (option_map (λ x. init_shape x.now) init.entry))) }
+    ensures names { OnOk result (symbols.new ≡ symbols.old ++ names_in_given_init (context_of view.entry.scope.now) view.entry.function
+        (option_map (λ x. init_shape x.now) init.entry)) }
 {
     match init {
         Some(init) => initialiser(view, symbols, thing, init),

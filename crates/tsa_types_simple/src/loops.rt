@@ -84,7 +84,8 @@ fn third(
     step: Option<&Stmt<'_>>,
 ) -> Result<Option<Failure>, NoMemory>
     ensures judged { IfOk result (λ failure. failure ≡ first (step_premises view.entry.scope.now (step_given step.entry))) }
-    ensures names { OnOk result (symbols.new ≡ symbols.old ++ names_in_step view.entry.scope.now view.entry.function (step_given step.entry)) }
+    ensures names { OnOk result (symbols.new ≡ symbols.old
+        ++ names_in_step view.entry.scope.now view.entry.function (step_given step.entry)) }
 {
     match step {
         Some(part) => simple(view, symbols, part),
@@ -128,9 +129,12 @@ pub fn for_head<'a>(
     function: u32,
     head: &ForHead<'_, 'a>,
 ) -> Result<Option<Failure>, NoMemory>
-    ensures judged { IfOk result (λ failure. failure ≡ first (for_premises scope.old (init_given head.now.init) (option_map (λ x. shape x.now) head.now.test) (step_given head.now.step) head.now.span)) }
+    ensures judged { IfOk result (λ failure. failure
+        ≡ first (for_premises scope.old (init_given head.now.init) (option_map (λ x. shape x.now) head.now.test) (step_given head.now.step)
+        head.now.span)) }
     ensures behind { OnOk result (scope.new ≡ behind_init scope.old (init_given head.now.init)) }
-    ensures names { OnOk result (symbols.new ≡ symbols.old ++ names_in_for scope.old function (init_given head.now.init) (option_map (λ x. shape x.now) head.now.test) (step_given head.now.step)) }
+    ensures names { OnOk result (symbols.new ≡ symbols.old ++ names_in_for scope.old function (init_given head.now.init)
+        (option_map (λ x. shape x.now) head.now.test) (step_given head.now.step)) }
 {
     let init = first_part(scope, symbols, function, head.init)?;
     let view = View { scope, function };

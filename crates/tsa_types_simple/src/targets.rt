@@ -4,7 +4,8 @@ ghost use Rattle.tsa_tree.specs.expressions.Shapes.{shape};
 ghost use Rattle.tsa_tree.specs.statements.Shapes.{stmt_shape, stmt_shapes};
 ghost use Rattle.tsa_tree.specs.types.DeclaredTypes.{value_in};
 ghost use Rattle.tsa_tree.specs.types.Scopes.{context_of};
-ghost use Rattle.tsa_tree.specs.types.Targets.{with_label, labels_behind, labels_behind_all, with_value, cases_behind, cases_behind_all, or_place as spec_or_place, default_in, default_in_all};
+ghost use Rattle.tsa_tree.specs.types.Targets.{with_label, labels_behind, labels_behind_all, with_value, cases_behind, cases_behind_all};
+ghost use Rattle.tsa_tree.specs.types.Targets.{or_place as spec_or_place, default_in, default_in_all};
 
 use tsa_base::NoMemory;
 use tsa_types_expressions::View;
@@ -78,7 +79,8 @@ fn note_case(cases: &mut Cases, value: Option<Number>, place: u32) -> Result<(),
 #[cycle(casing)]
 #[tactic(auto, unfolding(tsa_tree::specs::types::Targets::cases_behind, tsa_tree::specs::types::Targets::cases_behind_all))]
 pub fn collect_cases(view: View<'_, '_>, cases: &mut Cases, stmt: &Stmt<'_>) -> Result<(), NoMemory>
-    ensures { OnOk result (cases.new ≡ cases_behind (value_in (context_of view.entry.scope.now)) cases.old (stmt_shape stmt.now.kind stmt.now.span)) }
+    ensures { OnOk result (cases.new ≡ cases_behind (value_in (context_of view.entry.scope.now)) cases.old
+        (stmt_shape stmt.now.kind stmt.now.span)) }
 {
     match &stmt.kind {
         StmtKind::Block(items) => collect_all_cases(view, cases, items),

@@ -1,7 +1,8 @@
 //! What is wrong with assignments, tests and values of statements (C11 6.5.16, 6.8.4, 6.8.6.4), by what their expressions were found to be.
 ghost use Rattle.std.specs.Prelude.{◌≡◌};
 ghost use Rattle.tsa_types_simple.specs.Simple.{assigned, tested_by, valued, returned};
-ghost use Rattle.tsa_tree.specs.types.Simple.{assignment_breaks as spec_breaks, is_written_to as spec_written, written_type as spec_written_type, is_void as spec_is_void};
+ghost use Rattle.tsa_tree.specs.types.Simple.{assignment_breaks as spec_breaks, is_written_to as spec_written};
+ghost use Rattle.tsa_tree.specs.types.Simple.{written_type as spec_written_type, is_void as spec_is_void};
 ghost use Rattle.tsa_types_expressions.specs.Parts.{found_thing};
 
 use tsa_base::Span;

@@ -6,7 +6,8 @@ use Rattle.tsa_base.proofs.Numbers.{plus_one}
 use Rattle.tsa_tree.specs.declared.stmt.Stmt.{Stmt}
 use Rattle.tsa_tree.specs.expressions.Syntax.{Identifier, Expression}
 use Rattle.tsa_tree.specs.statements.Shapes.{stmt_shapes}
-use Rattle.tsa_tree.specs.statements.Syntax.{Simple, ForInit, Statement, block, if_alone, if_else, while_loop, do_loop, for_loop, switch, case, otherwise, label, Statements}
+use Rattle.tsa_tree.specs.statements.Syntax.{Simple, ForInit, Statement, block, if_alone, if_else, while_loop, do_loop, for_loop, switch}
+use Rattle.tsa_tree.specs.statements.Syntax.{case, otherwise, label, Statements}
 use Rattle.tsa_types_expressions.specs.declared.refusal.TypeRefusal.{TypeRefusal}
 use Rattle.tsa_tree.specs.types.Expressions.{premises_of}
 use Rattle.tsa_types_expressions.specs.Judgements.{Judges, judgement}
@@ -15,7 +16,8 @@ use Rattle.tsa_tree.specs.types.Premises.{Premise, or_else, failure_of, first}
 use Rattle.tsa_tree.specs.declared.premise.Failure.{Failure}
 use Rattle.tsa_tree.specs.types.Scopes.{Scope, context_of, further}
 use Rattle.tsa_tree.specs.types.Simple.{tested, tested_premises}
-use Rattle.tsa_tree.specs.types.Statements.{Around, in_a_loop, in_a_switch, behind_init, case_premises, default_premises, label_premises, for_premises, statement_premises, statements_premises, behind, behind_all}
+use Rattle.tsa_tree.specs.types.Statements.{Around, in_a_loop, in_a_switch, behind_init, case_premises, default_premises, label_premises}
+use Rattle.tsa_tree.specs.types.Statements.{for_premises, statement_premises, statements_premises, behind, behind_all}
 use Rattle.tsa_tree.specs.types.Targets.{declared_in, declared_in_all}
 use Rattle.tsa_types_expressions.proofs.Sequences.{judges_some, judges_rest}
 use Rattle.tsa_tree.proofs.statements.Trees.{shape_of}

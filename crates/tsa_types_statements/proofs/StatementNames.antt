@@ -6,7 +6,8 @@ use Rattle.tsa_tree.specs.expressions.Syntax.{Identifier, Expression}
 use Rattle.tsa_tree.specs.declared.stmt.Stmt.{Stmt}
 use Rattle.tsa_tree.proofs.statements.Trees.{shape_of}
 use Rattle.tsa_tree.specs.statements.Shapes.{stmt_shapes}
-use Rattle.tsa_tree.specs.statements.Syntax.{Simple, ForInit, Statement, block, if_alone, if_else, while_loop, do_loop, for_loop, switch, case, otherwise, label, Statements}
+use Rattle.tsa_tree.specs.statements.Syntax.{Simple, ForInit, Statement, block, if_alone, if_else, while_loop, do_loop, for_loop, switch}
+use Rattle.tsa_tree.specs.statements.Syntax.{case, otherwise, label, Statements}
 use Rattle.tsa_tree.specs.types.Scopes.{Scope, context_of, further}
 use Rattle.tsa_tree.specs.types.Statements.{behind_init, behind}
 use Rattle.tsa_tree.specs.types.Symbols.{Names, names_in, names_in_for, names_in_statement, names_in_statements}

@@ -20,8 +20,10 @@ pub fn leaf(
     around: &Around<'_, '_>,
     stmt: &Stmt<'_>,
 ) -> Result<Option<Failure>, NoMemory>
-    ensures judged { IfOk result (λ failure. failure ≡ first (leaf_premises around.now view.entry.scope.now (stmt_shape stmt.now.kind stmt.now.span))) }
-    ensures names { OnOk result (symbols.new ≡ symbols.old ++ names_in_leaf view.entry.scope.now view.entry.function (stmt_shape stmt.now.kind stmt.now.span)) }
+    ensures judged { IfOk result (λ failure. failure
+        ≡ first (leaf_premises around.now view.entry.scope.now (stmt_shape stmt.now.kind stmt.now.span))) }
+    ensures names { OnOk result (symbols.new ≡ symbols.old
+        ++ names_in_leaf view.entry.scope.now view.entry.function (stmt_shape stmt.now.kind stmt.now.span)) }
 {
     match &stmt.kind {
         StmtKind::Break => Ok(around.break_failure(stmt.span)),

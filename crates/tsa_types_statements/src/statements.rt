@@ -39,8 +39,10 @@ impl<'a> Walk<'a> {
     ghost use Rattle.tsa_tree.specs.types.Premises.{or_else, first};
     ghost use Rattle.tsa_tree.specs.types.Scopes.{context_of, further};
     ghost use Rattle.tsa_tree.specs.types.Simple.{tested as spec_tested, tested_premises};
-    ghost use Rattle.tsa_tree.specs.types.Statements.{in_a_loop, in_a_switch, behind_init, case_premises, for_premises, leaf_premises, statement_premises, statements_premises, behind, behind_all};
-    ghost use Rattle.tsa_tree.specs.types.Symbols.{names_in, names_in_for, names_in_leaf, names_in_local, names_in_statement, names_in_statements};
+    ghost use Rattle.tsa_tree.specs.types.Statements.{in_a_loop, in_a_switch, behind_init, case_premises, for_premises, leaf_premises};
+    ghost use Rattle.tsa_tree.specs.types.Statements.{statement_premises, statements_premises, behind, behind_all};
+    ghost use Rattle.tsa_tree.specs.types.Symbols.{names_in, names_in_for, names_in_leaf, names_in_local, names_in_statement};
+    ghost use Rattle.tsa_tree.specs.types.Symbols.{names_in_statements};
     ghost use Rattle.tsa_tree.specs.types.Targets.{declared_by_init, declared_in, declared_in_all};
     ghost use Rattle.tsa_types_expressions.specs.Judgements.{Judges};
 
@@ -52,9 +54,11 @@ impl<'a> Walk<'a> {
         span: Span,
         test: &Expr<'_>,
     ) -> Result<Option<Failure>, NoMemory>
-        ensures judged { IfOk result (λ failure. failure ≡ first (tested_premises (context_of self.old.scope) is_scalar span (shape test.now))) }
+        ensures judged { IfOk result (λ failure. failure
+            ≡ first (tested_premises (context_of self.old.scope) is_scalar span (shape test.now))) }
         ensures kept { OnOk result (self.new.scope ≡ self.old.scope) }
-        ensures names { OnOk result (self.new.symbols ≡ self.old.symbols ++ names_in (context_of self.old.scope) function (shape test.now)) }
+        ensures names { OnOk result (self.new.symbols ≡ self.old.symbols ++ names_in (context_of self.old.scope) function (shape test.now))
+            }
     {
         let view = View {
             scope: &self.scope,
@@ -72,9 +76,11 @@ impl<'a> Walk<'a> {
         span: Span,
         value: &Expr<'_>,
     ) -> Result<Option<Failure>, NoMemory>
-        ensures judged { IfOk result (λ failure. failure ≡ first (tested_premises (context_of self.old.scope) is_integer span (shape value.now))) }
+        ensures judged { IfOk result (λ failure. failure
+            ≡ first (tested_premises (context_of self.old.scope) is_integer span (shape value.now))) }
         ensures kept { OnOk result (self.new.scope ≡ self.old.scope) }
-        ensures names { OnOk result (self.new.symbols ≡ self.old.symbols ++ names_in (context_of self.old.scope) function (shape value.now)) }
+        ensures names { OnOk result (self.new.symbols ≡ self.old.symbols ++ names_in (context_of self.old.scope) function (shape value.now))
+            }
     {
         let view = View {
             scope: &self.scope,
@@ -87,7 +93,8 @@ impl<'a> Walk<'a> {
     /// The test of a `do` by itself, which is judged at its first word; its names are noted behind its body.
     #[tactic(auto, using(tsa_types_simple::proofs::SimpleLaws::tests))]
     fn test_ahead(&self, span: Span, test: &Expr<'_>) -> Result<Option<Failure>, NoMemory>
-        ensures judged { IfOk result (λ failure. failure ≡ first (spec_tested (context_of self.now.scope) is_scalar span (shape test.now) ∷ [])) }
+        ensures judged { IfOk result (λ failure. failure
+            ≡ first (spec_tested (context_of self.now.scope) is_scalar span (shape test.now) ∷ [])) }
     {
         let view = View {
             scope: &self.scope,
@@ -103,7 +110,8 @@ impl<'a> Walk<'a> {
     fn evaluate(&mut self, function: u32, expr: &Expr<'_>) -> Result<(), TypeRefusal>
         ensures judged { Judges (first (premises_of (context_of self.old.scope) (shape expr.now))) result }
         ensures kept { OnOk result (self.new.scope ≡ self.old.scope) }
-        ensures names { OnOk result (self.new.symbols ≡ self.old.symbols ++ names_in (context_of self.old.scope) function (shape expr.now)) }
+        ensures names { OnOk result (self.new.symbols ≡ self.old.symbols ++ names_in (context_of self.old.scope) function (shape expr.now))
+            }
     {
         let view = View {
             scope: &self.scope,
@@ -121,9 +129,11 @@ impl<'a> Walk<'a> {
         span: Span,
         value: &Expr<'_>,
     ) -> Result<Option<Failure>, NoMemory>
-        ensures judged { IfOk result (λ failure. failure ≡ first (case_premises around.now (context_of self.old.scope) (shape value.now) span)) }
+        ensures judged { IfOk result (λ failure. failure
+            ≡ first (case_premises around.now (context_of self.old.scope) (shape value.now) span)) }
         ensures kept { OnOk result (self.new.scope ≡ self.old.scope) }
-        ensures names { OnOk result (self.new.symbols ≡ self.old.symbols ++ names_in (context_of self.old.scope) around.now.function (shape value.now)) }
+        ensures names { OnOk result (self.new.symbols ≡ self.old.symbols ++ names_in (context_of self.old.scope) around.now.function
+            (shape value.now)) }
     {
         let view = View {
             scope: &self.scope,
@@ -153,7 +163,8 @@ impl<'a> Walk<'a> {
     fn alone(&mut self, around: &Around<'_, '_>, stmt: &Stmt<'_>) -> Result<(), TypeRefusal>
         ensures judged { Judges (first (leaf_premises around.now self.old.scope (stmt_shape stmt.now.kind stmt.now.span))) result }
         ensures kept { OnOk result (self.new.scope ≡ self.old.scope) }
-        ensures names { OnOk result (self.new.symbols ≡ self.old.symbols ++ names_in_leaf self.old.scope around.now.function (stmt_shape stmt.now.kind stmt.now.span)) }
+        ensures names { OnOk result (self.new.symbols ≡ self.old.symbols
+            ++ names_in_leaf self.old.scope around.now.function (stmt_shape stmt.now.kind stmt.now.span)) }
     {
         let view = View {
             scope: &self.scope,
@@ -168,7 +179,8 @@ impl<'a> Walk<'a> {
     fn statement(&mut self, around: &Around<'_, 'a>, stmt: &Stmt<'a>) -> Result<(), TypeRefusal>
         ensures judged { Judges (first (statement_premises around.now self.old.scope (stmt_shape stmt.now.kind stmt.now.span))) result }
         ensures behind { OnOk result (self.new.scope ≡ behind self.old.scope (stmt_shape stmt.now.kind stmt.now.span)) }
-        ensures names { OnOk result (self.new.symbols ≡ self.old.symbols ++ names_in_statement self.old.scope around.now.function (stmt_shape stmt.now.kind stmt.now.span)) }
+        ensures names { OnOk result (self.new.symbols ≡ self.old.symbols
+            ++ names_in_statement self.old.scope around.now.function (stmt_shape stmt.now.kind stmt.now.span)) }
     {
         let at = stmt.span;
         match &stmt.kind {
@@ -218,7 +230,8 @@ impl<'a> Walk<'a> {
     fn nested(&mut self, around: &Around<'_, 'a>, stmt: &Stmt<'a>) -> Result<(), TypeRefusal>
         ensures judged { Judges (first (statement_premises around.now self.old.scope (stmt_shape stmt.now.kind stmt.now.span))) result }
         ensures behind { OnOk result (self.new.scope ≡ further (declared_in (stmt_shape stmt.now.kind stmt.now.span)) self.old.scope) }
-        ensures names { OnOk result (self.new.symbols ≡ self.old.symbols ++ names_in_statement self.old.scope around.now.function (stmt_shape stmt.now.kind stmt.now.span)) }
+        ensures names { OnOk result (self.new.symbols ≡ self.old.symbols
+            ++ names_in_statement self.old.scope around.now.function (stmt_shape stmt.now.kind stmt.now.span)) }
     {
         let names = self.scope.names_len();
         self.statement(around, stmt)?;
@@ -235,9 +248,11 @@ impl<'a> Walk<'a> {
         wrong: Option<Failure>,
         body: &Stmt<'a>,
     ) -> Result<(), TypeRefusal>
-        ensures judged { Judges (or_else wrong (first (statement_premises around.now self.old.scope (stmt_shape body.now.kind body.now.span)))) result }
+        ensures judged { Judges (or_else wrong
+            (first (statement_premises around.now self.old.scope (stmt_shape body.now.kind body.now.span)))) result }
         ensures behind { OnOk result (self.new.scope ≡ further (declared_in (stmt_shape body.now.kind body.now.span)) self.old.scope) }
-        ensures names { OnOk result (self.new.symbols ≡ self.old.symbols ++ names_in_statement self.old.scope around.now.function (stmt_shape body.now.kind body.now.span)) }
+        ensures names { OnOk result (self.new.symbols ≡ self.old.symbols
+            ++ names_in_statement self.old.scope around.now.function (stmt_shape body.now.kind body.now.span)) }
     {
         if let Some(failure) = wrong {
             return Err(refused(failure));
@@ -254,9 +269,13 @@ impl<'a> Walk<'a> {
         body: &Stmt<'a>,
         tail: Tail<'_, 'a>,
     ) -> Result<(), TypeRefusal>
-        ensures judged { Judges (first (spec_tested (context_of self.old.scope) is_scalar tail.entry.span (shape tail.entry.test.now) ∷ statement_premises (in_a_loop around.now) self.old.scope (stmt_shape body.now.kind body.now.span) ++ premises_of (context_of self.old.scope) (shape tail.entry.test.now))) result }
+        ensures judged { Judges (first (spec_tested (context_of self.old.scope) is_scalar tail.entry.span (shape tail.entry.test.now) ∷
+            statement_premises (in_a_loop around.now) self.old.scope (stmt_shape body.now.kind body.now.span)
+            ++ premises_of (context_of self.old.scope) (shape tail.entry.test.now))) result }
         ensures behind { OnOk result (self.new.scope ≡ further (declared_in (stmt_shape body.now.kind body.now.span)) self.old.scope) }
-        ensures names { OnOk result (self.new.symbols ≡ self.old.symbols ++ (names_in_statement self.old.scope around.now.function (stmt_shape body.now.kind body.now.span) ++ names_in (context_of self.old.scope) around.now.function (shape tail.entry.test.now))) }
+        ensures names { OnOk result (self.new.symbols ≡ self.old.symbols
+            ++ (names_in_statement self.old.scope around.now.function (stmt_shape body.now.kind body.now.span)
+            ++ names_in (context_of self.old.scope) around.now.function (shape tail.entry.test.now))) }
     {
         let wrong = self.test_ahead(tail.span, tail.test)?;
         if let Err(refusal) = self.after(&around.in_a_loop(), wrong, body) {
@@ -274,9 +293,16 @@ impl<'a> Walk<'a> {
         head: &ForHead<'_, 'a>,
         body: &Stmt<'a>,
     ) -> Result<(), TypeRefusal>
-        ensures judged { Judges (first (for_premises self.old.scope (init_given head.now.init) (option_map (λ x. shape x.now) head.now.test) (step_given head.now.step) head.now.span ++ statement_premises (in_a_loop around.now) (behind_init self.old.scope (init_given head.now.init)) (stmt_shape body.now.kind body.now.span))) result }
-        ensures behind { OnOk result (self.new.scope ≡ further (declared_by_init (init_given head.now.init) + declared_in (stmt_shape body.now.kind body.now.span)) self.old.scope) }
-        ensures names { OnOk result (self.new.symbols ≡ self.old.symbols ++ (names_in_for self.old.scope around.now.function (init_given head.now.init) (option_map (λ x. shape x.now) head.now.test) (step_given head.now.step) ++ names_in_statement (behind_init self.old.scope (init_given head.now.init)) around.now.function (stmt_shape body.now.kind body.now.span))) }
+        ensures judged { Judges (first (for_premises self.old.scope (init_given head.now.init) (option_map (λ x. shape x.now) head.now.test)
+            (step_given head.now.step) head.now.span
+            ++ statement_premises (in_a_loop around.now) (behind_init self.old.scope (init_given head.now.init))
+            (stmt_shape body.now.kind body.now.span))) result }
+        ensures behind { OnOk result (self.new.scope
+            ≡ further (declared_by_init (init_given head.now.init) + declared_in (stmt_shape body.now.kind body.now.span)) self.old.scope) }
+        ensures names { OnOk result (self.new.symbols ≡ self.old.symbols
+            ++ (names_in_for self.old.scope around.now.function (init_given head.now.init) (option_map (λ x. shape x.now) head.now.test)
+            (step_given head.now.step) ++ names_in_statement (behind_init self.old.scope (init_given head.now.init)) around.now.function
+            (stmt_shape body.now.kind body.now.span))) }
     {
         let names = self.scope.names_len();
         let wrong = for_head(&mut self.scope, &mut self.symbols, around.function, head)?;
@@ -295,9 +321,12 @@ impl<'a> Walk<'a> {
         wrong: Option<Failure>,
         body: &Stmt<'a>,
     ) -> Result<(), TypeRefusal>
-        ensures judged { Judges (or_else wrong (first (statement_premises (in_a_switch self.old.scope (stmt_shape body.now.kind body.now.span) around.now) self.old.scope (stmt_shape body.now.kind body.now.span)))) result }
+        ensures judged { Judges (or_else wrong
+            (first (statement_premises (in_a_switch self.old.scope (stmt_shape body.now.kind body.now.span) around.now) self.old.scope
+            (stmt_shape body.now.kind body.now.span)))) result }
         ensures behind { OnOk result (self.new.scope ≡ further (declared_in (stmt_shape body.now.kind body.now.span)) self.old.scope) }
-        ensures names { OnOk result (self.new.symbols ≡ self.old.symbols ++ names_in_statement self.old.scope around.now.function (stmt_shape body.now.kind body.now.span)) }
+        ensures names { OnOk result (self.new.symbols ≡ self.old.symbols
+            ++ names_in_statement self.old.scope around.now.function (stmt_shape body.now.kind body.now.span)) }
     {
         let mut cases = Cases::new(self.scope.allocator());
         let view = View {
@@ -315,7 +344,8 @@ impl<'a> Walk<'a> {
     fn block(&mut self, around: &Around<'_, 'a>, items: &[Stmt<'a>]) -> Result<(), TypeRefusal>
         ensures judged { Judges (first (statements_premises around.now self.old.scope (stmt_shapes items.now))) result }
         ensures behind { OnOk result (self.new.scope ≡ further (declared_in_all (stmt_shapes items.now)) self.old.scope) }
-        ensures names { OnOk result (self.new.symbols ≡ self.old.symbols ++ names_in_statements self.old.scope around.now.function (stmt_shapes items.now)) }
+        ensures names { OnOk result (self.new.symbols ≡ self.old.symbols
+            ++ names_in_statements self.old.scope around.now.function (stmt_shapes items.now)) }
     {
         let names = self.scope.names_len();
         self.statements(around, items)?;
@@ -332,7 +362,8 @@ impl<'a> Walk<'a> {
     ) -> Result<(), TypeRefusal>
         ensures judged { Judges (first (statements_premises around.now self.old.scope (stmt_shapes items.now))) result }
         ensures behind { OnOk result (self.new.scope ≡ behind_all self.old.scope (stmt_shapes items.now)) }
-        ensures names { OnOk result (self.new.symbols ≡ self.old.symbols ++ names_in_statements self.old.scope around.now.function (stmt_shapes items.now)) }
+        ensures names { OnOk result (self.new.symbols ≡ self.old.symbols
+            ++ names_in_statements self.old.scope around.now.function (stmt_shapes items.now)) }
     {
         'each: for stmt in items {
             if let Err(refusal) = self.statement(around, stmt) {

@@ -1,5 +1,6 @@
 -- Functions with their bodies.
-use Rattle.std.proofs.Common.{ℕ, ◌+◌, ◌-◌, ◌≡◌, ◌≢◌, ◌∙◌, Some, None, true, nat_eq, ap, sym, subst, refl, List, [], ◌∷◌, ◌++◌, length, map, option_map, Result, Ok}
+use Rattle.std.proofs.Common.{ℕ, ◌+◌, ◌-◌, ◌≡◌, ◌≢◌, ◌∙◌, Some, None, true, nat_eq, ap, sym, subst, refl, List, [], ◌∷◌, ◌++◌, length, map}
+use Rattle.std.proofs.Common.{option_map, Result, Ok}
 use Rattle.std.specs.Borrow.{Bor}
 use Rattle.tsa_base.specs.declared.token.Span.{Span}
 use Rattle.tsa_base.specs.Tokens.{Lexeme}

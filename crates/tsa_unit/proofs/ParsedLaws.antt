@@ -29,7 +29,8 @@ use Rattle.tsa_expr.specs.declared.refusal.SyntaxCode.{SyntaxCode}
 use Rattle.tsa_expr.specs.declared.refusal.SyntaxCode.TheVariants.{SY1, AT1, AT2, LM2, LM3, LM5}
 use Rattle.tsa_expr.specs.declared.refusal.SyntaxRefusal.{SyntaxRefusal}
 use Rattle.tsa_expr.specs.declared.refusal.SyntaxRefusal.TheVariants.{At, Function, NoMemory}
-use Rattle.tsa_unit.specs.Parsing.{IsLongest, IsBroken, IsRefused, IsTooDeep, HasTooManyFunctions, HasTooManyPoints, IsOfUnits, IsParsed, IsTold, within_points, within_limits, parsed_of, unit_of}
+use Rattle.tsa_unit.specs.Parsing.{IsLongest, IsBroken, IsRefused, IsTooDeep, HasTooManyFunctions, HasTooManyPoints, IsOfUnits, IsParsed}
+use Rattle.tsa_unit.specs.Parsing.{IsTold, within_points, within_limits, parsed_of, unit_of}
 
 module _ (ts : List Lexeme) where
   -- a unit that was read is spelled, by all its tokens

@@ -1,5 +1,6 @@
 -- A name that an item gives to a type is none of those that are known where the item stands.
-use Rattle.std.proofs.Common.{ℕ, ◌≡◌, ◌∙◌, ap, sym, subst, refl, Bool, true, false, not, if◌then◌else◌, List, [], ◌∷◌, ◌++◌, map, Option, Some, None, Ok, nat_eq, slice_get}
+use Rattle.std.proofs.Common.{ℕ, ◌≡◌, ◌∙◌, ap, sym, subst, refl, Bool, true, false, not, if◌then◌else◌, List, [], ◌∷◌, ◌++◌, map, Option}
+use Rattle.std.proofs.Common.{Some, None, Ok, nat_eq, slice_get}
 use Rattle.std.proofs.lemmas.Bool.{and_parts}
 use Rattle.std.specs.List.{list_all, list_any}
 use Rattle.std.specs.Str.{bytes_eq}
@@ -13,10 +14,12 @@ use Rattle.tsa_tree.specs.declared.sign.Sign.TheVariants as sign
 use Rattle.tsa_tree.specs.expressions.Answers.{below_limit}
 use Rattle.tsa_tree.specs.declarations.Syntax.{Declaration}
 use Rattle.tsa_tree.specs.declarations.Spelling.{of_declarator}
-use Rattle.tsa_tree.specs.declarations.ItemSpelling.{IsItem, of_structure, of_tag_alone, of_structure_alias, of_enumeration, of_enumeration_alias, of_alias_item, of_globals, of_function, of_body_item}
+use Rattle.tsa_tree.specs.declarations.ItemSpelling.{IsItem, of_structure, of_tag_alone, of_structure_alias, of_enumeration}
+use Rattle.tsa_tree.specs.declarations.ItemSpelling.{of_enumeration_alias, of_alias_item, of_globals, of_function, of_body_item}
 use Rattle.tsa_tree.specs.Reads.{read}
 use Rattle.tsa_tree.specs.Rows.{some_items, item, mark, sees, rule}
-use Rattle.tsa_tree.specs.tokens.Signs.{Aliases, sign_at, sign_in, sign_of, sign_or, identifier_at, identifier_in, listed, word_signs, punctuator_signs, word_sign, punctuator_sign}
+use Rattle.tsa_tree.specs.tokens.Signs.{Aliases, sign_at, sign_in, sign_of, sign_or, identifier_at, identifier_in, listed, word_signs}
+use Rattle.tsa_tree.specs.tokens.Signs.{punctuator_signs, word_sign, punctuator_sign}
 use Rattle.tsa_tree.specs.units.Syntax.{UnitItem, names_of, global_item}
 use Rattle.tsa_tree.proofs.RowsRead.{read_exact}
 use Rattle.tsa_tree.proofs.declarations.RowsToProductions.{declaration_of}

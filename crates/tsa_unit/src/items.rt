@@ -33,7 +33,8 @@ pub fn item<'a>(
     aliases: Option<&Aliases>,
     list: &mut Vec<Item<'a>>,
 ) -> Result<u32, SyntaxRefusal>
-    ensures gives { Gives (λ next. (item_shapes list.new.items, next)) result (after (item_shapes list.old.items) (read (lexemes text.entry.tokens.now) some_items (item_call (known aliases.entry) true) at)) }
+    ensures gives { Gives (λ next. (item_shapes list.new.items, next)) result
+        (after (item_shapes list.old.items) (read (lexemes text.entry.tokens.now) some_items (item_call (known aliases.entry) true) at)) }
     ensures pointed { IfOk result (λ next. HaveTheirPoints list.old.items → HaveTheirPoints list.new.items) }
     ensures ends { IfOk result (λ next. (at < next) × (next ≤ length text.entry.tokens.now)) }
 {
@@ -60,7 +61,10 @@ fn function<'a>(
     list: &mut Vec<Item<'a>>,
 ) -> Result<u32, SyntaxRefusal>
     requires bodiless { (head.now.body ≡ None) × (head.now.points.now ≡ []) }
-    ensures gives { Gives (λ next. (item_shapes list.new.items, next)) result (after (item_shapes list.old.items) (going_items (input source.entry.reader) (function_end (input source.entry.reader) (named source.entry.reader) true (head_shape head.now) at) at)) }
+    ensures gives { Gives (λ next. (item_shapes list.new.items, next)) result
+        (after (item_shapes list.old.items)
+        (going_items (input source.entry.reader)
+        (function_end (input source.entry.reader) (named source.entry.reader) true (head_shape head.now) at) at)) }
     ensures pointed { IfOk result (λ next. HaveTheirPoints list.old.items → HaveTheirPoints list.new.items) }
     ensures ends { IfOk result (λ next. (at < next) × (next ≤ length source.entry.reader.tokens.now)) }
 {

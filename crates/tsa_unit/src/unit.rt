@@ -11,7 +11,8 @@ ghost use Rattle.tsa_tree.specs.units.WellRead.{IsWellRead};
 ghost use Rattle.tsa_expr.specs.declared.refusal.SyntaxCode.{SyntaxCode as code_type};
 ghost use Rattle.tsa_expr.specs.Gives.{Gives, Leads};
 ghost use Rattle.tsa_unit.specs.Items.{passed, on_from};
-ghost use Rattle.tsa_unit.specs.Parsing.{IsParsed, IsLongest, IsBroken, IsRefused, IsTooDeep, HasTooManyFunctions, HasTooManyPoints, IsOfUnits, IsTold};
+ghost use Rattle.tsa_unit.specs.Parsing.{IsParsed, IsLongest, IsBroken, IsRefused, IsTooDeep, HasTooManyFunctions, HasTooManyPoints};
+ghost use Rattle.tsa_unit.specs.Parsing.{IsOfUnits, IsTold};
 
 use crate::items::item;
 use crate::limits::within_limits;
@@ -42,18 +43,24 @@ pub fn parse<'a>(
     // The unit.
     ensures found { IfOk result (λ parsed. IsLongest (lexemes tokens.now) (item_shapes parsed.unit.now.items.now) (length tokens.now)) }
     ensures points { IfOk result (λ parsed. HaveTheirPoints parsed.unit.now.items.now) }
-    ensures few { IfOk result (λ parsed. (past_functions (item_shapes parsed.unit.now.items.now) ≡ None) × (past_points (item_shapes parsed.unit.now.items.now) ≡ None)) }
+    ensures few { IfOk result (λ parsed. (past_functions (item_shapes parsed.unit.now.items.now) ≡ None)
+        × (past_points (item_shapes parsed.unit.now.items.now) ≡ None)) }
 
     // A token is refused.
     ensures broken { (token : ℕ) → IsErrOf result (SyntaxRefusal.At SyntaxCode.SY1 token) → IsBroken (lexemes tokens.now) token }
-    ensures left_out { (token : ℕ) → IsErrOf result (SyntaxRefusal.At SyntaxCode.AT1 token) → IsRefused (lexemes tokens.now) reason.left_out token }
-    ensures lacking { (token : ℕ) → IsErrOf result (SyntaxRefusal.At SyntaxCode.AT2 token) → IsRefused (lexemes tokens.now) reason.lacking token }
+    ensures left_out { (token : ℕ) → IsErrOf result (SyntaxRefusal.At SyntaxCode.AT1 token)
+        → IsRefused (lexemes tokens.now) reason.left_out token }
+    ensures lacking { (token : ℕ) → IsErrOf result (SyntaxRefusal.At SyntaxCode.AT2 token)
+        → IsRefused (lexemes tokens.now) reason.lacking token }
     ensures too_deep { (token : ℕ) → IsErrOf result (SyntaxRefusal.At SyntaxCode.LM2 token) → IsTooDeep (lexemes tokens.now) token }
-    ensures no_unit { (code : code_type) (token : ℕ) → IsErrOf result (SyntaxRefusal.At code token) → code ≢ SyntaxCode.LM2 → IsNoUnit (lexemes tokens.now) }
+    ensures no_unit { (code : code_type) (token : ℕ) → IsErrOf result (SyntaxRefusal.At code token) → code ≢ SyntaxCode.LM2
+        → IsNoUnit (lexemes tokens.now) }
 
     // A function is refused.
-    ensures too_many { (span : span_type) → IsErrOf result (SyntaxRefusal.Function SyntaxCode.LM5 span) → HasTooManyFunctions (lexemes tokens.now) span }
-    ensures too_long { (span : span_type) → IsErrOf result (SyntaxRefusal.Function SyntaxCode.LM3 span) → HasTooManyPoints (lexemes tokens.now) span }
+    ensures too_many { (span : span_type) → IsErrOf result (SyntaxRefusal.Function SyntaxCode.LM5 span)
+        → HasTooManyFunctions (lexemes tokens.now) span }
+    ensures too_long { (span : span_type) → IsErrOf result (SyntaxRefusal.Function SyntaxCode.LM3 span)
+        → HasTooManyPoints (lexemes tokens.now) span }
     ensures no_other { (refusal : _) → IsErrOf result refusal → IsOfUnits refusal }
 {
     read_parsed(alloc, bump, Text { tokens })
@@ -91,7 +98,8 @@ fn read_items<'a>(
     bump: &'a Bump,
     text: Text<'_>,
 ) -> Result<Vec<Item<'a>>, SyntaxRefusal>
-    ensures gives { Gives (λ list. (item_shapes list.items, length text.entry.tokens.now)) result (read_unit (lexemes text.entry.tokens.now)) }
+    ensures gives { Gives (λ list. (item_shapes list.items, length text.entry.tokens.now)) result
+        (read_unit (lexemes text.entry.tokens.now)) }
     ensures points { IfOk result (λ list. HaveTheirPoints list.items) }
 {
     let mut aliases = Aliases::new(alloc);
@@ -121,7 +129,8 @@ fn next_item<'a>(
     list: &mut Vec<Item<'a>>,
 ) -> Result<u32, SyntaxRefusal>
     requires within { at < length text.tokens.now }
-    ensures leads { Leads passed result (on_from (lexemes text.entry.tokens.now) list.old.items aliases.old at) (λ u next. on_from (lexemes text.entry.tokens.now) list.new.items aliases.new next) }
+    ensures leads { Leads passed result (on_from (lexemes text.entry.tokens.now) list.old.items aliases.old at)
+        (λ u next. on_from (lexemes text.entry.tokens.now) list.new.items aliases.new next) }
     ensures pointed { IfOk result (λ next. HaveTheirPoints list.old.items → HaveTheirPoints list.new.items) }
     ensures ends { IfOk result (λ next. (at < next) × (next ≤ length text.entry.tokens.now)) }
 {

@@ -66,7 +66,8 @@ pub fn marked_test<'a>(
 ) -> Result<Marked<'a>, SyntaxRefusal>
     ensures gives { Gives seen_marked result (test_at (input reader.entry) (named reader.entry) depth at) }
     ensures number { IfOk result (λ r. r.number ≡ length points.old.items) }
-    ensures pointed { IfOk result (λ r. map point_shape points.new.items ≡ map point_shape points.old.items ++ point_of_test (shape r.test) ∷ []) }
+    ensures pointed { IfOk result (λ r. map point_shape points.new.items ≡ map point_shape points.old.items
+        ++ point_of_test (shape r.test) ∷ []) }
     ensures ends { IfOk result (λ r. (at < r.next) × (r.next ≤ length reader.entry.tokens.now)) }
 {
     let tested = test(reader, at, depth)?;
@@ -87,7 +88,8 @@ pub fn while_head<'a>(
     points: &mut Vec<Point<'a>>,
 ) -> Result<Headed<'a>, SyntaxRefusal>
     requires there { sign_at (input reader) (named reader) start ≡ Sign.Keyword Keyword.While }
-    ensures leads { Leads seen_head result (read (input reader.entry) a_statement (statement_call (named reader.entry) depth) start) (ended_at (input reader.entry) (named reader.entry) depth start) }
+    ensures leads { Leads seen_head result (read (input reader.entry) a_statement (statement_call (named reader.entry) depth) start)
+        (ended_at (input reader.entry) (named reader.entry) depth start) }
     ensures opened { IfOk result (λ r. IsOpened (span_at (input reader.entry) start) points.old.items points.new.items r.head) }
     ensures ends { IfOk result (λ r. (start < r.next) × (r.next ≤ length reader.entry.tokens.now)) }
 {
@@ -111,7 +113,8 @@ pub fn switch_head<'a>(
     points: &mut Vec<Point<'a>>,
 ) -> Result<Headed<'a>, SyntaxRefusal>
     requires there { sign_at (input reader) (named reader) start ≡ Sign.Keyword Keyword.Switch }
-    ensures leads { Leads seen_head result (read (input reader.entry) a_statement (statement_call (named reader.entry) depth) start) (ended_at (input reader.entry) (named reader.entry) depth start) }
+    ensures leads { Leads seen_head result (read (input reader.entry) a_statement (statement_call (named reader.entry) depth) start)
+        (ended_at (input reader.entry) (named reader.entry) depth start) }
     ensures opened { IfOk result (λ r. IsOpened (span_at (input reader.entry) start) points.old.items points.new.items r.head) }
     ensures ends { IfOk result (λ r. (start < r.next) × (r.next ≤ length reader.entry.tokens.now)) }
 {
@@ -137,7 +140,9 @@ impl<'a, 't> TextReader<'a, 't> {
         points: &mut Vec<Point<'a>>,
     ) -> Result<Headed<'a>, SyntaxRefusal>
         requires there { sign_at (input self.reader) (named self.reader) start ≡ Sign.Keyword Keyword.For }
-        ensures leads { Leads seen_head result (read (input self.entry.reader) a_statement (statement_call (named self.entry.reader) depth) start) (ended_at (input self.entry.reader) (named self.entry.reader) depth start) }
+        ensures leads { Leads seen_head result
+            (read (input self.entry.reader) a_statement (statement_call (named self.entry.reader) depth) start)
+            (ended_at (input self.entry.reader) (named self.entry.reader) depth start) }
         ensures opened { IfOk result (λ r. IsOpened (span_at (input self.entry.reader) start) points.old.items points.new.items r.head) }
         ensures ends { IfOk result (λ r. (start < r.next) × (r.next ≤ length self.entry.reader.tokens.now)) }
     {
@@ -177,7 +182,8 @@ pub fn case_head<'a>(
     depth: u32,
 ) -> Result<Headed<'a>, SyntaxRefusal>
     requires there { sign_at (input reader) (named reader) start ≡ Sign.Keyword Keyword.Case }
-    ensures leads { Leads seen_head result (read (input reader.entry) a_statement (statement_call (named reader.entry) depth) start) (ended_at (input reader.entry) (named reader.entry) depth start) }
+    ensures leads { Leads seen_head result (read (input reader.entry) a_statement (statement_call (named reader.entry) depth) start)
+        (ended_at (input reader.entry) (named reader.entry) depth start) }
     ensures unpointed { IfOk result (λ r. IsUnpointed r.head) }
     ensures ends { IfOk result (λ r. (start < r.next) × (r.next ≤ length reader.entry.tokens.now)) }
 {
@@ -195,7 +201,8 @@ pub fn default_head<'a>(
     depth: u32,
 ) -> Result<Headed<'a>, SyntaxRefusal>
     requires there { sign_at (input reader) (named reader) start ≡ Sign.Keyword Keyword.Default }
-    ensures leads { Leads seen_head result (read (input reader.entry) a_statement (statement_call (named reader.entry) depth) start) (ended_at (input reader.entry) (named reader.entry) depth start) }
+    ensures leads { Leads seen_head result (read (input reader.entry) a_statement (statement_call (named reader.entry) depth) start)
+        (ended_at (input reader.entry) (named reader.entry) depth start) }
     ensures unpointed { IfOk result (λ r. IsUnpointed r.head) }
     ensures ends { IfOk result (λ r. (start < r.next) × (r.next ≤ length reader.entry.tokens.now)) }
 {

@@ -24,7 +24,8 @@ impl<'a, 't> TextReader<'a, 't> {
         points: &mut Vec<Point<'a>>,
     ) -> Result<u32, SyntaxRefusal>
         ensures number { IfOk result (λ number. number ≡ length points.old.items) }
-        ensures pointed { OnOk result (map point_shape points.new.items ≡ map point_shape points.old.items ++ point_of_for (span_at (input self.entry.reader) start) (option_map shape test.entry) ∷ []) }
+        ensures pointed { OnOk result (map point_shape points.new.items ≡ map point_shape points.old.items
+            ++ point_of_for (span_at (input self.entry.reader) start) (option_map shape test.entry) ∷ []) }
         ensures memory { OnErr result (result ≡ Err SyntaxRefusal.NoMemory) }
     {
         let Some(tree) = test else {

@@ -29,7 +29,9 @@ impl<'a, 't> TextReader<'a, 't> {
     ) -> Result<Headed<'a>, SyntaxRefusal>
         requires there { sign_at (input self.reader) (named self.reader) at ≡ Sign.Keyword word }
         requires headed { ends_with_body word ≡ true }
-        ensures leads { Leads seen_head result (read (input self.entry.reader) a_statement (statement_call (named self.entry.reader) depth) at) (ended_at (input self.entry.reader) (named self.entry.reader) depth at) }
+        ensures leads { Leads seen_head result
+            (read (input self.entry.reader) a_statement (statement_call (named self.entry.reader) depth) at)
+            (ended_at (input self.entry.reader) (named self.entry.reader) depth at) }
         ensures opened { IfOk result (λ r. IsOpened (span_at (input self.entry.reader) at) points.old.items points.new.items r.head) }
         ensures ends { IfOk result (λ r. (at < r.next) × (r.next ≤ length self.entry.reader.tokens.now)) }
     {

@@ -8,9 +8,12 @@ use Rattle.tsa_tree.specs.declared.sign.Sign.TheVariants as sign
 use Rattle.tsa_tree.specs.expressions.Answers.{below_limit}
 use Rattle.tsa_tree.specs.declarations.Syntax.{Declaration}
 use Rattle.tsa_tree.specs.Reads.{read}
-use Rattle.tsa_tree.specs.Rows.{a_simple, a_specifier, a_variable, a_for_init, a_statement, some_statements, some_declarations, simple, specifier, variable, locals, for_init, statement, statements, an_open_brace, a_close_brace, a_semicolon, sees, mark}
+use Rattle.tsa_tree.specs.Rows.{a_simple, a_specifier, a_variable, a_for_init, a_statement, some_statements, some_declarations, simple}
+use Rattle.tsa_tree.specs.Rows.{specifier, variable, locals, for_init, statement, statements, an_open_brace, a_close_brace, a_semicolon}
+use Rattle.tsa_tree.specs.Rows.{sees, mark}
 use Rattle.tsa_tree.specs.tokens.Signs.{Aliases, sign_at, span_over, begins_type}
-use Rattle.tsa_tree.specs.statements.Syntax.{ForInit, no_init, simple_init, local_init, Statement, Statements, none, more, local, block, locals_before}
+use Rattle.tsa_tree.specs.statements.Syntax.{ForInit, no_init, simple_init, local_init, Statement, Statements, none, more, local, block}
+use Rattle.tsa_tree.specs.statements.Syntax.{locals_before}
 use Rattle.tsa_expr.specs.declared.refusal.SyntaxRefusal.{SyntaxRefusal}
 use Rattle.tsa_expr.specs.Gives.{Fails}
 use Rattle.tsa_expr.proofs.Answering.{fails_then, fails_same}

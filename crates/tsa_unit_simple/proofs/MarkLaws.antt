@@ -1,5 +1,6 @@
 -- Points that are marked, and the numbers of the statements of a block.
-use Rattle.std.proofs.Common.{ℕ, ◌+◌, ◌≡◌, ◌∙◌, subst, Some, None, ap, sym, refl, List, [], ◌∷◌, ◌++◌, length, map, drop, get_or, ◌<◌, ◌≤◌, nat_eq, true, false, Ok, arith}
+use Rattle.std.proofs.Common.{ℕ, ◌+◌, ◌≡◌, ◌∙◌, subst, Some, None, ap, sym, refl, List, [], ◌∷◌, ◌++◌, length, map, drop, get_or, ◌<◌, ◌≤◌}
+use Rattle.std.proofs.Common.{nat_eq, true, false, Ok, arith}
 use Rattle.std.proofs.lemmas.List.{length-append, length-map, drop_more, drop_all}
 use Rattle.std.specs.Borrow.{Bor}
 use Rattle.tsa_base.specs.declared.token.Span.{Span}

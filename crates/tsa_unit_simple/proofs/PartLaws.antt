@@ -1,5 +1,6 @@
 -- The parts of a `for`, and locals in a block.
-use Rattle.std.proofs.Common.{ℕ, ◌+◌, ◌≡◌, ◌≢◌, ◌∙◌, slice_get, Option, Some, None, true, false, nat_eq, ap, sym, refl, List, [], ◌∷◌, ◌++◌, length, map, Ok, Err}
+use Rattle.std.proofs.Common.{ℕ, ◌+◌, ◌≡◌, ◌≢◌, ◌∙◌, slice_get, Option, Some, None, true, false, nat_eq, ap, sym, refl, List, [], ◌∷◌, ◌++◌}
+use Rattle.std.proofs.Common.{length, map, Ok, Err}
 use Rattle.std.specs.Borrow.{Bor}
 use Rattle.tsa_base.specs.declared.token.Span.{Span}
 use Rattle.tsa_base.specs.Tokens.{Lexeme}

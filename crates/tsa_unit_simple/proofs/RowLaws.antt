@@ -11,7 +11,9 @@ use Rattle.tsa_tree.specs.declared.sign.Sign.TheVariants as sign
 use Rattle.tsa_tree.specs.expressions.Answers.{below_limit}
 use Rattle.tsa_tree.specs.expressions.Syntax.{Expression}
 use Rattle.tsa_tree.specs.Reads.{read}
-use Rattle.tsa_tree.specs.Rows.{an_expression, a_simple, a_for_init, a_statement, some_statements, Kind, expression, simple, for_init, statement, statements, a_keyword, an_open, a_close, a_semicolon, a_colon, sees, is_keyword, Row, body, test, value_or_none, statement_row, for_end}
+use Rattle.tsa_tree.specs.Rows.{an_expression, a_simple, a_for_init, a_statement, some_statements, Kind, expression, simple, for_init}
+use Rattle.tsa_tree.specs.Rows.{statement, statements, a_keyword, an_open, a_close, a_semicolon, a_colon, sees, is_keyword, Row, body, test}
+use Rattle.tsa_tree.specs.Rows.{value_or_none, statement_row, for_end}
 use Rattle.tsa_grammar.specs.Form.{done, token}
 use Rattle.tsa_tree.specs.tokens.Signs.{Aliases, sign_at, span_over, begins_statement}
 use Rattle.tsa_tree.specs.statements.Syntax.{ForInit, Statement, Statements, while_loop, do_loop, for_loop, switch, case, otherwise}

@@ -12,7 +12,8 @@ use Rattle.tsa_tree.specs.expressions.Answers.{below_limit}
 use Rattle.tsa_tree.specs.expressions.Syntax.{Expression}
 use Rattle.tsa_tree.specs.Reads.{read}
 use Rattle.tsa_tree.specs.tokens.Signs.{level}
-use Rattle.tsa_tree.specs.Rows.{an_expression, a_simple, Row, expression, operand, operation, simple, mark, sees, tightest, climb, climb_on, an_assignment, is_assignment, simple_row, simple_behind}
+use Rattle.tsa_tree.specs.Rows.{an_expression, a_simple, Row, expression, operand, operation, simple, mark, sees, tightest, climb, climb_on}
+use Rattle.tsa_tree.specs.Rows.{an_assignment, is_assignment, simple_row, simple_behind}
 use Rattle.tsa_tree.specs.tokens.Signs.{Aliases, sign_at, span_over, assigns, operator}
 use Rattle.tsa_tree.specs.statements.Spelling.{one_at}
 use Rattle.tsa_tree.specs.statements.Syntax.{Simple, SimplePart, evaluation, assignment, by_expression}

@@ -8,7 +8,8 @@ use Rattle.tsa_tree.specs.declared.stmt.Point.{Point}
 use Rattle.tsa_tree.specs.declared.stmt.Stmt.{Stmt}
 use Rattle.tsa_tree.specs.declared.stmt.StmtKind.{StmtKind}
 use Rattle.tsa_tree.specs.points.Syntax.{points_of, points_of_all, points_of_init, points_of_step}
-use Rattle.tsa_tree.specs.statements.Shapes.{stmt_shape, stmt_shapes, point_shape, action_shape, IsNumbered, AreNumbered, MayBeFirst, MayBeThird}
+use Rattle.tsa_tree.specs.statements.Shapes.{stmt_shape, stmt_shapes, point_shape, action_shape, IsNumbered, AreNumbered, MayBeFirst}
+use Rattle.tsa_tree.specs.statements.Shapes.{MayBeThird}
 use Rattle.tsa_tree.specs.declared.stmt.StmtKind.TheVariants as kinds
 use Rattle.tsa_unit_simple.specs.declared.simple.SimpleKind.{SimpleKind}
 use Rattle.tsa_unit_simple.specs.declared.simple.SimpleKind.TheVariants.{Eval, Assign}

@@ -82,7 +82,8 @@ fn simply<'a>(
     next: u32,
     points: &mut Vec<Point<'a>>,
 ) -> Result<Read<'a>, SyntaxRefusal>
-    ensures is { IfOk result (λ r. (stmt_shape r.stmt.kind r.stmt.span ≡ simple_statement_of (kind_shape simple.now span)) × (r.next ≡ next)) }
+    ensures is { IfOk result (λ r. (stmt_shape r.stmt.kind r.stmt.span ≡ simple_statement_of (kind_shape simple.now span))
+        × (r.next ≡ next)) }
     ensures pointed { IfOk result (λ r. IsPointed points.old.items points.new.items r.stmt) }
     ensures memory { OnErr result (result ≡ Err SyntaxRefusal.NoMemory) }
 {
@@ -154,7 +155,8 @@ pub fn break_statement<'a>(
     points: &mut Vec<Point<'a>>,
 ) -> Result<Read<'a>, SyntaxRefusal>
     requires within { at < length reader.tokens.now }
-    ensures gives { Gives seen_statement result (closed_at (input reader.entry) (named reader.entry) (stmt_shape StmtKind.Break) at (at + 1)) }
+    ensures gives { Gives seen_statement result
+        (closed_at (input reader.entry) (named reader.entry) (stmt_shape StmtKind.Break) at (at + 1)) }
     ensures pointed { IfOk result (λ r. IsPointed points.old.items points.new.items r.stmt) }
     ensures ends { IfOk result (λ r. (at < r.next) × (r.next ≤ length reader.entry.tokens.now)) }
 {
@@ -172,7 +174,8 @@ pub fn continue_statement<'a>(
     points: &mut Vec<Point<'a>>,
 ) -> Result<Read<'a>, SyntaxRefusal>
     requires within { at < length reader.tokens.now }
-    ensures gives { Gives seen_statement result (closed_at (input reader.entry) (named reader.entry) (stmt_shape StmtKind.Continue) at (at + 1)) }
+    ensures gives { Gives seen_statement result
+        (closed_at (input reader.entry) (named reader.entry) (stmt_shape StmtKind.Continue) at (at + 1)) }
     ensures pointed { IfOk result (λ r. IsPointed points.old.items points.new.items r.stmt) }
     ensures ends { IfOk result (λ r. (at < r.next) × (r.next ≤ length reader.entry.tokens.now)) }
 {
@@ -210,7 +213,8 @@ fn plain_return<'a>(
     points: &mut Vec<Point<'a>>,
 ) -> Result<Read<'a>, SyntaxRefusal>
     requires within { start < length reader.tokens.now }
-    ensures gives { Gives seen_statement result (closed_at (input reader.entry) (named reader.entry) (stmt_shape (StmtKind.Return None)) start (start + 1)) }
+    ensures gives { Gives seen_statement result
+        (closed_at (input reader.entry) (named reader.entry) (stmt_shape (StmtKind.Return None)) start (start + 1)) }
     ensures pointed { IfOk result (λ r. IsPointed points.old.items points.new.items r.stmt) }
     ensures ends { IfOk result (λ r. (start < r.next) × (r.next ≤ length reader.entry.tokens.now)) }
 {
@@ -228,7 +232,8 @@ fn value_return<'a>(
     value: &Reading<'a>,
     points: &mut Vec<Point<'a>>,
 ) -> Result<Read<'a>, SyntaxRefusal>
-    ensures gives { Gives seen_statement result (closed_at (input reader.entry) (named reader.entry) (stmt_shape (StmtKind.Return (Some value.now.tree))) start value.now.next) }
+    ensures gives { Gives seen_statement result
+        (closed_at (input reader.entry) (named reader.entry) (stmt_shape (StmtKind.Return (Some value.now.tree))) start value.now.next) }
     ensures pointed { IfOk result (λ r. IsPointed points.old.items points.new.items r.stmt) }
     ensures ends { IfOk result (λ r. (value.now.next < r.next) × (r.next ≤ length reader.entry.tokens.now)) }
 {

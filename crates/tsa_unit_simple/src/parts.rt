@@ -158,8 +158,10 @@ pub fn declare<'a>(
     points: &mut Vec<Point<'a>>,
     list: &mut Vec<Stmt<'a>>,
 ) -> Result<(), SyntaxRefusal>
-    ensures listed { OnOk result (stmt_shapes list.new.items ≡ joined (stmt_shapes list.old.items) (locals_before (decl_shapes decls.entry.now) none)) }
-    ensures pointed { OnOk result ((start : List point_type) → ArePointed start points.old.items list.old.items → ArePointed start points.new.items list.new.items) }
+    ensures listed { OnOk result (stmt_shapes list.new.items
+        ≡ joined (stmt_shapes list.old.items) (locals_before (decl_shapes decls.entry.now) none)) }
+    ensures pointed { OnOk result ((start : List point_type) → ArePointed start points.old.items list.old.items
+        → ArePointed start points.new.items list.new.items) }
     ensures memory { OnErr result (result ≡ Err SyntaxRefusal.NoMemory) }
 {
     'locals: for decl in decls {
@@ -178,8 +180,12 @@ pub fn locals<'a>(
     list: &mut Vec<Stmt<'a>>,
 ) -> Result<u32, SyntaxRefusal>
     requires there { spec_begins_type (sign_at (input reader) (named reader) at) ≡ true }
-    ensures leads { Leads passed result (statements_after (stmt_shapes list.old.items) (read (input reader.entry) some_statements (statements_call (named reader.entry) depth) at)) (λ u next. statements_after (stmt_shapes list.new.items) (read (input reader.entry) some_statements (statements_call (named reader.entry) depth) next)) }
-    ensures pointed { IfOk result (λ next. (start : List point_type) → ArePointed start points.old.items list.old.items → ArePointed start points.new.items list.new.items) }
+    ensures leads { Leads passed result (statements_after (stmt_shapes list.old.items)
+        (read (input reader.entry) some_statements (statements_call (named reader.entry) depth) at))
+        (λ u next. statements_after (stmt_shapes list.new.items)
+        (read (input reader.entry) some_statements (statements_call (named reader.entry) depth) next)) }
+    ensures pointed { IfOk result (λ next. (start : List point_type) → ArePointed start points.old.items list.old.items
+        → ArePointed start points.new.items list.new.items) }
     ensures ends { IfOk result (λ next. (at < next) × (next ≤ length reader.entry.tokens.now)) }
 {
     let (decls, behind) = read_locals(reader, at, depth, false)?;

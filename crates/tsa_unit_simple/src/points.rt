@@ -97,8 +97,10 @@ pub fn local<'a>(
     points: &mut Vec<Point<'a>>,
     list: &mut Vec<Stmt<'a>>,
 ) -> Result<(), SyntaxRefusal>
-    ensures listed { OnOk result (list.new.items ≡ list.old.items ++ record { kind = StmtKind.Local decl.entry.now; point = Some (length points.old.items); span = decl.entry.now.span } ∷ []) }
-    ensures pointed { OnOk result (IsPointed points.old.items points.new.items (record { kind = StmtKind.Local decl.entry.now; point = Some (length points.old.items); span = decl.entry.now.span })) }
+    ensures listed { OnOk result (list.new.items ≡ list.old.items
+        ++ record { kind = StmtKind.Local decl.entry.now; point = Some (length points.old.items); span = decl.entry.now.span } ∷ []) }
+    ensures pointed { OnOk result (IsPointed points.old.items points.new.items
+        (record { kind = StmtKind.Local decl.entry.now; point = Some (length points.old.items); span = decl.entry.now.span })) }
     ensures memory { OnErr result (result ≡ Err SyntaxRefusal.NoMemory) }
 {
     let number = mark(points, Action::Declare(decl), decl.span)?;

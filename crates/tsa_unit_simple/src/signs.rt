@@ -1,6 +1,7 @@
 //! What statements see of a sign.
 ghost use Rattle.std.specs.Prelude.{◌≡◌, ◌≢◌, None, true};
-ghost use Rattle.tsa_tree.specs.tokens.Signs.{assigns as spec_assigns, begins_type as spec_begins_type, begins_statement as spec_begins_statement};
+ghost use Rattle.tsa_tree.specs.tokens.Signs.{assigns as spec_assigns, begins_type as spec_begins_type};
+ghost use Rattle.tsa_tree.specs.tokens.Signs.{begins_statement as spec_begins_statement};
 ghost use Rattle.tsa_unit_simple.specs.Outcomes.{step_in, closes_block as spec_closes_block};
 
 use tsa_tree::expr::BinaryOp;

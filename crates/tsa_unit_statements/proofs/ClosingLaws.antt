@@ -1,5 +1,6 @@
 -- Statements with their bodies, and their points.
-use Rattle.std.proofs.Common.{ℕ, ◌+◌, ◌≡◌, ◌∙◌, Option, Some, None, ap, sym, subst, refl, List, [], ◌∷◌, ◌++◌, length, map, option_map, arith, Ok}
+use Rattle.std.proofs.Common.{ℕ, ◌+◌, ◌≡◌, ◌∙◌, Option, Some, None, ap, sym, subst, refl, List, [], ◌∷◌, ◌++◌, length, map, option_map}
+use Rattle.std.proofs.Common.{arith, Ok}
 use Rattle.std.proofs.lemmas.List.{length-append, length-map}
 use Rattle.std.specs.Borrow.{Bor}
 use Rattle.tsa_base.specs.declared.token.Span.{Span}
@@ -9,7 +10,8 @@ use Rattle.tsa_tree.specs.declared.expr.Expr.{Expr}
 use Rattle.tsa_tree.specs.declared.sign.Keyword.TheVariants as key
 use Rattle.tsa_tree.specs.declared.stmt.Point.{Point}
 use Rattle.tsa_tree.specs.declared.stmt.Stmt.{Stmt}
-use Rattle.tsa_tree.specs.declared.stmt.StmtKind.{StmtKind, Row_of-Stmt, end_of-Stmt, more_of-Stmt, items-the_row-Stmt, items_hidden-the_row-Stmt-0}
+use Rattle.tsa_tree.specs.declared.stmt.StmtKind.{StmtKind, Row_of-Stmt, end_of-Stmt, more_of-Stmt, items-the_row-Stmt}
+use Rattle.tsa_tree.specs.declared.stmt.StmtKind.{items_hidden-the_row-Stmt-0}
 use Rattle.tsa_tree.specs.declared.stmt.StmtKind.TheVariants as kind
 use Rattle.tsa_tree.specs.declared.stmt.StmtKind.TheVariants.{Local, Eval, Assign}
 use Rattle.tsa_tree.specs.expressions.Syntax.{Expression}
@@ -18,7 +20,8 @@ use Rattle.tsa_tree.specs.Rows.{a_keyword, a_semicolon}
 use Rattle.tsa_tree.specs.expressions.Shapes.{shape}
 use Rattle.tsa_tree.specs.tokens.Signs.{Aliases, span_at, span_over}
 use Rattle.tsa_tree.specs.statements.Syntax.{Statement, do_loop, block, more}
-use Rattle.tsa_tree.specs.statements.Shapes.{stmt_shape, stmt_shapes, stmt_row_shape, point_shape, IsNumbered, AreNumbered, AreNumberedInRow, init_of, step_of, counted, MayBeFirst, MayBeThird}
+use Rattle.tsa_tree.specs.statements.Shapes.{stmt_shape, stmt_shapes, stmt_row_shape, point_shape, IsNumbered, AreNumbered}
+use Rattle.tsa_tree.specs.statements.Shapes.{AreNumberedInRow, init_of, step_of, counted, MayBeFirst, MayBeThird}
 use Rattle.tsa_tree.proofs.statements.Trees.{row_of}
 use Rattle.tsa_expr.specs.declared.refusal.SyntaxRefusal.{SyntaxRefusal}
 use Rattle.tsa_expr.specs.Gives.{Fails}

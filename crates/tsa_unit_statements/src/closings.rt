@@ -83,9 +83,11 @@ pub fn headed_with_body<'a>(
     body: Body<'a>,
 ) -> Read<'a>
     requires { 0 < body.next }
-    ensures is { seen_statement result ≡ (ended head.entry (stmt_shape body.entry.stmt.now.kind body.entry.stmt.now.span) (span_over (input reader.entry) start body.entry.next), body.entry.next) }
+    ensures is { seen_statement result ≡ (ended head.entry (stmt_shape body.entry.stmt.now.kind body.entry.stmt.now.span)
+        (span_over (input reader.entry) start body.entry.next), body.entry.next) }
     ensures next_is { result.next ≡ body.entry.next }
-    ensures pointed { (first middle last : List point_type) → IsOpened (span_at (input reader.entry) start) first middle head.entry → IsPointed middle last body.entry.stmt.now → IsPointed first last result.stmt }
+    ensures pointed { (first middle last : List point_type) → IsOpened (span_at (input reader.entry) start) first middle head.entry
+        → IsPointed middle last body.entry.stmt.now → IsPointed first last result.stmt }
 {
     let span = reader.over(start, body.next);
     Read {
@@ -103,9 +105,11 @@ pub fn if_with_arms<'a>(
     arms: Arms<'a>,
 ) -> Read<'a>
     requires { 0 < arms.next }
-    ensures is { seen_statement result ≡ (if_with (shape marked.entry.test) arms.entry.yes.now arms.entry.no (span_over (input reader.entry) start arms.entry.next), arms.entry.next) }
+    ensures is { seen_statement result ≡ (if_with (shape marked.entry.test) arms.entry.yes.now arms.entry.no
+        (span_over (input reader.entry) start arms.entry.next), arms.entry.next) }
     ensures next_is { result.next ≡ arms.entry.next }
-    ensures pointed { (first middle between last : List point_type) → IsMarked first middle marked.entry → IsPointed middle between arms.entry.yes.now → ArmsPointed between last arms.entry.no → IsPointed first last result.stmt }
+    ensures pointed { (first middle between last : List point_type) → IsMarked first middle marked.entry
+        → IsPointed middle between arms.entry.yes.now → ArmsPointed between last arms.entry.no → IsPointed first last result.stmt }
 {
     let kind = StmtKind::If {
         test: marked.test,
@@ -132,8 +136,11 @@ pub fn do_with_test<'a>(
     body: Body<'a>,
     points: &mut Vec<Point<'a>>,
 ) -> Result<Read<'a>, SyntaxRefusal>
-    ensures gives { Gives seen_statement result (do_end_at (input reader.entry) (named reader.entry) depth start (stmt_shape body.entry.stmt.now.kind body.entry.stmt.now.span) body.entry.next) }
-    ensures pointed { IfOk result (λ r. (first : List point_type) → IsPointed first points.old.items body.entry.stmt.now → IsPointed first points.new.items r.stmt) }
+    ensures gives { Gives seen_statement result
+        (do_end_at (input reader.entry) (named reader.entry) depth start (stmt_shape body.entry.stmt.now.kind body.entry.stmt.now.span)
+        body.entry.next) }
+    ensures pointed { IfOk result (λ r. (first : List point_type) → IsPointed first points.old.items body.entry.stmt.now
+        → IsPointed first points.new.items r.stmt) }
     ensures ends { IfOk result (λ r. (body.entry.next < r.next) × (r.next ≤ length reader.entry.tokens.now)) }
 {
     let behind = while_word(reader, body.next)?;

@@ -74,7 +74,8 @@ fn statement<'a>(
     points: &mut Vec<Point<'a>>,
 ) -> Result<Read<'a>, SyntaxRefusal>
     requires there { sign ≡ sign_at (input source.reader) (named source.reader) at }
-    ensures gives { Gives seen_statement result (read (input source.entry.reader) a_statement (statement_call (named source.entry.reader) depth) at) }
+    ensures gives { Gives seen_statement result
+        (read (input source.entry.reader) a_statement (statement_call (named source.entry.reader) depth) at) }
     ensures pointed { IfOk result (λ r. IsPointed points.old.items points.new.items r.stmt) }
     ensures ends { IfOk result (λ r. (at < r.next) × (r.next ≤ length source.entry.reader.tokens.now)) }
 {
@@ -97,7 +98,8 @@ fn keyword_statement<'a>(
     points: &mut Vec<Point<'a>>,
 ) -> Result<Read<'a>, SyntaxRefusal>
     requires there { sign_at (input source.reader) (named source.reader) at ≡ Sign.Keyword word }
-    ensures gives { Gives seen_statement result (read (input source.entry.reader) a_statement (statement_call (named source.entry.reader) depth) at) }
+    ensures gives { Gives seen_statement result
+        (read (input source.entry.reader) a_statement (statement_call (named source.entry.reader) depth) at) }
     ensures pointed { IfOk result (λ r. IsPointed points.old.items points.new.items r.stmt) }
     ensures ends { IfOk result (λ r. (at < r.next) × (r.next ≤ length source.entry.reader.tokens.now)) }
 {
@@ -120,7 +122,8 @@ fn name_statement<'a>(
     points: &mut Vec<Point<'a>>,
 ) -> Result<Read<'a>, SyntaxRefusal>
     requires there { sign_at (input source.reader) (named source.reader) at ≡ Sign.Name }
-    ensures gives { Gives seen_statement result (read (input source.entry.reader) a_statement (statement_call (named source.entry.reader) depth) at) }
+    ensures gives { Gives seen_statement result
+        (read (input source.entry.reader) a_statement (statement_call (named source.entry.reader) depth) at) }
     ensures pointed { IfOk result (λ r. IsPointed points.old.items points.new.items r.stmt) }
     ensures ends { IfOk result (λ r. (at < r.next) × (r.next ≤ length source.entry.reader.tokens.now)) }
 {
@@ -145,7 +148,8 @@ fn headed_statement<'a>(
 ) -> Result<Read<'a>, SyntaxRefusal>
     requires there { sign_at (input source.reader) (named source.reader) at ≡ Sign.Keyword word }
     requires headed { ends_with_body word ≡ true }
-    ensures gives { Gives seen_statement result (read (input source.entry.reader) a_statement (statement_call (named source.entry.reader) depth) at) }
+    ensures gives { Gives seen_statement result
+        (read (input source.entry.reader) a_statement (statement_call (named source.entry.reader) depth) at) }
     ensures pointed { IfOk result (λ r. IsPointed points.old.items points.new.items r.stmt) }
     ensures ends { IfOk result (λ r. (at < r.next) × (r.next ≤ length source.entry.reader.tokens.now)) }
 {
@@ -187,8 +191,11 @@ fn ending<'a>(
     headed: Headed<'a>,
     points: &mut Vec<Point<'a>>,
 ) -> Result<Read<'a>, SyntaxRefusal>
-    ensures gives { Gives seen_statement result (ended_at (input source.entry.reader) (named source.entry.reader) depth start headed.entry.head headed.entry.next) }
-    ensures pointed { IfOk result (λ r. (first : List point_type) → IsOpened (span_at (input source.entry.reader) start) first points.old.items headed.entry.head → IsPointed first points.new.items r.stmt) }
+    ensures gives { Gives seen_statement result
+        (ended_at (input source.entry.reader) (named source.entry.reader) depth start headed.entry.head headed.entry.next) }
+    ensures pointed { IfOk result (λ r. (first : List point_type)
+        → IsOpened (span_at (input source.entry.reader) start) first points.old.items headed.entry.head
+        → IsPointed first points.new.items r.stmt) }
     ensures ends { IfOk result (λ r. (headed.entry.next < r.next) × (r.next ≤ length source.entry.reader.tokens.now)) }
 {
     match body(source, headed.next, depth, points) {
@@ -207,7 +214,8 @@ fn if_statement<'a>(
     points: &mut Vec<Point<'a>>,
 ) -> Result<Read<'a>, SyntaxRefusal>
     requires there { sign_at (input source.reader) (named source.reader) start ≡ Sign.Keyword Keyword.If }
-    ensures gives { Gives seen_statement result (read (input source.entry.reader) a_statement (statement_call (named source.entry.reader) depth) start) }
+    ensures gives { Gives seen_statement result
+        (read (input source.entry.reader) a_statement (statement_call (named source.entry.reader) depth) start) }
     ensures pointed { IfOk result (λ r. IsPointed points.old.items points.new.items r.stmt) }
     ensures ends { IfOk result (λ r. (start < r.next) × (r.next ≤ length source.entry.reader.tokens.now)) }
 {
@@ -225,8 +233,10 @@ fn arms<'a>(
     marked: Marked<'a>,
     points: &mut Vec<Point<'a>>,
 ) -> Result<Read<'a>, SyntaxRefusal>
-    ensures gives { Gives seen_statement result (arms_at (input source.entry.reader) (named source.entry.reader) depth start (shape marked.entry.test) marked.entry.next) }
-    ensures pointed { IfOk result (λ r. (first : List point_type) → IsMarked first points.old.items marked.entry → IsPointed first points.new.items r.stmt) }
+    ensures gives { Gives seen_statement result
+        (arms_at (input source.entry.reader) (named source.entry.reader) depth start (shape marked.entry.test) marked.entry.next) }
+    ensures pointed { IfOk result (λ r. (first : List point_type) → IsMarked first points.old.items marked.entry
+        → IsPointed first points.new.items r.stmt) }
     ensures ends { IfOk result (λ r. (marked.entry.next < r.next) × (r.next ≤ length source.entry.reader.tokens.now)) }
 {
     let arm = body(source, marked.next, depth, points)?;
@@ -256,7 +266,8 @@ fn do_loop<'a>(
     points: &mut Vec<Point<'a>>,
 ) -> Result<Read<'a>, SyntaxRefusal>
     requires there { sign_at (input source.reader) (named source.reader) start ≡ Sign.Keyword Keyword.Do }
-    ensures gives { Gives seen_statement result (read (input source.entry.reader) a_statement (statement_call (named source.entry.reader) depth) start) }
+    ensures gives { Gives seen_statement result
+        (read (input source.entry.reader) a_statement (statement_call (named source.entry.reader) depth) start) }
     ensures pointed { IfOk result (λ r. IsPointed points.old.items points.new.items r.stmt) }
     ensures ends { IfOk result (λ r. (start < r.next) × (r.next ≤ length source.entry.reader.tokens.now)) }
 {
@@ -274,7 +285,8 @@ fn block<'a>(
     points: &mut Vec<Point<'a>>,
 ) -> Result<Read<'a>, SyntaxRefusal>
     requires there { sign_at (input source.reader) (named source.reader) start ≡ Sign.OpenBrace }
-    ensures gives { Gives seen_statement result (read (input source.entry.reader) a_statement (statement_call (named source.entry.reader) depth) start) }
+    ensures gives { Gives seen_statement result
+        (read (input source.entry.reader) a_statement (statement_call (named source.entry.reader) depth) start) }
     ensures pointed { IfOk result (λ r. IsPointed points.old.items points.new.items r.stmt) }
     ensures ends { IfOk result (λ r. (start < r.next) × (r.next ≤ length source.entry.reader.tokens.now)) }
 {
@@ -292,7 +304,8 @@ pub fn statements<'a>(
     depth: u32,
     points: &mut Vec<Point<'a>>,
 ) -> Result<(&'a [Stmt<'a>], u32), SyntaxRefusal>
-    ensures gives { Gives (λ found. (stmt_shapes found.0.now, found.1)) result (read (input source.entry.reader) some_statements (statements_call (named source.entry.reader) depth) at) }
+    ensures gives { Gives (λ found. (stmt_shapes found.0.now, found.1)) result
+        (read (input source.entry.reader) some_statements (statements_call (named source.entry.reader) depth) at) }
     ensures pointed { IfOk result (λ found. ArePointed points.old.items points.new.items found.0.now) }
     ensures ends { IfOk result (λ found. (at < found.1) × (found.1 ≤ length source.entry.reader.tokens.now)) }
 {

@@ -1,5 +1,6 @@
 -- The body of a function by its number is among those of a unit.
-use Rattle.std.proofs.Common.{◌≡◌, ℕ, zero, suc, arith, Bool, true, false, List, [], ◌∷◌, ◌++◌, Contains, Option, Some, None, nat_eq, if◌then◌else◌, refl, eqb-true}
+use Rattle.std.proofs.Common.{◌≡◌, ℕ, zero, suc, arith, Bool, true, false, List, [], ◌∷◌, ◌++◌, Contains, Option, Some, None, nat_eq}
+use Rattle.std.proofs.Common.{if◌then◌else◌, refl, eqb-true}
 use Rattle.tsa_tree.specs.types.Scopes.{Scope}
 use Rattle.tsa_tree.specs.types.Symbols.{number_of}
 use Rattle.tsa_tree.specs.types.Units.{behind_item}

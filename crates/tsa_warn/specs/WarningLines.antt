@@ -28,7 +28,8 @@ lines_of bytes u f names b failures = record {
   count = length failures;
 }
 
--- Of a body they are those of all rules that fail in its function for its paths, in order: by the point, the number of the rule, and the path.
+-- Of a body they are those of all rules that fail in its function for its paths, in order: by the point, the number of the rule, and the
+-- path.
 pub record IsBodyWarned (bytes : List ℕ) (items : List UnitItem) (b : BodyText) (w : Warned) : Type 0 where
   pub function : Function
   pub is_there : slice_get (program_of items).functions b.number ≡ Some function

@@ -122,10 +122,13 @@ impl UnitLines {
         course: &mut Course<'a>,
         item: &'a Item<'a>,
     ) -> Result<(), NoMemory>
-        requires ahead { (rest : List UnitItem) × IsInFrontOf (item_shapes teller.now.pass.ground.items.now) (item_shape item.now ∷ rest) (course_of course.old) }
+        requires ahead { (rest : List UnitItem)
+            × IsInFrontOf (item_shapes teller.now.pass.ground.items.now) (item_shape item.now ∷ rest) (course_of course.old) }
         requires points { HaveTheirPoints (item.now ∷ []) }
-        ensures behind { OnOk result (course_of course.new ≡ course_behind (unit_of [] (item_shapes teller.now.pass.ground.items.now)) (course_of course.old) (item_shape item.now)) }
-        ensures lines { OnOk result ((done : List BodyText) → AreWarned starts.now (item_shapes teller.now.pass.ground.items.now) done (warned_of self.old)
+        ensures behind { OnOk result (course_of course.new ≡ course_behind (unit_of [] (item_shapes teller.now.pass.ground.items.now))
+            (course_of course.old) (item_shape item.now)) }
+        ensures lines { OnOk result ((done : List BodyText)
+            → AreWarned starts.now (item_shapes teller.now.pass.ground.items.now) done (warned_of self.old)
             → AreWarned starts.now (item_shapes teller.now.pass.ground.items.now) (done ++ body_by (course_of course.old).known.here (item_shape item.now)) (warned_of self.new)) }
     {
         match &teller.item(course, item) {
@@ -143,7 +146,8 @@ impl UnitLines {
     ) -> Result<(), NoMemory>
         requires begun { course_of course.old ≡ course_outset (unit_of [] (item_shapes teller.now.pass.ground.items.now)) }
         requires points { HaveTheirPoints teller.now.pass.ground.items.now }
-        ensures { OnOk result (warned_of self.old ≡ record { text = []; count = 0 } → IsWarned starts.now (item_shapes teller.now.pass.ground.items.now) (warned_of self.new)) }
+        ensures { OnOk result (warned_of self.old ≡ record { text = []; count = 0 }
+            → IsWarned starts.now (item_shapes teller.now.pass.ground.items.now) (warned_of self.new)) }
     {
         let alloc = *self.text.allocator();
         'each: for item in teller.pass.ground.items {
@@ -155,7 +159,8 @@ impl UnitLines {
     /// Adds the lines of all bodies that a teller tells, where none are there yet.
     fn add_all(&mut self, starts: &LineStarts<'_>, teller: &Teller<'_, '_>) -> Result<(), NoMemory>
         requires { HaveTheirPoints teller.now.pass.ground.items.now }
-        ensures { OnOk result (warned_of self.old ≡ record { text = []; count = 0 } → IsWarned starts.now (item_shapes teller.now.pass.ground.items.now) (warned_of self.new)) }
+        ensures { OnOk result (warned_of self.old ≡ record { text = []; count = 0 }
+            → IsWarned starts.now (item_shapes teller.now.pass.ground.items.now) (warned_of self.new)) }
     {
         let mut course = Course::new(*self.text.allocator(), &teller.pass.ground)?;
         self.add_bodies(starts, teller, &mut course)
@@ -170,7 +175,8 @@ impl UnitLines {
     ) -> Result<(), NoMemory>
         requires same { fit.now.typed.unit.now.items ≡ tables.now.items }
         requires points { HaveTheirPoints fit.now.typed.unit.now.items.now }
-        ensures { OnOk result (warned_of self.old ≡ record { text = []; count = 0 } → IsWarned starts.now (item_shapes fit.now.typed.unit.now.items.now) (warned_of self.new)) }
+        ensures { OnOk result (warned_of self.old ≡ record { text = []; count = 0 }
+            → IsWarned starts.now (item_shapes fit.now.typed.unit.now.items.now) (warned_of self.new)) }
     {
         let teller = Teller {
             pass: tables.pass(fit),
@@ -187,7 +193,8 @@ impl UnitLines {
     ) -> Result<(), NoMemory>
         requires placed { placed_in (item_shapes fit.now.typed.unit.now.items.now) ≡ Ok places.now }
         requires points { HaveTheirPoints fit.now.typed.unit.now.items.now }
-        ensures { OnOk result (warned_of self.old ≡ record { text = []; count = 0 } → IsWarned starts.now (item_shapes fit.now.typed.unit.now.items.now) (warned_of self.new)) }
+        ensures { OnOk result (warned_of self.old ≡ record { text = []; count = 0 }
+            → IsWarned starts.now (item_shapes fit.now.typed.unit.now.items.now) (warned_of self.new)) }
     {
         match &UnitTables::new(*self.text.allocator(), fit, places) {
             Ok(tables) => self.add_by(starts, fit, tables),

@@ -1,5 +1,6 @@
 -- A body that is entered is the one of the text, and its function that of the core program.
-use Rattle.std.proofs.Common.{◌≡◌, ◌∙◌, ℕ, Bool, true, false, List, [], ◌∷◌, ◌++◌, length, map, Some, None, is_none, option_map, slice_get, unwrap_or, if◌then◌else◌, nat_lt, refl, sym, ap}
+use Rattle.std.proofs.Common.{◌≡◌, ◌∙◌, ℕ, Bool, true, false, List, [], ◌∷◌, ◌++◌, length, map, Some, None, is_none, option_map, slice_get}
+use Rattle.std.proofs.Common.{unwrap_or, if◌then◌else◌, nat_lt, refl, sym, ap}
 use Rattle.std.proofs.lemmas.List.{map-append}
 use Rattle.tsa_base.specs.declared.token.Span.{Span}
 use Rattle.tsa_tree.specs.declarations.Shapes.{head_shape}

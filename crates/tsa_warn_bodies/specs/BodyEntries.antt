@@ -27,8 +27,8 @@ labels_at c n tree w =
     param_labels c.known.here (head_shape tree).params (first_params c n)
     ++ labels_with (declared_texts (map point_shape tree.points.now)) w.view.notes.kinds.items
 
--- The body that is entered is this one of the unit, its function is that of the core program with all of its paths, and the points of its tree are those of
--- the text.
+-- The body that is entered is this one of the unit, its function is that of the core program with all of its paths, and the points of its
+-- tree are those of the text.
 pub record IsBodyAt (items : List UnitItem) (b : BodyText) (c : Course) (i : Inside) (tree : FnTree) : Type 0 where
   pub function : Function
   pub site : Site

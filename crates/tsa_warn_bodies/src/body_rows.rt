@@ -58,7 +58,9 @@ impl<'w, 'a> Teller<'w, 'a> {
         body: Entered<'a>,
         flow: &FunctionFlow<'a>,
     ) -> Result<PathTexts, NoMemory>
-        ensures { IfOk result (λ texts. texts ≡ texts_of (names_in self.now.pass.ground.layout.now (labels_at (course_of course.now) body.entry.number body.entry.head.now flow.now)) flow.now.view.numbers) }
+        ensures { IfOk result (λ texts. texts
+            ≡ texts_of (names_in self.now.pass.ground.layout.now
+            (labels_at (course_of course.now) body.entry.number body.entry.head.now flow.now)) flow.now.view.numbers) }
     {
         let scope = &course.known.scope;
         let view = flow.view();
@@ -78,9 +80,12 @@ impl<'w, 'a> Teller<'w, 'a> {
         inside: &Inside<'a>,
         head: &'a FnTree<'a>,
     ) -> Result<Option<ToldBody<'a>>, NoMemory>
-        requires stands { (b : BodyText) × IsBodyAt (item_shapes self.now.pass.ground.items.now) b (course_of course.old) inside.now head.now }
+        requires stands { (b : BodyText) × IsBodyAt (item_shapes self.now.pass.ground.items.now) b (course_of course.old) inside.now
+            head.now }
         ensures known { OnOk result (course_of course.new ≡ course_of course.old) }
-        ensures told { IfOk result (λ told. (b : BodyText) → IsBodyAt (item_shapes self.now.pass.ground.items.now) b (course_of course.old) inside.now head.now → Tells (item_shapes self.now.pass.ground.items.now) (b ∷ []) told) }
+        ensures told { IfOk result (λ told. (b : BodyText)
+            → IsBodyAt (item_shapes self.now.pass.ground.items.now) b (course_of course.old) inside.now head.now
+            → Tells (item_shapes self.now.pass.ground.items.now) (b ∷ []) told) }
     {
         let Some(paths) = self.pass.fit.paths(inside.number) else {
             return Ok(None);
@@ -102,10 +107,13 @@ impl<'w, 'a> Teller<'w, 'a> {
         head: &'a FnTree<'a>,
     ) -> Result<Option<ToldBody<'a>>, NoMemory>
         requires is { item.now ≡ Function head.now }
-        requires ahead { (rest : List UnitItem) × IsInFrontOf (item_shapes self.now.pass.ground.items.now) (item_shape item.now ∷ rest) (course_of course.old) }
+        requires ahead { (rest : List UnitItem)
+            × IsInFrontOf (item_shapes self.now.pass.ground.items.now) (item_shape item.now ∷ rest) (course_of course.old) }
         requires points { HasItsPoints head.now }
-        ensures behind { OnOk result (course_of course.new ≡ course_behind (unit_of [] (item_shapes self.now.pass.ground.items.now)) (course_of course.old) (item_shape item.now)) }
-        ensures told { IfOk result (λ told. Tells (item_shapes self.now.pass.ground.items.now) (body_by (course_of course.old).known.here (item_shape item.now)) told) }
+        ensures behind { OnOk result (course_of course.new ≡ course_behind (unit_of [] (item_shapes self.now.pass.ground.items.now))
+            (course_of course.old) (item_shape item.now)) }
+        ensures told { IfOk result (λ told. Tells (item_shapes self.now.pass.ground.items.now)
+            (body_by (course_of course.old).known.here (item_shape item.now)) told) }
     {
         course.note(head)?;
         let Some(inside) = enter_item(&self.pass.ground, &mut course.known, item)? else {
@@ -116,17 +124,20 @@ impl<'w, 'a> Teller<'w, 'a> {
         Ok(told)
     }
 
-    /// What is told of the body that an item has; of another item nothing is. The item is the first of those that are left, and its points are those
-    /// of the text.
+    /// What is told of the body that an item has; of another item nothing is. The item is the first of those that are left, and its points
+    /// are those of the text.
     pub fn item(
         &self,
         course: &mut Course<'a>,
         item: &'a Item<'a>,
     ) -> Result<Option<ToldBody<'a>>, NoMemory>
-        requires ahead { (rest : List UnitItem) × IsInFrontOf (item_shapes self.now.pass.ground.items.now) (item_shape item.now ∷ rest) (course_of course.old) }
+        requires ahead { (rest : List UnitItem)
+            × IsInFrontOf (item_shapes self.now.pass.ground.items.now) (item_shape item.now ∷ rest) (course_of course.old) }
         requires points { HaveTheirPoints (item.now ∷ []) }
-        ensures behind { OnOk result (course_of course.new ≡ course_behind (unit_of [] (item_shapes self.now.pass.ground.items.now)) (course_of course.old) (item_shape item.now)) }
-        ensures told { IfOk result (λ told. Tells (item_shapes self.now.pass.ground.items.now) (body_by (course_of course.old).known.here (item_shape item.now)) told) }
+        ensures behind { OnOk result (course_of course.new ≡ course_behind (unit_of [] (item_shapes self.now.pass.ground.items.now))
+            (course_of course.old) (item_shape item.now)) }
+        ensures told { IfOk result (λ told. Tells (item_shapes self.now.pass.ground.items.now)
+            (body_by (course_of course.old).known.here (item_shape item.now)) told) }
     {
         match item {
             Item::Function(head) => self.function(course, item, head),

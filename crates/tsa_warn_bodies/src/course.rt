@@ -12,7 +12,8 @@ use tsa_profile_context::Ground;
 use tsa_rules_bodies::{Knowledge, outset};
 use tsa_tree::item::{FnTree, Param};
 
-/// What is known in front of an item of a unit, and the parameters of each function that is declared, by its number, as they are declared first.
+/// What is known in front of an item of a unit, and the parameters of each function that is declared, by its number, as they are declared
+/// first.
 pub struct Course<'a> {
     pub(crate) known: Knowledge<'a>,
     pub(crate) firsts: Vec<&'a [Param<'a>]>,

@@ -1,5 +1,6 @@
 -- What is found by all passes is all that fails.
-use Rattle.std.proofs.Common.{◌≡◌, ◌∙◌, ◌<◌, ◌⊎◌, inl, inr, ℕ, nat_eq, true, List, [], map, length, Contains, Option, Some, None, option_map, slice_get, unwrap_or, refl, sym, ap, ap₂, subst, true≢false, eqb-true}
+use Rattle.std.proofs.Common.{◌≡◌, ◌∙◌, ◌<◌, ◌⊎◌, inl, inr, ℕ, nat_eq, true, List, [], map, length, Contains, Option, Some, None}
+use Rattle.std.proofs.Common.{option_map, slice_get, unwrap_or, refl, sym, ap, ap₂, subst, true≢false, eqb-true}
 use Rattle.std.specs.Map.{lookup}
 use Rattle.std.proofs.lemmas.Map.Views.{Contains-from_lookup}
 use Rattle.std.proofs.lemmas.Option.{get_or_from_slice_get, slice_get-get_or, slice_get-map, slice_get_within}

@@ -1,5 +1,6 @@
 -- In the program of a unit rules fail only at points of bodies.
-use Rattle.std.proofs.Common.{◌≡◌, ◌∙◌, ◌+◌, ◌<◌, ℕ, true, false, List, All, length, Option, Some, None, option_map, slice_get, refl, sym, subst, arith, true≢false}
+use Rattle.std.proofs.Common.{◌≡◌, ◌∙◌, ◌+◌, ◌<◌, ℕ, true, false, List, All, length, Option, Some, None, option_map, slice_get, refl, sym}
+use Rattle.std.proofs.Common.{subst, arith, true≢false}
 use Rattle.std.proofs.lemmas.List.{length-append}
 use Rattle.std.proofs.lemmas.List.Elements.{All-contains, All-weaker}
 use Rattle.std.proofs.lemmas.Option.{slice_get-map}
@@ -12,7 +13,8 @@ use Rattle.tsa_place_model.specs.Units.{placed_in}
 use Rattle.tsa_core.specs.Control as control
 use Rattle.tsa_core.specs.Control.{edge}
 use Rattle.tsa_core.specs.Laws.{IsInside}
-use Rattle.tsa_core.specs.Programs.{Bodied, bodied_function, Declared, declared_functions, Function, function_in, function_of, layout_or_none, Program, program_of}
+use Rattle.tsa_core.specs.Programs.{Bodied, bodied_function, Declared, declared_functions, Function, function_in, function_of}
+use Rattle.tsa_core.specs.Programs.{layout_or_none, Program, program_of}
 use Rattle.tsa_core.proofs.EdgesInside.{edges_stay_inside}
 use Rattle.tsa_core.proofs.TextPoints.{points_are_those}
 use Rattle.tsa_rules.specs.declared.rule.Rule.{Rule}

@@ -23,8 +23,8 @@ pub record AreToldInOrder (names : Names) (u : Program) (f : Function) (paths : 
   pub all : (w : RuleFailure) → FailsThere u f paths w → Contains ws w
   pub ordered : AllPairs (Precedes names paths) ws
 
--- Of two different rules that fail for paths that are there one is told before the other, but not both, and one that is told before another is told
--- before all that follow it.
+-- Of two different rules that fail for paths that are there one is told before the other, but not both, and one that is told before another
+-- is told before all that follow it.
 abbrev pub OneIsFirst : Type 0
 OneIsFirst = (names : Names) (paths : List Way) (v w : RuleFailure) → v.cap < length paths → w.cap < length paths → v ≢ w
     → Precedes names paths v w ⊎ Precedes names paths w v

@@ -19,7 +19,9 @@ fn note_edges(
     point: u32,
     cap: u32,
 ) -> Result<(), NoMemory>
-    ensures { OnOk result ((u : Program) (f : Function) (paths : List Way) (c : Way) → IsFlowOf u f paths flow.now → point < length (points_of f) → slice_get paths cap ≡ Some c → Adds (λ x. (x.cap ≡ cap) × IsOfEdges u f paths point x) found.old.items found.new.items) }
+    ensures { OnOk result ((u : Program) (f : Function) (paths : List Way) (c : Way) → IsFlowOf u f paths flow.now
+        → point < length (points_of f) → slice_get paths cap ≡ Some c
+        → Adds (λ x. (x.cap ≡ cap) × IsOfEdges u f paths point x) found.old.items found.new.items) }
 {
     if flow.agree(point, cap) {
         return Ok(());
@@ -38,7 +40,8 @@ fn note_paths(
     flow: &FunctionFlow<'_>,
     point: u32,
 ) -> Result<(), NoMemory>
-    ensures { OnOk result ((u : Program) (f : Function) (paths : List Way) → IsFlowOf u f paths flow.now → point < length (points_of f) → Adds (IsOfEdges u f paths point) found.old.items found.new.items) }
+    ensures { OnOk result ((u : Program) (f : Function) (paths : List Way) → IsFlowOf u f paths flow.now → point < length (points_of f)
+        → Adds (IsOfEdges u f paths point) found.old.items found.new.items) }
 {
     'each: for cap in 0..flow.view().caps() {
         note_edges(found, flow, point, cap)?;
@@ -52,7 +55,8 @@ pub fn note_meeting(
     flow: &FunctionFlow<'_>,
     point: u32,
 ) -> Result<(), NoMemory>
-    ensures { OnOk result ((u : Program) (f : Function) (paths : List Way) → IsFlowOf u f paths flow.now → point < length (points_of f) → Adds (IsOfEdges u f paths point) found.old.items found.new.items) }
+    ensures { OnOk result ((u : Program) (f : Function) (paths : List Way) → IsFlowOf u f paths flow.now → point < length (points_of f)
+        → Adds (IsOfEdges u f paths point) found.old.items found.new.items) }
 {
     if flow.all_agree(point) {
         return Ok(());

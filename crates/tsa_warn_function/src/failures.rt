@@ -14,7 +14,8 @@ use tsa_flow_function::FunctionFlow;
 
 /// All rules that fail in a function, each point, rule and path once, in no order.
 pub fn failures_of(alloc: Global, flow: &FunctionFlow<'_>) -> Result<Vec<RuleFailure>, NoMemory>
-    ensures { IfOk result (λ found. (u : Program) (f : Function) (paths : List Way) → IsFlowOf u f paths flow.now → AreFailures u f paths found.items) }
+    ensures { IfOk result (λ found. (u : Program) (f : Function) (paths : List Way) → IsFlowOf u f paths flow.now
+        → AreFailures u f paths found.items) }
 {
     let mut found = Vec::new(alloc);
     note_marks(&mut found, flow)?;

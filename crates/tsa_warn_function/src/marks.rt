@@ -18,7 +18,8 @@ fn note_mark(
     flow: &FunctionFlow<'_>,
     entry: Entry,
 ) -> Result<(), NoMemory>
-    ensures { OnOk result ((u : Program) (f : Function) (paths : List Way) → IsFlowOf u f paths flow.now → Adds (IsOfMarks u f paths ((entry.row, entry.number) ∷ [])) found.old.items found.new.items) }
+    ensures { OnOk result ((u : Program) (f : Function) (paths : List Way) → IsFlowOf u f paths flow.now
+        → Adds (IsOfMarks u f paths ((entry.row, entry.number) ∷ [])) found.old.items found.new.items) }
 {
     if entry.row < flow.view().marks().rows() && entry.number < flow.view().caps() {
         spot_of(flow, entry.row, entry.number).note_rules(found)
@@ -29,7 +30,8 @@ fn note_mark(
 
 /// Notes what fails of those rules where a point says something of a path.
 pub fn note_marks(found: &mut Vec<RuleFailure>, flow: &FunctionFlow<'_>) -> Result<(), NoMemory>
-    ensures { OnOk result ((u : Program) (f : Function) (paths : List Way) → IsFlowOf u f paths flow.now → Adds (IsOfMarks u f paths (map (λ e. e.0) flow.now.view.notes.marks.marks)) found.old.items found.new.items) }
+    ensures { OnOk result ((u : Program) (f : Function) (paths : List Way) → IsFlowOf u f paths flow.now
+        → Adds (IsOfMarks u f paths (map (λ e. e.0) flow.now.view.notes.marks.marks)) found.old.items found.new.items) }
 {
     let marks = flow.view().marks();
     'each: for at in 0..marks.len() {

@@ -34,7 +34,8 @@ fn sort(texts: &PathTexts, found: &mut Vec<RuleFailure>)
     found.sort_unstable_by(|first, second| compare(texts, *first, *second));
 }
 
-/// All rules that fail in a function, in the order in which they are told: by the point, then by the number of the rule, and last by the path.
+/// All rules that fail in a function, in the order in which they are told: by the point, then by the number of the rule, and last by the
+/// path.
 pub fn warnings_of(
     alloc: Global,
     flow: &FunctionFlow<'_>,

@@ -28,7 +28,8 @@ fn note_leaving(
     flow: &FunctionFlow<'_>,
     point: u32,
 ) -> Result<(), NoMemory>
-    ensures { OnOk result ((u : Program) (f : Function) (paths : List Way) → IsFlowOf u f paths flow.now → point < length (points_of f) → Adds (IsOfReturns u f paths point) found.old.items found.new.items) }
+    ensures { OnOk result ((u : Program) (f : Function) (paths : List Way) → IsFlowOf u f paths flow.now → point < length (points_of f)
+        → Adds (IsOfReturns u f paths point) found.old.items found.new.items) }
 {
     'each: for cap in 0..flow.view().caps() {
         spot_of(flow, point, cap).note(found, Rule::TS09)?;
@@ -42,7 +43,8 @@ fn note_return(
     flow: &FunctionFlow<'_>,
     point: u32,
 ) -> Result<(), NoMemory>
-    ensures { OnOk result ((u : Program) (f : Function) (paths : List Way) → IsFlowOf u f paths flow.now → point < length (points_of f) → Adds (IsOfReturns u f paths point) found.old.items found.new.items) }
+    ensures { OnOk result ((u : Program) (f : Function) (paths : List Way) → IsFlowOf u f paths flow.now → point < length (points_of f)
+        → Adds (IsOfReturns u f paths point) found.old.items found.new.items) }
 {
     if leaves(flow.view().role(point)) {
         note_leaving(found, flow, point)
@@ -57,7 +59,8 @@ fn note_join(
     flow: &FunctionFlow<'_>,
     point: u32,
 ) -> Result<(), NoMemory>
-    ensures { OnOk result ((u : Program) (f : Function) (paths : List Way) → IsFlowOf u f paths flow.now → point < length (points_of f) → Adds (IsOfEdges u f paths point) found.old.items found.new.items) }
+    ensures { OnOk result ((u : Program) (f : Function) (paths : List Way) → IsFlowOf u f paths flow.now → point < length (points_of f)
+        → Adds (IsOfEdges u f paths point) found.old.items found.new.items) }
 {
     if flow.begins_block(point) {
         note_meeting(found, flow, point)
@@ -72,7 +75,8 @@ fn note_point(
     flow: &FunctionFlow<'_>,
     point: u32,
 ) -> Result<(), NoMemory>
-    ensures { OnOk result ((u : Program) (f : Function) (paths : List Way) → IsFlowOf u f paths flow.now → point < length (points_of f) → Adds (IsOfPoint u f paths point) found.old.items found.new.items) }
+    ensures { OnOk result ((u : Program) (f : Function) (paths : List Way) → IsFlowOf u f paths flow.now → point < length (points_of f)
+        → Adds (IsOfPoint u f paths point) found.old.items found.new.items) }
 {
     note_return(found, flow, point)?;
     note_join(found, flow, point)
@@ -80,7 +84,8 @@ fn note_point(
 
 /// Notes what fails at all points for any path.
 pub fn note_points(found: &mut Vec<RuleFailure>, flow: &FunctionFlow<'_>) -> Result<(), NoMemory>
-    ensures { OnOk result ((u : Program) (f : Function) (paths : List Way) → IsFlowOf u f paths flow.now → Adds (IsOfPoints u f paths) found.old.items found.new.items) }
+    ensures { OnOk result ((u : Program) (f : Function) (paths : List Way) → IsFlowOf u f paths flow.now
+        → Adds (IsOfPoints u f paths) found.old.items found.new.items) }
 {
     'each: for point in 0..flow.view().marks().rows() {
         note_point(found, flow, point)?;

@@ -12,7 +12,8 @@ use tsa_base::NoMemory;
 use tsa_flow_function::FunctionFlow;
 use tsa_rules::{Case, Rule, Statuses};
 
-/// The rules that are asked where a point says something of a path: not those of returns and of edges that meet, which are asked of each path.
+/// The rules that are asked where a point says something of a path: not those of returns and of edges that meet, which are asked of each
+/// path.
 pub const MARK_RULES: [Rule; 10] = [
     Rule::TS01,
     Rule::TS02,
@@ -39,7 +40,8 @@ pub struct Spot {
 pub fn spot_of(flow: &FunctionFlow<'_>, point: u32, cap: u32) -> Spot
     ensures point { result.point ≡ point }
     ensures cap { result.cap ≡ cap }
-    ensures is { (u : Program) (f : Function) (paths : List Way) (c : Way) → IsFlowOf u f paths flow.now → point < length (points_of f) → slice_get paths cap ≡ Some c → IsSpotOf u f c result }
+    ensures is { (u : Program) (f : Function) (paths : List Way) (c : Way) → IsFlowOf u f paths flow.now → point < length (points_of f)
+        → slice_get paths cap ≡ Some c → IsSpotOf u f c result }
 {
     Spot {
         point,
@@ -52,14 +54,16 @@ pub fn spot_of(flow: &FunctionFlow<'_>, point: u32, cap: u32) -> Spot
 impl Spot {
     /// Whether a rule fails there for some status that walks bring.
     fn breaks(&self, rule: Rule) -> bool
-        ensures { (u : Program) (f : Function) (c : Way) → IsSpotOf u f c self.now → IsTrue result ↔ FailsOnWalks u f self.now.point c rule }
+        ensures { (u : Program) (f : Function) (c : Way) → IsSpotOf u f c self.now
+            → IsTrue result ↔ FailsOnWalks u f self.now.point c rule }
     {
         self.case.fails_for_some(rule, self.before)
     }
 
     /// Notes that a rule fails there, where it does for some status that walks bring.
     pub fn note(&self, found: &mut Vec<RuleFailure>, rule: Rule) -> Result<(), NoMemory>
-        ensures { OnOk result ((u : Program) (f : Function) (c : Way) → IsSpotOf u f c self.now → Adds (IsNoted u f c self.now rule) found.old.items found.new.items) }
+        ensures { OnOk result ((u : Program) (f : Function) (c : Way) → IsSpotOf u f c self.now
+            → Adds (IsNoted u f c self.now rule) found.old.items found.new.items) }
     {
         if self.breaks(rule) {
             let failure = RuleFailure {
@@ -75,7 +79,8 @@ impl Spot {
 
     /// Notes which of the rules that are asked of marks fail there.
     pub fn note_rules(&self, found: &mut Vec<RuleFailure>) -> Result<(), NoMemory>
-        ensures { OnOk result ((u : Program) (f : Function) (c : Way) → IsSpotOf u f c self.now → Adds (IsNotedBy u f c self.now MARK_RULES) found.old.items found.new.items) }
+        ensures { OnOk result ((u : Program) (f : Function) (c : Way) → IsSpotOf u f c self.now
+            → Adds (IsNotedBy u f c self.now MARK_RULES) found.old.items found.new.items) }
     {
         'each: for rule in MARK_RULES {
             self.note(found, rule)?;

@@ -1,5 +1,6 @@
 -- Numbers compared by what their paths are told by.
-use Rattle.std.proofs.Common.{◌≡◌, ◌<◌, ℕ, Bool, true, false, nat_lt, ◌&&◌, List, length, ◌⊎◌, inl, inr, Ordering, Less, Equal, Greater, is_lt, nat_cmp, refl, sym, ap, ◌∙◌, true≢false}
+use Rattle.std.proofs.Common.{◌≡◌, ◌<◌, ℕ, Bool, true, false, nat_lt, ◌&&◌, List, length, ◌⊎◌, inl, inr, Ordering, Less, Equal, Greater}
+use Rattle.std.proofs.Common.{is_lt, nat_cmp, refl, sym, ap, ◌∙◌, true≢false}
 use Rattle.std.specs.Cmp.{IsTotalOrder}
 use Rattle.std.specs.Ordering.{ordering_then, ordering_reverse}
 use Rattle.std.proofs.lemmas.Cmp.{then_total, on_total, nat_list_cmp_total, nat_cmp_total, ranked}

@@ -6,7 +6,8 @@ use Rattle.tsa_tree.specs.declarations.Syntax.{Parameter}
 use Rattle.tsa_tree.specs.declared.item.FnTree.{FnTree}
 use Rattle.tsa_tree.specs.declared.kind.Kind.{Kind}
 use Rattle.tsa_tree.specs.declared.kind.Kind.TheVariants.{Int}
-use Rattle.tsa_tree.specs.points.Syntax.{Deed, declares, evaluates, assigns, tests, switches, jumps, idles, returns, ends, PlacedDeed, points_of_body}
+use Rattle.tsa_tree.specs.points.Syntax.{Deed, declares, evaluates, assigns, tests, switches, jumps, idles, returns, ends, PlacedDeed}
+use Rattle.tsa_tree.specs.points.Syntax.{points_of_body}
 use Rattle.tsa_tree.specs.statements.Shapes.{point_shape}
 use Rattle.tsa_tree.specs.statements.Syntax.{Statements}
 use Rattle.tsa_tree.specs.types.DeclaredTypes.{thing_type}

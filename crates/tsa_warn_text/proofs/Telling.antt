@@ -1,5 +1,7 @@
 -- The test of texts decides which number is told before.
-use Rattle.std.proofs.Common.{◌≡◌, ◌<◌, inl, inr, ℕ, zero, suc, true, List, [], ◌∷◌, length, AllPairs, Option, Some, None, option_map, unwrap_or, slice_get, slice_index_or, ⊎_elim, Ordering, Less, Equal, Greater, is_lt, nat_cmp, refl, sym, ap, subst, ◌∙◌, true≢false, arith}
+use Rattle.std.proofs.Common.{◌≡◌, ◌<◌, inl, inr, ℕ, zero, suc, true, List, [], ◌∷◌, length, AllPairs, Option, Some, None, option_map}
+use Rattle.std.proofs.Common.{unwrap_or, slice_get, slice_index_or, ⊎_elim, Ordering, Less, Equal, Greater, is_lt, nat_cmp, refl, sym, ap}
+use Rattle.std.proofs.Common.{subst, ◌∙◌, true≢false, arith}
 use Rattle.std.specs.Ordering.{ordering_then}
 use Rattle.std.specs.Cmp.Lexicographic.{slice_cmp}
 use Rattle.std.proofs.lemmas.Cmp.{ranked, nat_list_cmp_total, tied_itself}
@@ -8,7 +10,8 @@ use Rattle.std.proofs.lemmas.Option.{none-some, slice_get-map, slice_get_within}
 use Rattle.tsa_place_model.specs.Ways.{Way}
 use Rattle.tsa_path.specs.PathTexts.{Names, path_text}
 use Rattle.tsa_rules.specs.Warnings.{StandsBefore, by_text, by_locals, locals_in}
-use Rattle.tsa_warn_text.specs.Orders.{IsToldBefore, by_path, by_number, text_of, texts_of, OneIsToldFirst, NotBothAreToldFirst, OrderIsTransitive, RanksFollowTheOrder}
+use Rattle.tsa_warn_text.specs.Orders.{IsToldBefore, by_path, by_number, text_of, texts_of, OneIsToldFirst, NotBothAreToldFirst}
+use Rattle.tsa_warn_text.specs.Orders.{OrderIsTransitive, RanksFollowTheOrder}
 use Rattle.tsa_warn_text.specs.Ranks.{PathText, told_by, told_cmp, is_told_before}
 use Rattle.tsa_warn_text.proofs.Comparing.{Compares, compares, told_before, is_less, one_is_before, not_both, chained}
 use Rattle.tsa_warn_text.proofs.Ranking.{lower_rank, before_by_rank}

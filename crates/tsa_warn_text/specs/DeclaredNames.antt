@@ -40,7 +40,8 @@ pub record AreOfBody (ps : List PlacedDeed) (kinds : List Kind) (here : Scope) (
   pub points : ps ≡ points_of_body body close
   pub locals : kinds ≡ kinds_declared (known_in_body here body)
 
--- A body of a function and its first declaration are told by what is known in the body, its tree, the first parameters and the kinds of its locals.
+-- A body of a function and its first declaration are told by what is known in the body, its tree, the first parameters and the kinds of its
+-- locals.
 pub record IsBodyOf (scope : Scope) (tree : FnTree) (first : List Parameter) (kinds : List Kind) (d : Declared) (b : Bodied) : Type 0 where
   pub here : b.here ≡ scope
   pub params : b.head.params ≡ (head_shape tree).params

@@ -1,5 +1,6 @@
 -- What the lines of held locks say after their places: `in F: P S`, S being the words of the statuses that P may have.
-use Rattle.std.specs.Prelude.{◌<◌, ℕ, nat_eq, Bool, List, [], ◌++◌, map, filter, codes, decimal, slice_get, unwrap_or, Contains, AllPairs, ◌↔◌, if◌then◌else◌}
+use Rattle.std.specs.Prelude.{◌<◌, ℕ, nat_eq, Bool, List, [], ◌++◌, map, filter, codes, decimal, slice_get, unwrap_or, Contains, AllPairs}
+use Rattle.std.specs.Prelude.{◌↔◌, if◌then◌else◌}
 use Rattle.std.specs.Int.{bit_at}
 use Rattle.std.specs.List.{range_with_len, join_with_byte}
 use Rattle.tsa_rules.specs.Sets.{Has}

@@ -15,16 +15,19 @@ use tsa_types_scope::Scope;
 use tsa_tree::item::{FnTree, Param};
 use tsa_tree::kind::Kind;
 
-/// What the locals of a function with a body are named by their numbers: its parameters, of which some may be named by the first declaration alone,
-/// and then the locals that the body declares, which have these kinds.
+/// What the locals of a function with a body are named by their numbers: its parameters, of which some may be named by the first
+/// declaration alone, and then the locals that the body declares, which have these kinds.
 pub fn body_names<'a>(
     scope: &Scope<'_>,
     in_body: &FnTree<'a>,
     first: &[Param<'a>],
     kinds: &[Kind],
 ) -> Result<Vec<Named<'a>>, NoMemory>
-    ensures by { IfOk result (λ names. map label names.items ≡ param_labels scope.now (head_shape in_body.now).params (param_shapes first.now) ++ labels_with (declared_texts (map point_shape in_body.now.points.now)) kinds.now) }
-    ensures are { (d : Declared) (b : Bodied) → IsBodyOf scope.now in_body.now (param_shapes first.now) kinds.now d b → IfOk result (λ names. map label names.items ≡ local_labels d (Some b)) }
+    ensures by { IfOk result (λ names. map label names.items
+        ≡ param_labels scope.now (head_shape in_body.now).params (param_shapes first.now)
+        ++ labels_with (declared_texts (map point_shape in_body.now.points.now)) kinds.now) }
+    ensures are { (d : Declared) (b : Bodied) → IsBodyOf scope.now in_body.now (param_shapes first.now) kinds.now d b
+        → IfOk result (λ names. map label names.items ≡ local_labels d (Some b)) }
 {
     let mut names = param_names(scope, in_body.params, first)?;
     let declared = declared_names(scope.allocator(), in_body.points, kinds)?;

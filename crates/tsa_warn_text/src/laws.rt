@@ -1,7 +1,8 @@
 //! Laws of the order in which paths are told.
 ghost use Rattle.tsa_warn_text.specs.Orders.{NotBothAreToldFirst, OneIsToldFirst, OrderIsTransitive, RanksFollowTheOrder};
 
-/// Of two different numbers of paths exactly one is told before the other, and one that is told before another is told before all that follow it.
+/// Of two different numbers of paths exactly one is told before the other, and one that is told before another is told before all that
+/// follow it.
 pub fn paths_are_told_in_one_order()
     ensures one { OneIsToldFirst }
     ensures not_both { NotBothAreToldFirst }

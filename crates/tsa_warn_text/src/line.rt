@@ -43,7 +43,8 @@ fn push_lock(text: &mut Vec<u8>, rule: Rule, kind: &[u8], path: &[u8]) -> Result
 /// Appends what a warning says behind its place: `TSnn in F: ` and what the rule says of the lock.
 #[tactic(auto, unfolding(crate::specs::Lines::warning_text))]
 pub fn push_warning(text: &mut Vec<u8>, subject: Subject<'_>) -> Result<(), NoMemory>
-    ensures { OnOk result (text.new.items ≡ text.old.items ++ warning_text subject.entry.rule subject.entry.function.now subject.entry.kind.now subject.entry.path.now) }
+    ensures { OnOk result (text.new.items ≡ text.old.items ++ warning_text subject.entry.rule subject.entry.function.now
+        subject.entry.kind.now subject.entry.path.now) }
 {
     push_head(text, subject.rule, subject.function)?;
     push_lock(text, subject.rule, subject.kind, subject.path)

@@ -17,7 +17,8 @@ use tsa_tree::stmt::{Action, Point};
 
 /// Notes the name that is declared at a point, where one is.
 fn note_text<'a>(texts: &mut Vec<&'a [u8]>, action: &Action<'a>) -> Result<(), NoMemory>
-    ensures { OnOk result (map (λ text. text.now) texts.new.items ≡ map (λ text. text.now) texts.old.items ++ text_by (action_shape action.now)) }
+    ensures { OnOk result (map (λ text. text.now) texts.new.items ≡ map (λ text. text.now) texts.old.items
+        ++ text_by (action_shape action.now)) }
 {
     if let Action::Declare(decl) = action {
         texts.push(decl.name.text)?;
@@ -43,7 +44,8 @@ pub fn declared_names<'a>(
     kinds: &[Kind],
 ) -> Result<Vec<Named<'a>>, NoMemory>
     ensures by { IfOk result (λ names. map label names.items ≡ labels_with (declared_texts (map point_shape points.now)) kinds.now) }
-    ensures are { (here : Scope) (body : Statements) → AreOfBody (map point_shape points.now) kinds.now here body → IfOk result (λ names. map label names.items ≡ declared_labels (known_in_body here body)) }
+    ensures are { (here : Scope) (body : Statements) → AreOfBody (map point_shape points.now) kinds.now here body
+        → IfOk result (λ names. map label names.items ≡ declared_labels (known_in_body here body)) }
 {
     let texts = texts_at(alloc, points)?;
     let mut names = Vec::new(alloc);

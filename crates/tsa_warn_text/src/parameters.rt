@@ -29,7 +29,9 @@ fn param_label<'a>(
     in_body: &Param<'a>,
     first: &Param<'a>,
 ) -> Result<Named<'a>, NoMemory>
-    ensures { IfOk result (λ named. label named ≡ legends.label (legends.param_name (param_shape in_body.now).name (param_shape first.now).name) (thing_type scope.now (param_shape in_body.now).ctype).kind) }
+    ensures { IfOk result (λ named. label named
+        ≡ legends.label (legends.param_name (param_shape in_body.now).name (param_shape first.now).name)
+        (thing_type scope.now (param_shape in_body.now).ctype).kind) }
 {
     let kind = declared_thing(scope, &in_body.ctype)?.kind;
     Ok(label_of(param_name(in_body, first), kind))
@@ -41,7 +43,8 @@ pub fn param_names<'a>(
     in_body: &[Param<'a>],
     first: &[Param<'a>],
 ) -> Result<Vec<Named<'a>>, NoMemory>
-    ensures { IfOk result (λ names. map label names.items ≡ legends.param_labels scope.now (param_shapes in_body.now) (param_shapes first.now)) }
+    ensures { IfOk result (λ names. map label names.items ≡ legends.param_labels scope.now (param_shapes in_body.now)
+        (param_shapes first.now)) }
 {
     let mut names = Vec::new(scope.allocator());
     'each: for (param, at_first) in in_body.iter().zip(first) {

@@ -15,7 +15,8 @@ use tsa_base::NoMemory;
 use tsa_rules_table::Numbers;
 use tsa_path::PathNames;
 
-/// The paths of a function with their texts, by their numbers, and the order in which they are told. Contracts see what each path is told by.
+/// The paths of a function with their texts, by their numbers, and the order in which they are told. Contracts see what each path is told
+/// by.
 pub struct PathTexts {
     texts: Vec<PathText>,
     order: Vec<u32>,
@@ -98,7 +99,8 @@ impl PathTexts {
     /// All numbers in the order in which their paths are told.
     pub fn order(&self) -> &[u32]
         ensures each { IsPermutation (numbers_of self.now) result.now }
-        ensures ordered { (names : Names) (paths : List Way) → self.now ≡ texts_of names paths → AllPairs (IsToldBefore names paths) result.now }
+        ensures ordered { (names : Names) (paths : List Way) → self.now ≡ texts_of names paths
+            → AllPairs (IsToldBefore names paths) result.now }
         ensures ranks { map (rank_in self.now) result.now ≡ numbers_of self.now }
     {
         &self.order

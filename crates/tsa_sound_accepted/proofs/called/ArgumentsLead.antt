@@ -1,5 +1,6 @@
 -- The path to where an argument of a call points is that of its term.
-use Rattle.std.proofs.Common.{◌≡◌, ◌∙◌, ℕ, zero, suc, Bool, true, false, ◌&&◌, List, [], ◌∷◌, ◌++◌, map, Option, Some, None, option_map, option_and_then, slice_get, if◌then◌else◌, refl, sym, ap, subst}
+use Rattle.std.proofs.Common.{◌≡◌, ◌∙◌, ℕ, zero, suc, Bool, true, false, ◌&&◌, List, [], ◌∷◌, ◌++◌, map, Option, Some, None, option_map}
+use Rattle.std.proofs.Common.{option_and_then, slice_get, if◌then◌else◌, refl, sym, ap, subst}
 use Rattle.tsa_tree.specs.declared.kind.ExpressionType.{ExpressionType}
 use Rattle.tsa_tree.specs.declared.kind.Kind.{Kind}
 use Rattle.tsa_tree.specs.declared.kind.Kind.TheVariants as type
@@ -17,7 +18,8 @@ use Rattle.tsa_place_model.specs.declared.path.Root.{Root}
 use Rattle.tsa_place_model.specs.declared.path.Root.TheVariants.{Global, Local, Owner}
 use Rattle.tsa_core.specs.Kinds.{Setting, Belongs}
 use Rattle.tsa_core.specs.Meanings.{as_kind, loaded, meaning, arguments, null_pointer}
-use Rattle.tsa_core.specs.Terms.{Term, constant, variable, answer, global, member, element, target, load, address, converted, prefixed, joined, Sense}
+use Rattle.tsa_core.specs.Terms.{Term, constant, variable, answer, global, member, element, target, load, address, converted, prefixed}
+use Rattle.tsa_core.specs.Terms.{joined, Sense}
 use Rattle.tsa_core.specs.Uses.{argument_ways}
 use Rattle.tsa_core.proofs.TypedTerms.{some_same}
 use Rattle.tsa_path.specs.Substitution.{as_pointer, given, pointed_way}

@@ -1,5 +1,6 @@
 -- At each point of a body a function that is known by its name has the result and the parameters of the program's.
-use Rattle.std.proofs.Common.{Bool, false, true, ◌≡◌, ◌∙◌, ℕ, List, [], ◌∷◌, All, IfSome, map, Option, Some, None, option_map, slice_get, slice_index_or, sym, subst}
+use Rattle.std.proofs.Common.{Bool, false, true, ◌≡◌, ◌∙◌, ℕ, List, [], ◌∷◌, All, IfSome, map, Option, Some, None, option_map, slice_get}
+use Rattle.std.proofs.Common.{slice_index_or, sym, subst}
 use Rattle.std.proofs.lemmas.List.Elements.{All-append, All-cons, All-nil}
 use Rattle.std.proofs.lemmas.Map.Entries.{All-lookup}
 use Rattle.std.specs.Str.{bytes_eq}

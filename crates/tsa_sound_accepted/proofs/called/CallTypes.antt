@@ -1,5 +1,6 @@
 -- What the answer of a call becomes where a value of a kind is wanted, and beside what it is compared with.
-use Rattle.std.proofs.Common.{◌≡◌, ℕ, pos, negsuc, nat_eq, Bool, true, false, ◌&&◌, ◌||◌, Option, Some, None, IsSome, option_and_then, is_none, is_some, if◌then◌else◌, refl, sym, ap, subst}
+use Rattle.std.proofs.Common.{◌≡◌, ℕ, pos, negsuc, nat_eq, Bool, true, false, ◌&&◌, ◌||◌, Option, Some, None, IsSome, option_and_then}
+use Rattle.std.proofs.Common.{is_none, is_some, if◌then◌else◌, refl, sym, ap, subst}
 use Rattle.tsa_base.specs.declared.value.Value.TheVariants.{Int, Unsigned, Pointer}
 use Rattle.tsa_base.proofs.Truths.{never, or_right}
 use Rattle.tsa_tree.specs.declared.expr.BinaryOp.{BinaryOp}
@@ -9,15 +10,18 @@ use Rattle.tsa_tree.specs.declared.kind.Kind.TheVariants as type
 use Rattle.tsa_tree.specs.declared.kind.ThingType.{ThingType}
 use Rattle.tsa_tree.specs.declared.number.Number.{Number}
 use Rattle.tsa_tree.specs.declared.number.Number.TheVariants as numeral
-use Rattle.tsa_tree.specs.types.Operands.{integer_kind, pointer_kind, unsigned_kind, is_integer, is_pointer, is_single, same_target, keeps_const, target_of, comparable, goes_to, null_beside}
+use Rattle.tsa_tree.specs.types.Operands.{integer_kind, pointer_kind, unsigned_kind, is_integer, is_pointer, is_single, same_target}
+use Rattle.tsa_tree.specs.types.Operands.{keeps_const, target_of, comparable, goes_to, null_beside}
 use Rattle.tsa_core.specs.Bodies.{declare, set_to}
 use Rattle.tsa_core.specs.Kinds.{scalar_kind}
 use Rattle.tsa_core.specs.Meanings.{as_kind, beside, is_int, loaded, null_pointer, of_type}
-use Rattle.tsa_core.specs.Terms.{Term, constant, variable, answer, global, member, element, target, load, address, converted, prefixed, joined, Sense}
+use Rattle.tsa_core.specs.Terms.{Term, constant, variable, answer, global, member, element, target, load, address, converted, prefixed}
+use Rattle.tsa_core.specs.Terms.{joined, Sense}
 use Rattle.tsa_core.proofs.KindTests.{both_true, one_of, or_left, integer_is, pointer_plain}
 use Rattle.tsa_profile_accesses.specs.Expressions.{is_truth}
 use Rattle.tsa_rules.specs.Conditions as cond
-use Rattle.tsa_rules.specs.Conditions.{Condition, Subject, the_call, condition, condition_at, answer_in, answer_of, answer_beside, subject_in, yes_or_no}
+use Rattle.tsa_rules.specs.Conditions.{Condition, Subject, the_call, condition, condition_at, answer_in, answer_of, answer_beside}
+use Rattle.tsa_rules.specs.Conditions.{subject_in, yes_or_no}
 use Rattle.tsa_sound.specs.CallFacts.{CanCall, IsAnswer}
 
 -- a contradiction of a test

@@ -1,5 +1,6 @@
 -- What is said of the call of a deed by typing, by running and by the profile.
-use Rattle.std.proofs.Common.{◌≡◌, ◌∙◌, ℕ, Bool, true, false, not, ◌&&◌, ◌||◌, List, [], ◌∷◌, Some, None, option_and_then, refl, sym, ap, ap₂}
+use Rattle.std.proofs.Common.{◌≡◌, ◌∙◌, ℕ, Bool, true, false, not, ◌&&◌, ◌||◌, List, [], ◌∷◌, Some, None, option_and_then, refl, sym, ap}
+use Rattle.std.proofs.Common.{ap₂}
 use Rattle.tsa_base.specs.declared.token.Span.{Span}
 use Rattle.tsa_base.proofs.Truths.{never}
 use Rattle.tsa_tree.specs.declared.expr.BinaryOp.TheVariants as op
@@ -26,7 +27,8 @@ use Rattle.tsa_profile_accesses.specs.declared.premise.ProfileCode.TheVariants.{
 use Rattle.tsa_profile_accesses.specs.declared.standing.Standing.{Standing}
 use Rattle.tsa_profile_guards.proofs.NoneFails.{none_of_both, none_of_first}
 use Rattle.tsa_profile_points.specs.Bodies.{Around, view_at}
-use Rattle.tsa_profile_accesses.specs.Expressions.{View, attributes_at, callee, expression, is_try_call, lacks_a_path, of_callee, own, parts}
+use Rattle.tsa_profile_accesses.specs.Expressions.{View, attributes_at, callee, expression, is_try_call, lacks_a_path, of_callee, own}
+use Rattle.tsa_profile_accesses.specs.Expressions.{parts}
 
 -- an expression without a call has no arguments of one
 pub no_ways : (stable : ℕ → Bool) (here : Scope) (e : Expression) → has_call e ≡ false → call_ways stable here e ≡ None

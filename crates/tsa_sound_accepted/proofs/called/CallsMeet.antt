@@ -1,5 +1,6 @@
 -- Each point that calls, of each function with a body of a typed unit in the profile, is as the laws of calls ask.
-use Rattle.std.proofs.Common.{◌≡◌, ◌∙◌, ◌⊎◌, ℕ, ◌<◌, ◌≤◌, arith, nat_eq, true, false, List, [], ◌∷◌, length, map, All, Option, Some, None, IsSome, option_and_then, option_map, slice_get, refl, sym, ap, ap₂, subst}
+use Rattle.std.proofs.Common.{◌≡◌, ◌∙◌, ◌⊎◌, ℕ, ◌<◌, ◌≤◌, arith, nat_eq, true, false, List, [], ◌∷◌, length, map, All, Option, Some, None}
+use Rattle.std.proofs.Common.{IsSome, option_and_then, option_map, slice_get, refl, sym, ap, ap₂, subst}
 use Rattle.std.specs.List.{list_any}
 use Rattle.tsa_tree.specs.declared.kind.Kind.{Kind}
 use Rattle.tsa_tree.specs.declared.kind.Kind.TheVariants as type
@@ -21,7 +22,8 @@ use Rattle.tsa_core.specs.Kinds.{Belongs, scalar_kind}
 use Rattle.tsa_core.specs.KindLaws.{setting, signatures}
 use Rattle.tsa_core.specs.Laws.{ActsBelow, KnowsBelow, PointBelow}
 use Rattle.tsa_core.specs.Meanings.{Call}
-use Rattle.tsa_core.specs.Programs.{Bodied, Declared, Function, Program, bodied_function, body_in, declared_functions, function_in, function_of, layout_or_none, program_of}
+use Rattle.tsa_core.specs.Programs.{Bodied, Declared, Function, Program, bodied_function, body_in, declared_functions, function_in}
+use Rattle.tsa_core.specs.Programs.{function_of, layout_or_none, program_of}
 use Rattle.tsa_core.specs.Terms.{Term}
 use Rattle.tsa_core.specs.Uses.{argument_ways, uses_by, uses_of}
 use Rattle.tsa_core.proofs.Beginnings.{bodies_begin_below}
@@ -37,7 +39,8 @@ use Rattle.tsa_core.proofs.SignaturesFit.{SoundBody, body_sound}
 use Rattle.tsa_path.specs.Substitution.{as_pointer, given}
 use Rattle.tsa_rules.specs.Attributes as rules
 use Rattle.tsa_rules.specs.Attributes.{all_as_called}
-use Rattle.tsa_rules.specs.Points.{attrs_at, attrs_called, function_at, is_a_try, local_begun, or_idle, or_no_function, or_unused, point_at, points_of, uses_at}
+use Rattle.tsa_rules.specs.Points.{attrs_at, attrs_called, function_at, is_a_try, local_begun, or_idle, or_no_function, or_unused, point_at}
+use Rattle.tsa_rules.specs.Points.{points_of, uses_at}
 use Rattle.tsa_rules.specs.TryVariables.{AreInOrder}
 use Rattle.tsa_rules.proofs.KeptTries.{try_variables_are_told_by_declarations}
 use Rattle.tsa_profile_accesses.specs.Locks.{lacks_path, tries}
@@ -59,7 +62,8 @@ use Rattle.tsa_sound_accepted.proofs.called.LocalsBelow.{arguments_fine, called_
 use Rattle.tsa_sound_accepted.proofs.called.NamedAttributes.{all_at, all_named, each_at, same_tries}
 use Rattle.tsa_sound_accepted.proofs.called.OutsideShapes.{int_by, outside_by}
 use Rattle.tsa_sound_accepted.proofs.called.PlacedPoints as placing
-use Rattle.tsa_sound_accepted.proofs.called.PlacedPoints.{Judged, PlacedAt, attributes_same, declared_there, function_declared, placed_at, reaches, unit_judged}
+use Rattle.tsa_sound_accepted.proofs.called.PlacedPoints.{Judged, PlacedAt, attributes_same, declared_there, function_declared, placed_at}
+use Rattle.tsa_sound_accepted.proofs.called.PlacedPoints.{reaches, unit_judged}
 use Rattle.tsa_sound_accepted.proofs.called.ScopesMoved.{belongs_moved, facts_moved, points_have_more, points_know_below, scope_moved}
 use Rattle.tsa_sound_accepted.proofs.called.TryNumbers.{declared_at_point, other_variable, try_numbered}
 use Rattle.tsa_sound_accepted.proofs.entered.HeadScopes.{names_parameters}

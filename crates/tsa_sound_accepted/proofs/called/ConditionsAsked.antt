@@ -1,5 +1,6 @@
 -- What is said of the call in a condition, and of what it is compared with.
-use Rattle.std.proofs.Common.{◌≡◌, ◌∙◌, Bool, true, false, not, ◌&&◌, ◌||◌, ◌++◌, Option, Some, None, IsSome, is_some, refl, sym, ap, ap₂, subst}
+use Rattle.std.proofs.Common.{◌≡◌, ◌∙◌, Bool, true, false, not, ◌&&◌, ◌||◌, ◌++◌, Option, Some, None, IsSome, is_some, refl, sym, ap, ap₂}
+use Rattle.std.proofs.Common.{subst}
 use Rattle.tsa_base.specs.declared.token.Span.{Span}
 use Rattle.tsa_base.proofs.Truths.{never}
 use Rattle.tsa_tree.specs.declared.expr.BinaryOp.{BinaryOp}
@@ -35,10 +36,12 @@ use Rattle.tsa_profile_accesses.specs.declared.standing.Standing.{Standing}
 use Rattle.tsa_profile_accesses.specs.declared.standing.Standing.TheVariants.{Test, Operand}
 use Rattle.tsa_profile_guards.proofs.NoneFails.{none_of_both, none_of_first}
 use Rattle.tsa_profile_points.specs.Bodies.{Around, view_at}
-use Rattle.tsa_profile_accesses.specs.Expressions.{View, attributes_at, compares_a_try, constant, expression, is_other, is_truth, is_try_call, parts}
+use Rattle.tsa_profile_accesses.specs.Expressions.{View, attributes_at, compares_a_try, constant, expression, is_other, is_truth}
+use Rattle.tsa_profile_accesses.specs.Expressions.{is_try_call, parts}
 use Rattle.tsa_rules.specs.Conditions as cond
 use Rattle.tsa_rules.specs.Conditions.{Condition, the_call, condition_in}
-use Rattle.tsa_sound_accepted.proofs.called.CallTypes.{beside_answer, compared_left, compared_right, constant_some, left_asks, left_takes, right_asks, right_takes}
+use Rattle.tsa_sound_accepted.proofs.called.CallTypes.{beside_answer, compared_left, compared_right, constant_some, left_asks, left_takes}
+use Rattle.tsa_sound_accepted.proofs.called.CallTypes.{right_asks, right_takes}
 use Rattle.tsa_sound_accepted.proofs.called.CallsAsked.{Called, called_sense, no_ways, whole_called}
 
 or_left_call : {A : Type 0} (o p : Option A) (x : A) → p ≡ None → or_call o p ≡ Some x → o ≡ Some x

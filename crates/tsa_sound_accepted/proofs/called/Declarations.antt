@@ -1,5 +1,6 @@
 -- What typing and the profile say of functions at their first declarations.
-use Rattle.std.proofs.Common.{◌≡◌, ℕ, zero, suc, Bool, true, false, ◌||◌, List, [], ◌∷◌, ◌++◌, Option, Some, None, is_some, slice_get, refl, subst}
+use Rattle.std.proofs.Common.{◌≡◌, ℕ, zero, suc, Bool, true, false, ◌||◌, List, [], ◌∷◌, ◌++◌, Option, Some, None, is_some, slice_get, refl}
+use Rattle.std.proofs.Common.{subst}
 use Rattle.std.specs.Str.{bytes_eq}
 use Rattle.tsa_tree.specs.declarations.Syntax.{Head}
 use Rattle.tsa_tree.specs.types.Heads as heads
@@ -12,7 +13,8 @@ use Rattle.tsa_tree.specs.types.Units as stated
 use Rattle.tsa_tree.specs.types.Units.{outset, around_body, body_premises, behind_item, refusal_of_types}
 use Rattle.tsa_tree.specs.units.Syntax.{UnitItem, structure_item, alias_item, enumeration_item, global_item, function_item, body_item}
 use Rattle.tsa_place_model.specs.Items.{behind_data}
-use Rattle.tsa_core.specs.Programs.{Attr, Bodied, Declared, bodied_function, declared_by, declared_functions, first_head, or_body, unless_known}
+use Rattle.tsa_core.specs.Programs.{Attr, Bodied, Declared, bodied_function, declared_by, declared_functions, first_head, or_body}
+use Rattle.tsa_core.specs.Programs.{unless_known}
 use Rattle.tsa_core.proofs.NoFailure as typing
 use Rattle.tsa_core.proofs.ScopesAlike.{Alike}
 use Rattle.tsa_core.proofs.UnitScopes.{item_alike}
@@ -20,7 +22,8 @@ use Rattle.tsa_profile_accesses.specs.Premises.{first}
 use Rattle.tsa_profile_guards.proofs.NoneFails.{none_of_both}
 use Rattle.tsa_profile_points.specs.Bodies.{points_premises}
 use Rattle.tsa_profile_context.specs.Units as profile
-use Rattle.tsa_profile_context.specs.Units.{around, attributes_behind, heads_premises, points_in, refusal_of_profile, tries_limits, paths_limits, unit_of}
+use Rattle.tsa_profile_context.specs.Units.{around, attributes_behind, heads_premises, points_in, refusal_of_profile, tries_limits}
+use Rattle.tsa_profile_context.specs.Units.{paths_limits, unit_of}
 use Rattle.tsa_sound_accepted.proofs.entered.HeadScopes.{split_first}
 
 module _ (all : List UnitItem) where

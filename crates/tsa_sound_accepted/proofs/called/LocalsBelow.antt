@@ -1,5 +1,6 @@
 -- The paths of arguments mention only locals that are known where the call stands.
-use Rattle.std.proofs.Common.{◌≡◌, ◌∙◌, ℕ, ◌<◌, Bool, true, false, if◌then◌else◌, List, [], ◌∷◌, All, IfSome, Option, Some, None, option_and_then, option_map, refl, ap, subst}
+use Rattle.std.proofs.Common.{◌≡◌, ◌∙◌, ℕ, ◌<◌, Bool, true, false, if◌then◌else◌, List, [], ◌∷◌, All, IfSome, Option, Some, None}
+use Rattle.std.proofs.Common.{option_and_then, option_map, refl, ap, subst}
 use Rattle.std.proofs.lemmas.List.Elements.{All-cons, All-nil}
 use Rattle.std.proofs.lemmas.Map.Entries.{All-lookup}
 use Rattle.std.specs.Str.{bytes_eq}

@@ -1,5 +1,6 @@
 -- A lock function takes, tries or gives back the lock to which its one parameter points.
-use Rattle.std.proofs.Common.{◌≡◌, ◌∙◌, ◌⊎◌, inl, inr, ℕ, Bool, true, false, not, ◌&&◌, List, [], ◌∷◌, ◌++◌, Option, Some, None, is_none, is_some, refl, sym, ap, subst}
+use Rattle.std.proofs.Common.{◌≡◌, ◌∙◌, ◌⊎◌, inl, inr, ℕ, Bool, true, false, not, ◌&&◌, List, [], ◌∷◌, ◌++◌, Option, Some, None, is_none}
+use Rattle.std.proofs.Common.{is_some, refl, sym, ap, subst}
 use Rattle.tsa_tree.specs.attributes.Syntax.{Attribute}
 use Rattle.tsa_tree.specs.declarations.Syntax.{DeclaredType, Head, Parameter}
 use Rattle.tsa_tree.specs.declared.kind.Declaring.TheVariants as declaring
@@ -13,9 +14,11 @@ use Rattle.tsa_tree.specs.points.Syntax.{expression_span}
 use Rattle.tsa_tree.specs.types.Attributes.{attributes_premises}
 use Rattle.tsa_tree.specs.types.DeclaredTypes.{declared_premises, thing_type}
 use Rattle.tsa_tree.specs.types.Heads as heads
-use Rattle.tsa_tree.specs.types.Heads.{behind_head, behind_known, inside, inside_params, is_another, local_entry, params_premises, with_param}
+use Rattle.tsa_tree.specs.types.Heads.{behind_head, behind_known, inside, inside_params, is_another, local_entry, params_premises}
+use Rattle.tsa_tree.specs.types.Heads.{with_param}
 use Rattle.tsa_tree.specs.types.Premises as types
-use Rattle.tsa_tree.specs.types.Runnable.{bare, change_of, gives, has_body, is_lock_function, is_named, is_scalar_kind, is_small, parameter_named, points_to_lock}
+use Rattle.tsa_tree.specs.types.Runnable.{bare, change_of, gives, has_body, is_lock_function, is_named, is_scalar_kind, is_small}
+use Rattle.tsa_tree.specs.types.Runnable.{parameter_named, points_to_lock}
 use Rattle.tsa_tree.specs.types.Scopes.{Scope, found, is_named_taken, known_in, with_locals, with_named}
 use Rattle.tsa_tree.specs.types.Units.{outset}
 use Rattle.tsa_tree.specs.units.Syntax.{UnitItem}
@@ -31,7 +34,8 @@ use Rattle.tsa_rules.specs.Attributes as rules
 use Rattle.tsa_profile_accesses.specs.Premises.{first, premise}
 use Rattle.tsa_profile_accesses.specs.declared.premise.ProfileCode.TheVariants.{PF1, PF2, PF7, PF9}
 use Rattle.tsa_profile_accesses.specs.declared.standing.Standing.TheVariants.{Inside}
-use Rattle.tsa_profile_declarations.specs.Declarations.{argument, attribute_arguments, attribute_premises, is_among, is_call, is_named_once, is_order, misfits, way, ways_behind, with_way}
+use Rattle.tsa_profile_declarations.specs.Declarations.{argument, attribute_arguments, attribute_premises, is_among, is_call, is_named_once}
+use Rattle.tsa_profile_declarations.specs.Declarations.{is_order, misfits, way, ways_behind, with_way}
 use Rattle.tsa_profile_guards.proofs.NoneFails.{none_of_both, none_of_first}
 use Rattle.tsa_profile_accesses.specs.Expressions.{View, own, parts}
 use Rattle.tsa_profile_context.specs.Units.{unit_of, view_of}

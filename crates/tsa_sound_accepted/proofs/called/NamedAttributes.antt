@@ -1,5 +1,6 @@
 -- Attributes of which none lacks a path, and what holds of all elements of a list.
-use Rattle.std.proofs.Common.{◌≡◌, ℕ, zero, suc, false, ◌||◌, List, [], ◌∷◌, All, Option, Some, None, IsSome, is_none, option_and_then, slice_get, refl, ap₂, subst}
+use Rattle.std.proofs.Common.{◌≡◌, ℕ, zero, suc, false, ◌||◌, List, [], ◌∷◌, All, Option, Some, None, IsSome, is_none, option_and_then}
+use Rattle.std.proofs.Common.{slice_get, refl, ap₂, subst}
 use Rattle.std.proofs.lemmas.List.Elements.{All-cons, All-head, All-nil, All-tail}
 use Rattle.std.specs.List.{list_any}
 use Rattle.tsa_place_model.specs.Ways.{Way}

@@ -1,5 +1,6 @@
 -- Functions without bodies have the shapes that the laws of calls ask, and what tries gives an `int`.
-use Rattle.std.proofs.Common.{◌≡◌, ◌∙◌, ◌⊎◌, inl, inr, ℕ, Bool, true, false, not, ◌&&◌, ◌||◌, List, [], ◌∷◌, ◌++◌, length, All, Option, Some, None, is_some, refl, sym, ap, subst}
+use Rattle.std.proofs.Common.{◌≡◌, ◌∙◌, ◌⊎◌, inl, inr, ℕ, Bool, true, false, not, ◌&&◌, ◌||◌, List, [], ◌∷◌, ◌++◌, length, All, Option}
+use Rattle.std.proofs.Common.{Some, None, is_some, refl, sym, ap, subst}
 use Rattle.std.proofs.lemmas.List.Elements.{All-head, All-tail}
 use Rattle.std.proofs.lemmas.List.Folds.{list_any-append}
 use Rattle.std.specs.List.{list_any}
@@ -12,7 +13,8 @@ use Rattle.tsa_tree.specs.types.DeclaredTypes.{thing_type}
 use Rattle.tsa_tree.specs.types.Heads as heads
 use Rattle.tsa_tree.specs.types.Heads.{inside}
 use Rattle.tsa_tree.specs.types.Premises as types
-use Rattle.tsa_tree.specs.types.Runnable.{first_runs, has_body, is_environment, is_lock_function, kind_runs, leaves_all, takes_integers, is_generic}
+use Rattle.tsa_tree.specs.types.Runnable.{first_runs, has_body, is_environment, is_lock_function, kind_runs, leaves_all, takes_integers}
+use Rattle.tsa_tree.specs.types.Runnable.{is_generic}
 use Rattle.tsa_tree.specs.types.Scopes.{Scope, found}
 use Rattle.tsa_tree.specs.types.Units.{outset}
 use Rattle.tsa_tree.specs.units.Syntax.{UnitItem}
@@ -25,7 +27,8 @@ use Rattle.tsa_rules.specs.Attributes as rules
 use Rattle.tsa_profile_accesses.specs.Locks as seen
 use Rattle.tsa_profile_accesses.specs.Premises.{first}
 use Rattle.tsa_profile_accesses.specs.declared.premise.ProfileCode.TheVariants.{PF6, PF7}
-use Rattle.tsa_profile_declarations.specs.Declarations.{attribute_arguments, attribute_premises, is_int, is_nothing, misfits, param_premises, tries_otherwise, ways_behind}
+use Rattle.tsa_profile_declarations.specs.Declarations.{attribute_arguments, attribute_premises, is_int, is_nothing, misfits}
+use Rattle.tsa_profile_declarations.specs.Declarations.{param_premises, tries_otherwise, ways_behind}
 use Rattle.tsa_profile_guards.proofs.NoneFails.{none_of_both, none_of_first}
 use Rattle.tsa_profile_accesses.specs.Expressions.{View}
 use Rattle.tsa_profile_context.specs.Units.{unit_of, view_of}

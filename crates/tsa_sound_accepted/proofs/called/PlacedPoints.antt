@@ -1,5 +1,6 @@
 -- Each point of a body that calls is one that the profile judges, beside the functions that are declared up to there.
-use Rattle.std.proofs.Common.{◌≡◌, ◌∙◌, ℕ, zero, suc, Bool, true, false, List, [], ◌∷◌, ◌++◌, length, map, Option, Some, None, option_map, slice_get, refl, sym, ap, subst}
+use Rattle.std.proofs.Common.{◌≡◌, ◌∙◌, ℕ, zero, suc, Bool, true, false, List, [], ◌∷◌, ◌++◌, length, map, Option, Some, None, option_map}
+use Rattle.std.proofs.Common.{slice_get, refl, sym, ap, subst}
 use Rattle.std.proofs.lemmas.List.{map-append}
 use Rattle.std.specs.Str.{bytes_eq}
 use Rattle.tsa_base.specs.declared.token.Span.{Span}
@@ -18,7 +19,8 @@ use Rattle.tsa_tree.proofs.types.UnitNodes.{premises_tell_it}
 use Rattle.tsa_place_model.specs.LockPaths.{stable_in}
 use Rattle.tsa_core.specs.Bodies.{Known, known_in_body, point_by, point_of}
 use Rattle.tsa_core.specs.Meanings.{Call}
-use Rattle.tsa_core.specs.Programs.{Bodied, Declared, Function, Program, bodied_by, bodied_function, body_in, declared_by, declared_functions, first_head, function_in, or_body, program_of, stable_locals}
+use Rattle.tsa_core.specs.Programs.{Bodied, Declared, Function, Program, bodied_by, bodied_function, body_in, declared_by}
+use Rattle.tsa_core.specs.Programs.{declared_functions, first_head, function_in, or_body, program_of, stable_locals}
 use Rattle.tsa_core.specs.Uses.{uses_of}
 use Rattle.tsa_place_model.proofs.GlobalsInRow.{by_last, front_at}
 use Rattle.tsa_core.proofs.MappedLists.{map_at}
@@ -33,7 +35,8 @@ use Rattle.tsa_core_points.specs.CoreLaws.{known_of, seen_at}
 use Rattle.tsa_profile_accesses.specs.Expressions.{attributes_at}
 use Rattle.tsa_core_points.specs.Points.{PlacedPoint, placed, placed_all}
 use Rattle.tsa_profile_context.specs.Units as profile
-use Rattle.tsa_profile_context.specs.Units.{Unit, around, attributes_behind, attributes_by, heads_premises, own_attributes, paths_limits, points_in, refusal_of_profile, stable_of, tries_limits, unit_of}
+use Rattle.tsa_profile_context.specs.Units.{Unit, around, attributes_behind, attributes_by, heads_premises, own_attributes, paths_limits}
+use Rattle.tsa_profile_context.specs.Units.{points_in, refusal_of_profile, stable_of, tries_limits, unit_of}
 use Rattle.tsa_core_points.proofs.PointsOfCore.{placed_are_known, points_are_of_the_core, uses_are_of_the_core}
 use Rattle.tsa_profile.proofs.AddedNames.{adds_inside}
 use Rattle.tsa_profile.proofs.BodyWays as ways

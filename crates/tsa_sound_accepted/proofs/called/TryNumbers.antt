@@ -1,5 +1,6 @@
 -- A local is declared at one point, and a try variable has its number.
-use Rattle.std.proofs.Common.{◌≡◌, ◌∙◌, ◌⊎◌, inl, inr, ℕ, zero, suc, ◌+◌, ◌≤◌, arith, nat_eq, eqb-true, Bool, true, false, List, [], ◌∷◌, find, filter_map, Option, Some, None, slice_get, if◌then◌else◌, refl, sym, ap, subst}
+use Rattle.std.proofs.Common.{◌≡◌, ◌∙◌, ◌⊎◌, inl, inr, ℕ, zero, suc, ◌+◌, ◌≤◌, arith, nat_eq, eqb-true, Bool, true, false, List, [], ◌∷◌}
+use Rattle.std.proofs.Common.{find, filter_map, Option, Some, None, slice_get, if◌then◌else◌, refl, sym, ap, subst}
 use Rattle.std.proofs.lemmas.List.Folds.{find_at}
 use Rattle.std.specs.List.{cons_option, list_any}
 use Rattle.tsa_core.specs.Bodies.{Point}

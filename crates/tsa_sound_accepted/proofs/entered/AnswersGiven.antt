@@ -1,5 +1,6 @@
 -- Where a function tries a lock, each of its returns gives an answer.
-use Rattle.std.proofs.Common.{◌≡◌, ◌∙◌, ℕ, zero, suc, pos, negsuc, nat_eq, eqb-true, Bool, true, false, not, ◌&&◌, ◌||◌, List, [], ◌∷◌, ◌++◌, Option, Some, None, IsSome, option_and_then, option_map, slice_get, if◌then◌else◌, refl, sym, ap, subst}
+use Rattle.std.proofs.Common.{◌≡◌, ◌∙◌, ℕ, zero, suc, pos, negsuc, nat_eq, eqb-true, Bool, true, false, not, ◌&&◌, ◌||◌, List, [], ◌∷◌}
+use Rattle.std.proofs.Common.{◌++◌, Option, Some, None, IsSome, option_and_then, option_map, slice_get, if◌then◌else◌, refl, sym, ap, subst}
 use Rattle.tsa_base.specs.declared.token.Span.{Span}
 use Rattle.tsa_base.proofs.Truths.{never}
 use Rattle.tsa_tree.specs.declarations.Syntax.{Initialiser, value, list}
@@ -20,7 +21,8 @@ use Rattle.tsa_tree.specs.types.Targets.{declared_in_all}
 use Rattle.tsa_core.specs.Bodies.{Known, declared, known_in_body, point_by, point_of, set_to}
 use Rattle.tsa_core.specs.Meanings.{as_kind, loaded, meaning}
 use Rattle.tsa_core.specs.Programs.{Bodied}
-use Rattle.tsa_core.specs.Terms.{Term, constant, variable, answer, global, member, element, target, load, address, converted, prefixed, joined}
+use Rattle.tsa_core.specs.Terms.{Term, constant, variable, answer, global, member, element, target, load, address, converted, prefixed}
+use Rattle.tsa_core.specs.Terms.{joined}
 use Rattle.tsa_core.proofs.KindTests.{one_of}
 use Rattle.tsa_core.proofs.MappedLists.{map_at}
 use Rattle.tsa_core.proofs.TypedTerms.{some_same}

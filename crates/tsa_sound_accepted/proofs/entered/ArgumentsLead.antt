@@ -1,5 +1,6 @@
 -- The argument of a call is what its path says: a local, a constant, or a pointer to where the path leads.
-use Rattle.std.proofs.Common.{◌≡◌, ◌∙◌, ℕ, pos, negsuc, ◌^◌, ◌<◌, ◌%◌, arith, nat_lt, Bool, true, false, not, ◌&&◌, ◌||◌, List, [], ◌∷◌, Option, Some, None, Result, Ok, Err, is_some, is_none, option_map, if◌then◌else◌, refl, sym, ap, subst}
+use Rattle.std.proofs.Common.{◌≡◌, ◌∙◌, ℕ, pos, negsuc, ◌^◌, ◌<◌, ◌%◌, arith, nat_lt, Bool, true, false, not, ◌&&◌, ◌||◌, List, [], ◌∷◌}
+use Rattle.std.proofs.Common.{Option, Some, None, Result, Ok, Err, is_some, is_none, option_map, if◌then◌else◌, refl, sym, ap, subst}
 use Rattle.std.proofs.lemmas.Bool.Decides.{nat_tests}
 use Rattle.std.proofs.Math.Nat.{mod-eq_of_lt}
 use Rattle.tsa_tree.specs.declared.kind.ExpressionType.{ExpressionType}
@@ -17,7 +18,8 @@ use Rattle.tsa_tree.specs.types.Arithmetic.{modulus}
 use Rattle.tsa_tree.specs.types.Constants.{go_on, without_trap}
 use Rattle.tsa_tree.specs.types.DeclaredTypes.{value_in}
 use Rattle.tsa_tree.specs.types.Expressions.{type_of, types_of, arguments_break, all_typed}
-use Rattle.tsa_tree.specs.types.Operands.{integer_kind, unsigned_kind, is_integer, is_single, goes_to, lacks, target_of, same_target, keeps_const}
+use Rattle.tsa_tree.specs.types.Operands.{integer_kind, unsigned_kind, is_integer, is_single, goes_to, lacks, target_of, same_target}
+use Rattle.tsa_tree.specs.types.Operands.{keeps_const}
 use Rattle.tsa_tree.specs.types.Scopes.{Scope, context_of, known_in}
 use Rattle.tsa_place_model.specs.Arguments.{argument_way, index_argument, local_argument, or_local, way_of}
 use Rattle.tsa_place_model.specs.LockPaths.{Led, in_range, leads}
@@ -29,7 +31,8 @@ use Rattle.tsa_place_model.specs.declared.path.Root.TheVariants.{Global, Local, 
 use Rattle.tsa_place_model.specs.Calls.{index_in}
 use Rattle.tsa_core.specs.Kinds.{Setting, Belongs}
 use Rattle.tsa_core.specs.Meanings.{arguments, as_kind, is_int, loaded, meaning, null_pointer, of_name, of_number}
-use Rattle.tsa_core.specs.Terms.{Term, constant, variable, answer, global, member, element, target, load, address, converted, prefixed, joined, Sense}
+use Rattle.tsa_core.specs.Terms.{Term, constant, variable, answer, global, member, element, target, load, address, converted, prefixed}
+use Rattle.tsa_core.specs.Terms.{joined, Sense}
 use Rattle.tsa_core.specs.Uses.{argument_ways}
 use Rattle.tsa_core.proofs.KindTests.{both_true, neither, not_false}
 use Rattle.tsa_core.proofs.TypedTerms.{some_same}

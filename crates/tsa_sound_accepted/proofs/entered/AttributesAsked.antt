@@ -1,5 +1,6 @@
 -- What types and the profile ask of the attributes of a function with a body: they name paths, claim each once, and say what they do.
-use Rattle.std.proofs.Common.{◌≡◌, ◌∙◌, suc, ◌≤◌, arith, Bool, true, false, not, ◌&&◌, ◌||◌, List, [], ◌∷◌, ◌++◌, All, filter, length, Option, Some, None, IsSome, is_none, if◌then◌else◌, refl, sym, ap, subst}
+use Rattle.std.proofs.Common.{◌≡◌, ◌∙◌, suc, ◌≤◌, arith, Bool, true, false, not, ◌&&◌, ◌||◌, List, [], ◌∷◌, ◌++◌, All, filter, length}
+use Rattle.std.proofs.Common.{Option, Some, None, IsSome, is_none, if◌then◌else◌, refl, sym, ap, subst}
 use Rattle.std.proofs.lemmas.List.Elements.{All-append, All-cons, All-nil}
 use Rattle.tsa_tree.specs.attributes.Syntax.{Attribute}
 use Rattle.tsa_tree.specs.declared.attr.AttrKind.{AttrKind}
@@ -25,7 +26,8 @@ use Rattle.tsa_profile_accesses.specs.Locks.{is_try}
 use Rattle.tsa_profile_accesses.specs.Premises.{first, premise}
 use Rattle.tsa_profile_accesses.specs.declared.premise.ProfileCode.TheVariants.{PF1, PF2, PF7, PF9}
 use Rattle.tsa_profile_accesses.specs.declared.standing.Standing.TheVariants.{Inside}
-use Rattle.tsa_profile_declarations.specs.Declarations.{argument, attribute_arguments, attribute_premises, is_among, is_call, is_int, is_named_once, is_order, misfits, way, ways_behind, with_way}
+use Rattle.tsa_profile_declarations.specs.Declarations.{argument, attribute_arguments, attribute_premises, is_among, is_call, is_int}
+use Rattle.tsa_profile_declarations.specs.Declarations.{is_named_once, is_order, misfits, way, ways_behind, with_way}
 use Rattle.tsa_profile_guards.proofs.NoneFails.{none_of_both, none_of_first}
 use Rattle.tsa_profile_accesses.specs.Expressions.{View, own, parts}
 use Rattle.tsa_sound.specs.BodyFacts.{SaysItsMode}

@@ -1,5 +1,6 @@
 -- Functions with bodies of accepted units may be called.
-use Rattle.std.proofs.Common.{◌≡◌, ◌∙◌, ℕ, ◌≤◌, Bool, true, false, List, [], ◌∷◌, ◌++◌, length, map, All, Option, Some, None, option_map, slice_get, refl, sym, ap, subst}
+use Rattle.std.proofs.Common.{◌≡◌, ◌∙◌, ℕ, ◌≤◌, Bool, true, false, List, [], ◌∷◌, ◌++◌, length, map, All, Option, Some, None, option_map}
+use Rattle.std.proofs.Common.{slice_get, refl, sym, ap, subst}
 use Rattle.std.proofs.lemmas.List.Elements.{All-head, All-tail}
 use Rattle.std.specs.List.{list_any}
 use Rattle.tsa_tree.specs.declarations.Syntax.{Head}
@@ -22,7 +23,8 @@ use Rattle.tsa_core.specs.Bodies.{Known, known_in_body, point_of}
 use Rattle.tsa_place_model.specs.Calls.{Layout}
 use Rattle.tsa_core.specs.KindLaws.{kinds_of}
 use Rattle.tsa_core.specs.Kinds.{scalar_kind}
-use Rattle.tsa_core.specs.Programs.{Attr, Bodied, Declared, Function, attrs_of, bodied_function, body_in, declared_functions, function_of, stable_locals}
+use Rattle.tsa_core.specs.Programs.{Attr, Bodied, Declared, Function, attrs_of, bodied_function, body_in, declared_functions, function_of}
+use Rattle.tsa_core.specs.Programs.{stable_locals}
 use Rattle.tsa_core.proofs.BodiesAgree.{bodies_agree}
 use Rattle.tsa_core.proofs.BodyScopes.{SameTypes, body_types, head_types, through, other_way}
 use Rattle.tsa_core.proofs.EachScope.{each_point}
@@ -49,9 +51,11 @@ use Rattle.tsa_sound_accepted.proofs.entered.AttributesAsked.{IsAsked, claimed_o
 use Rattle.tsa_sound_accepted.proofs.entered.Functions as functions
 use Rattle.tsa_sound_accepted.proofs.entered.Functions.{begun, facts, function_made, result, text}
 use Rattle.tsa_sound_accepted.proofs.entered.HeadScopes.{names_parameters}
-use Rattle.tsa_sound_accepted.proofs.entered.JudgedHeads.{BodyJudged, HeadJudged, body_has, body_name, body_judged, heads_judged, one_function}
+use Rattle.tsa_sound_accepted.proofs.entered.JudgedHeads.{BodyJudged, HeadJudged, body_has, body_name, body_judged, heads_judged}
+use Rattle.tsa_sound_accepted.proofs.entered.JudgedHeads.{one_function}
 use Rattle.tsa_sound_accepted.proofs.entered.ParametersMentioned.{attributes_mention}
-use Rattle.tsa_sound_accepted.proofs.entered.ScalarLocals.{AreWritten, both_scalar, declared_scalar, params_scalar, result_written, written_further, written_local}
+use Rattle.tsa_sound_accepted.proofs.entered.ScalarLocals.{AreWritten, both_scalar, declared_scalar, params_scalar, result_written}
+use Rattle.tsa_sound_accepted.proofs.entered.ScalarLocals.{written_further, written_local}
 use Rattle.tsa_sound_accepted.proofs.kept.TryLocals.{same_tries}
 use Rattle.tsa_base.proofs.Truths.{never}
 

@@ -1,5 +1,6 @@
 -- A function with a body is made of its first declaration and of the first body of its name.
-use Rattle.std.proofs.Common.{◌≡◌, ◌∙◌, ℕ, zero, suc, List, [], ◌∷◌, Option, Some, None, IsSome, option_map, slice_get, refl, sym, ap, subst}
+use Rattle.std.proofs.Common.{◌≡◌, ◌∙◌, ℕ, zero, suc, List, [], ◌∷◌, Option, Some, None, IsSome, option_map, slice_get, refl, sym, ap}
+use Rattle.std.proofs.Common.{subst}
 use Rattle.tsa_tree.specs.declared.kind.ThingType.{ThingType}
 use Rattle.tsa_tree.specs.points.Syntax.{ends}
 use Rattle.tsa_tree.specs.types.Runnable.{Runnable}
@@ -8,7 +9,8 @@ use Rattle.tsa_tree.specs.units.Syntax.{UnitItem}
 use Rattle.tsa_tree.proofs.types.UnitNodes.{premises_tell_it}
 use Rattle.tsa_core.specs.Bodies.{Known, known_all, known_in_body, knows}
 use Rattle.tsa_place_model.specs.Calls.{Layout}
-use Rattle.tsa_core.specs.Programs.{Bodied, Declared, Function, Program, bodied_function, declared_functions, function_in, function_of, layout_or_none, program_of}
+use Rattle.tsa_core.specs.Programs.{Bodied, Declared, Function, Program, bodied_function, declared_functions, function_in, function_of}
+use Rattle.tsa_core.specs.Programs.{layout_or_none, program_of}
 use Rattle.tsa_core.proofs.BodyScopes.{BeginsIn, unit_begins}
 use Rattle.tsa_core.proofs.FactsKnown.{FactsAt, all_facts, each_both}
 use Rattle.tsa_core.proofs.MappedLists.{map_at}

@@ -1,5 +1,6 @@
 -- The names of a function's attributes stand for no local but its parameters.
-use Rattle.std.proofs.Common.{◌≡◌, ◌∙◌, ℕ, zero, suc, ◌<◌, arith, Bool, true, false, List, [], ◌∷◌, ◌++◌, length, slice_get, IfSome, Option, Some, None, is_some, refl, ap, subst}
+use Rattle.std.proofs.Common.{◌≡◌, ◌∙◌, ℕ, zero, suc, ◌<◌, arith, Bool, true, false, List, [], ◌∷◌, ◌++◌, length, slice_get, IfSome, Option}
+use Rattle.std.proofs.Common.{Some, None, is_some, refl, ap, subst}
 use Rattle.std.proofs.lemmas.List.Elements.{All-nil}
 use Rattle.std.proofs.lemmas.Map.Entries.{All-lookup}
 use Rattle.std.specs.Str.{bytes_eq}

@@ -1,5 +1,6 @@
 -- What typing and the profile say of the heads of a unit's functions, and of their bodies.
-use Rattle.std.proofs.Common.{◌≡◌, ◌∙◌, ℕ, zero, suc, Bool, true, false, ◌||◌, List, [], ◌∷◌, ◌++◌, map, Option, Some, None, is_some, option_map, unwrap_or, slice_get, refl, sym, ap, subst}
+use Rattle.std.proofs.Common.{◌≡◌, ◌∙◌, ℕ, zero, suc, Bool, true, false, ◌||◌, List, [], ◌∷◌, ◌++◌, map, Option, Some, None, is_some}
+use Rattle.std.proofs.Common.{option_map, unwrap_or, slice_get, refl, sym, ap, subst}
 use Rattle.std.proofs.lemmas.List.{append-nil, map-append}
 use Rattle.std.proofs.lemmas.Slice.Eq.{bytes_eq-Decides}
 use Rattle.std.specs.Str.{bytes_eq}
@@ -16,7 +17,8 @@ use Rattle.tsa_tree.specs.types.Symbols.{number_of}
 use Rattle.tsa_tree.specs.types.Units as stated
 use Rattle.tsa_tree.specs.types.Units.{around_body, behind_item, body_premises, outset}
 use Rattle.tsa_tree.specs.units.Syntax.{UnitItem, structure_item, alias_item, enumeration_item, global_item, function_item, body_item}
-use Rattle.tsa_core.specs.Programs.{Attr, Bodied, Declared, bodied_by, bodied_function, declared_by, declared_functions, first_head, or_body, unless_known}
+use Rattle.tsa_core.specs.Programs.{Attr, Bodied, Declared, bodied_by, bodied_function, declared_by, declared_functions, first_head}
+use Rattle.tsa_core.specs.Programs.{or_body, unless_known}
 use Rattle.tsa_core.proofs.MappedLists.{map_at}
 use Rattle.tsa_core.proofs.NoFailure as typed
 use Rattle.tsa_core.proofs.TypedTerms.{some_same}

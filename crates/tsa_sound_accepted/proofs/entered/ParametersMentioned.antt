@@ -1,5 +1,6 @@
 -- The attributes of a function mention parameters alone.
-use Rattle.std.proofs.Common.{◌≡◌, ℕ, nat_eq, eqb-true, Bool, true, false, if◌then◌else◌, List, [], ◌∷◌, ◌<◌, All, Option, Some, None, refl, sym, subst}
+use Rattle.std.proofs.Common.{◌≡◌, ℕ, nat_eq, eqb-true, Bool, true, false, if◌then◌else◌, List, [], ◌∷◌, ◌<◌, All, Option, Some, None, refl}
+use Rattle.std.proofs.Common.{sym, subst}
 use Rattle.std.proofs.lemmas.List.Elements.{All-append, All-cons, All-nil}
 use Rattle.std.specs.List.{list_any}
 use Rattle.tsa_tree.specs.attributes.Syntax.{Attribute}

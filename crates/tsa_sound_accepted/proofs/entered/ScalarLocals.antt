@@ -1,5 +1,6 @@
 -- The locals of a function with a body are numbers and pointers, and so is what it gives.
-use Rattle.std.proofs.Common.{◌≡◌, ◌∙◌, ℕ, zero, suc, Bool, true, false, not, List, [], ◌∷◌, ◌++◌, All, map, Option, Some, None, is_some, slice_get, refl, sym, ap, subst}
+use Rattle.std.proofs.Common.{◌≡◌, ◌∙◌, ℕ, zero, suc, Bool, true, false, not, List, [], ◌∷◌, ◌++◌, All, map, Option, Some, None, is_some}
+use Rattle.std.proofs.Common.{slice_get, refl, sym, ap, subst}
 use Rattle.std.proofs.lemmas.List.Elements.{All-head, All-tail}
 use Rattle.tsa_tree.specs.declarations.Syntax.{Declaration, DeclaredType, Parameter}
 use Rattle.tsa_tree.specs.declared.kind.Declaring.TheVariants as declaring
@@ -10,7 +11,8 @@ use Rattle.tsa_tree.specs.declared.kind.Resolved.TheVariants as written
 use Rattle.tsa_tree.specs.declared.kind.ThingType.{ThingType}
 use Rattle.tsa_tree.specs.points.Syntax.{Deed, declares, evaluates, assigns, tests, switches, jumps, idles, returns, ends}
 use Rattle.tsa_tree.specs.tokens.Signs.{Aliases}
-use Rattle.tsa_tree.specs.types.DeclaredTypes.{declared_premises, is_nothing, is_refused, length_of, may_be, resolve, thing_type, with_length}
+use Rattle.tsa_tree.specs.types.DeclaredTypes.{declared_premises, is_nothing, is_refused, length_of, may_be, resolve, thing_type}
+use Rattle.tsa_tree.specs.types.DeclaredTypes.{with_length}
 use Rattle.tsa_tree.specs.types.Heads.{params_premises, with_param}
 use Rattle.tsa_tree.specs.types.Locals.{behind_local, local_entry, unless_taken}
 use Rattle.tsa_tree.specs.types.Premises as typing

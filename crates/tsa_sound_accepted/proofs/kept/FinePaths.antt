@@ -1,5 +1,6 @@
 -- The paths that guard cells, and those of arguments, mention only locals that never change.
-use Rattle.std.proofs.Common.{◌≡◌, ℕ, zero, suc, Bool, true, false, if◌then◌else◌, List, [], ◌∷◌, ◌++◌, All, Option, Some, None, option_and_then, option_map, slice_get, refl, subst}
+use Rattle.std.proofs.Common.{◌≡◌, ℕ, zero, suc, Bool, true, false, if◌then◌else◌, List, [], ◌∷◌, ◌++◌, All, Option, Some, None}
+use Rattle.std.proofs.Common.{option_and_then, option_map, slice_get, refl, subst}
 use Rattle.std.proofs.lemmas.List.Elements.{All-head, All-tail}
 use Rattle.tsa_tree.specs.declared.expr.BinaryOp.TheVariants as op
 use Rattle.tsa_tree.specs.declared.expr.UnaryOp.TheVariants as prefix
@@ -24,8 +25,10 @@ use Rattle.tsa_place_model.specs.declared.path.Root.TheVariants.{Global, Local, 
 use Rattle.tsa_place_model.specs.Calls.{Layout, part_guards}
 use Rattle.tsa_place_model.specs.Layouts.{Part, structure_at}
 use Rattle.tsa_core.specs.Meanings.{meaning, or_call}
-use Rattle.tsa_core.specs.Uses.{access_guards, argument_ways, call_ways, called_ways, field_guards, guards_owned, member_guards, name_guards, owned_by}
-use Rattle.tsa_path.specs.Substitution.{as_index, as_pointer, before, further, given, in_caller, index_step, pointed_way, step_in, steps_in, substituted}
+use Rattle.tsa_core.specs.Uses.{access_guards, argument_ways, call_ways, called_ways, field_guards, guards_owned, member_guards}
+use Rattle.tsa_core.specs.Uses.{name_guards, owned_by}
+use Rattle.tsa_path.specs.Substitution.{as_index, as_pointer, before, further, given, in_caller, index_step, pointed_way, step_in, steps_in}
+use Rattle.tsa_path.specs.Substitution.{substituted}
 use Rattle.tsa_path.proofs.ArgumentPaths.{chosen}
 use Rattle.tsa_sound.specs.LaidOut.{AreLocalFree, IsLocalFree, LaidOut}
 use Rattle.tsa_sound_accepted.proofs.laid.Mentions.{AreFine, IsFine, IsFineIfAny, IsFineStep, both_fine, leads_fine}

@@ -6,7 +6,8 @@ use Rattle.tsa_tree.specs.units.Syntax.{UnitItem}
 use Rattle.tsa_core.specs.Bodies.{known_in_body}
 use Rattle.tsa_place_model.specs.Calls.{Layout}
 use Rattle.tsa_place_model.specs.Leading.{HasPlaces}
-use Rattle.tsa_core.specs.Programs.{Bodied, Declared, Function, Program, bodied_function, declared_functions, function_in, function_of, program_of}
+use Rattle.tsa_core.specs.Programs.{Bodied, Declared, Function, Program, bodied_function, declared_functions, function_in, function_of}
+use Rattle.tsa_core.specs.Programs.{program_of}
 use Rattle.tsa_core.proofs.MappedLists.{map_at, map_length}
 use Rattle.tsa_core.proofs.ProgramKinds.{program_layout}
 use Rattle.tsa_rules.specs.Points.{function_at, or_no_function, points_of}

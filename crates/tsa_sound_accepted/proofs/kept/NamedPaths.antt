@@ -1,5 +1,6 @@
 -- The paths of a function: each of them once, and among them all that its attributes and those of what it calls name.
-use Rattle.std.proofs.Common.{◌≡◌, ◌∙◌, ℕ, zero, suc, ◌<◌, arith, Bool, true, false, List, [], ◌∷◌, ◌++◌, length, map, All, AllPairs, Contains, Option, Some, None, option_and_then, slice_get, slice_index_or, refl, sym, ap, subst}
+use Rattle.std.proofs.Common.{◌≡◌, ◌∙◌, ℕ, zero, suc, ◌<◌, arith, Bool, true, false, List, [], ◌∷◌, ◌++◌, length, map, All, AllPairs}
+use Rattle.std.proofs.Common.{Contains, Option, Some, None, option_and_then, slice_get, slice_index_or, refl, sym, ap, subst}
 use Rattle.std.specs.List.{flat_map}
 use Rattle.tsa_place_model.specs.Ways.{Way}
 use Rattle.tsa_core.specs.Bodies.{Body, Point}

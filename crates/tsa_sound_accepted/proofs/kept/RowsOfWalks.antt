@@ -1,5 +1,6 @@
 -- Where no rule fails, the rows that are read off walks are kept.
-use Rattle.std.proofs.Common.{◌≡◌, ◌∙◌, ℕ, zero, suc, ◌+◌, ◌<◌, ◌≤◌, arith, nat_eq, eqb-true, eq-eqb, Bool, true, false, List, [], ◌∷◌, length, Contains, Option, Some, None, is_some, slice_get, slice_index_or, if◌then◌else◌, refl, sym, ap, subst}
+use Rattle.std.proofs.Common.{◌≡◌, ◌∙◌, ℕ, zero, suc, ◌+◌, ◌<◌, ◌≤◌, arith, nat_eq, eqb-true, eq-eqb, Bool, true, false, List, [], ◌∷◌}
+use Rattle.std.proofs.Common.{length, Contains, Option, Some, None, is_some, slice_get, slice_index_or, if◌then◌else◌, refl, sym, ap, subst}
 use Rattle.tsa_place_model.specs.Ways.{Way}
 use Rattle.tsa_place_model.specs.declared.path.Root.TheVariants.{Owner}
 use Rattle.tsa_core.specs.Control as control
@@ -18,7 +19,8 @@ use Rattle.tsa_rules.proofs.EdgeInduction.{carried}
 use Rattle.tsa_rules.proofs.OneStatus.{one_status_where_edges_agree}
 use Rattle.tsa_rules.proofs.Possible.{statuses_stay_possible}
 use Rattle.tsa_sound_accepted.specs.kept.Laws.{RowsAreKeptWhereNoRuleFails}
-use Rattle.tsa_sound_accepted.specs.kept.Visits.{Visit, Visits, Walk, status_along, first_visit, next_visit, or_visit, rows_of, visit_by, visits_from, visits_of, visits_with, with_visit}
+use Rattle.tsa_sound_accepted.specs.kept.Visits.{Visit, Visits, Walk, status_along, first_visit, next_visit, or_visit, rows_of, visit_by}
+use Rattle.tsa_sound_accepted.specs.kept.Visits.{visits_from, visits_of, visits_with, with_visit}
 
 -- how many of some edges lead where nothing is known to be reached
 abbrev one_unless : Bool → ℕ

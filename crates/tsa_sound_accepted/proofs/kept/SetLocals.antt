@@ -1,5 +1,6 @@
 -- A local that is assigned changes.
-use Rattle.std.proofs.Common.{◌≡◌, ◌∙◌, ℕ, zero, suc, ◌+◌, ◌<◌, arith, Bool, true, false, List, [], ◌∷◌, ◌++◌, length, map, replicate, Option, Some, None, option_map, slice_get, slice_index_or, slice_set, refl, sym, ap, subst}
+use Rattle.std.proofs.Common.{◌≡◌, ◌∙◌, ℕ, zero, suc, ◌+◌, ◌<◌, arith, Bool, true, false, List, [], ◌∷◌, ◌++◌, length, map, replicate}
+use Rattle.std.proofs.Common.{Option, Some, None, option_map, slice_get, slice_index_or, slice_set, refl, sym, ap, subst}
 use Rattle.std.proofs.lemmas.List.{length-append, length-replicate, length-set}
 use Rattle.tsa_tree.specs.declared.expr.BinaryOp.{BinaryOp}
 use Rattle.tsa_tree.specs.declared.kind.Kind.{Kind}
@@ -9,11 +10,13 @@ use Rattle.tsa_tree.specs.points.Syntax.{Deed, declares, evaluates, assigns, tes
 use Rattle.tsa_tree.specs.types.DeclaredTypes.{thing_type}
 use Rattle.tsa_tree.specs.types.Scopes.{Scope}
 use Rattle.tsa_place_model.specs.LockPaths.{stable_in}
-use Rattle.tsa_core.specs.Bodies.{Known, changed, declared, known_in_body, kinds_by, point_by, point_of, set_local, set_to, stable_behind, stable_by}
+use Rattle.tsa_core.specs.Bodies.{Known, changed, declared, known_in_body, kinds_by, point_by, point_of, set_local, set_to, stable_behind}
+use Rattle.tsa_core.specs.Bodies.{stable_by}
 use Rattle.tsa_core.specs.Laws.{ActsBelow, KnowsBelow}
 use Rattle.tsa_core.specs.Meanings.{meaning}
 use Rattle.tsa_core.specs.Programs.{Bodied, body_in}
-use Rattle.tsa_core.specs.Terms.{Term, constant, variable, answer, global, member, element, target, load, address, converted, prefixed, joined}
+use Rattle.tsa_core.specs.Terms.{Term, constant, variable, answer, global, member, element, target, load, address, converted, prefixed}
+use Rattle.tsa_core.specs.Terms.{joined}
 use Rattle.tsa_core.proofs.KnownLocals.{points_speak_of_known}
 use Rattle.tsa_core.proofs.MappedLists.{map_at}
 use Rattle.tsa_rules.specs.Points.{or_idle}

@@ -1,5 +1,6 @@
 -- What a point sets is mentioned by no path that has to stay as it is.
-use Rattle.std.proofs.Common.{◌≡◌, ◌∙◌, ℕ, ◌<◌, ◌≤◌, arith, nat_eq, eqb-true, Bool, true, false, List, length, map, All, Contains, Option, Some, None, option_map, slice_get, refl, sym, ap, subst}
+use Rattle.std.proofs.Common.{◌≡◌, ◌∙◌, ℕ, ◌<◌, ◌≤◌, arith, nat_eq, eqb-true, Bool, true, false, List, length, map, All, Contains, Option}
+use Rattle.std.proofs.Common.{Some, None, option_map, slice_get, refl, sym, ap, subst}
 use Rattle.tsa_tree.specs.declarations.Syntax.{Declaration, Initialiser, value, list}
 use Rattle.tsa_tree.specs.declared.expr.BinaryOp.{BinaryOp}
 use Rattle.tsa_tree.specs.declared.kind.Kind.{Kind}
@@ -14,12 +15,15 @@ use Rattle.tsa_tree.specs.units.Syntax.{UnitItem}
 use Rattle.tsa_tree.proofs.types.UnitNodes.{premises_tell_it}
 use Rattle.tsa_place_model.specs.LockPaths.{stable_in}
 use Rattle.tsa_place_model.specs.Ways.{Way}
-use Rattle.tsa_core.specs.Bodies.{Action, Known, Point, branch, declare, declared, evaluate, give, go_on, known_in_body, point_by, point_of, set_cell, set_local, set_to, test}
+use Rattle.tsa_core.specs.Bodies.{Action, Known, Point, branch, declare, declared, evaluate, give, go_on, known_in_body, point_by, point_of}
+use Rattle.tsa_core.specs.Bodies.{set_cell, set_local, set_to, test}
 use Rattle.tsa_place_model.specs.Calls.{Layout}
 use Rattle.tsa_place_model.specs.Leading.{HasPlaces}
 use Rattle.tsa_core.specs.Meanings.{Call, meaning}
-use Rattle.tsa_core.specs.Programs.{Bodied, Declared, Function, Program, bodied_function, body_in, declared_functions, function_of, program_of}
-use Rattle.tsa_core.specs.Terms.{Term, constant, variable, answer, global, member, element, target, load, address, converted, prefixed, joined}
+use Rattle.tsa_core.specs.Programs.{Bodied, Declared, Function, Program, bodied_function, body_in, declared_functions, function_of}
+use Rattle.tsa_core.specs.Programs.{program_of}
+use Rattle.tsa_core.specs.Terms.{Term, constant, variable, answer, global, member, element, target, load, address, converted, prefixed}
+use Rattle.tsa_core.specs.Terms.{joined}
 use Rattle.tsa_core.proofs.Beginnings.{bodies_begin_below}
 use Rattle.tsa_core.proofs.BodiesAgree.{bodies_agree}
 use Rattle.tsa_core.proofs.EachScope.{each_point}

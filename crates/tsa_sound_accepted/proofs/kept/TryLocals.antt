@@ -1,5 +1,6 @@
 -- A local that begins with what a try gives never changes.
-use Rattle.std.proofs.Common.{◌≡◌, ◌∙◌, ℕ, zero, suc, Bool, true, false, not, ◌&&◌, ◌||◌, List, [], ◌∷◌, ◌++◌, length, map, Option, Some, None, is_some, option_and_then, option_map, slice_get, refl, sym, ap, subst}
+use Rattle.std.proofs.Common.{◌≡◌, ◌∙◌, ℕ, zero, suc, Bool, true, false, not, ◌&&◌, ◌||◌, List, [], ◌∷◌, ◌++◌, length, map, Option, Some}
+use Rattle.std.proofs.Common.{None, is_some, option_and_then, option_map, slice_get, refl, sym, ap, subst}
 use Rattle.std.proofs.lemmas.List.{map-append}
 use Rattle.std.specs.List.{list_any}
 use Rattle.std.specs.Str.{bytes_eq}
@@ -29,7 +30,8 @@ use Rattle.tsa_tree.proofs.types.UnitNodes.{premises_tell_it}
 use Rattle.tsa_place_model.specs.LockPaths.{stable_in}
 use Rattle.tsa_core.specs.Bodies.{Known, declared, known_in_body, point_by, point_of}
 use Rattle.tsa_core.specs.Meanings.{call_in, call_of}
-use Rattle.tsa_core.specs.Programs.{Attr, Bodied, Declared, Function, Program, bodied_by, bodied_function, body_in, declared_by, declared_functions, first_head, function_in, or_body, program_of, stable_locals}
+use Rattle.tsa_core.specs.Programs.{Attr, Bodied, Declared, Function, Program, bodied_by, bodied_function, body_in, declared_by}
+use Rattle.tsa_core.specs.Programs.{declared_functions, first_head, function_in, or_body, program_of, stable_locals}
 use Rattle.tsa_place_model.proofs.GlobalsInRow.{by_last}
 use Rattle.tsa_core.proofs.MappedLists.{map_at}
 use Rattle.tsa_core.proofs.NoFailure as typing
@@ -42,13 +44,15 @@ use Rattle.tsa_profile_accesses.specs.Premises.{first, premise}
 use Rattle.tsa_profile_accesses.specs.declared.premise.ProfileCode.TheVariants.{PF1, PF2, PF4, PF5}
 use Rattle.tsa_profile_accesses.specs.declared.standing.Standing.TheVariants.{Whole}
 use Rattle.tsa_profile_guards.proofs.NoneFails.{none_of_both, none_of_first}
-use Rattle.tsa_profile_points.specs.Bodies.{Around, begins_a_try, deed_premises, local_init, point_premises, points_premises, standing_of, view_at}
+use Rattle.tsa_profile_points.specs.Bodies.{Around, begins_a_try, deed_premises, local_init, point_premises, points_premises, standing_of}
+use Rattle.tsa_profile_points.specs.Bodies.{view_at}
 use Rattle.tsa_profile_declarations.specs.Declarations.{is_int}
 use Rattle.tsa_core_points.specs.CoreLaws.{known_of, seen, seen_at}
 use Rattle.tsa_profile_accesses.specs.Expressions.{attributes_at, callee, expression, is_try_call, lacks_a_path, of_callee, own, parts}
 use Rattle.tsa_core_points.specs.Points.{PlacedPoint, placed, placed_all}
 use Rattle.tsa_profile_context.specs.Units as profile
-use Rattle.tsa_profile_context.specs.Units.{Unit, around, attributes_behind, attributes_by, heads_premises, own_attributes, paths_limits, points_in, refusal_of_profile, stable_of, tries_limits, unit_of}
+use Rattle.tsa_profile_context.specs.Units.{Unit, around, attributes_behind, attributes_by, heads_premises, own_attributes, paths_limits}
+use Rattle.tsa_profile_context.specs.Units.{points_in, refusal_of_profile, stable_of, tries_limits, unit_of}
 use Rattle.tsa_core_points.proofs.PointsOfCore.{placed_are_known}
 use Rattle.tsa_profile.proofs.AddedNames.{adds_inside}
 use Rattle.tsa_profile.proofs.BodyWays as ways

@@ -1,8 +1,10 @@
 -- The guards of a place: those of what it lies in and its own, and none where it isn't guarded.
-use Rattle.std.proofs.Common.{◌≡◌, ◌∙◌, ℕ, zero, suc, ◌+◌, ◌*◌, ◌<◌, arith, List, [], ◌∷◌, ◌++◌, Option, Some, None, option_and_then, slice_get, refl, sym, ap, subst}
+use Rattle.std.proofs.Common.{◌≡◌, ◌∙◌, ℕ, zero, suc, ◌+◌, ◌*◌, ◌<◌, arith, List, [], ◌∷◌, ◌++◌, Option, Some, None, option_and_then}
+use Rattle.std.proofs.Common.{slice_get, refl, sym, ap, subst}
 use Rattle.tsa_tree.specs.declared.kind.Kind.{Kind}
 use Rattle.tsa_place_model.specs.declared.place.Guard.{Guard}
-use Rattle.tsa_place_model.specs.Calls.{Layout, around, element_place, guards_along, guards_by, guards_of, own_guards, owner_at, owner_of, part_guards, part_of}
+use Rattle.tsa_place_model.specs.Calls.{Layout, around, element_place, guards_along, guards_by, guards_of, own_guards, owner_at, owner_of}
+use Rattle.tsa_place_model.specs.Calls.{part_guards, part_of}
 use Rattle.tsa_place_model.specs.declared.place.Holder.{Holder}
 use Rattle.tsa_place_model.specs.declared.place.Holder.TheVariants.{Global, Member}
 use Rattle.tsa_place_model.specs.Layouts.{kind_size, size_of}

@@ -1,5 +1,6 @@
 -- The places of a unit are laid out as it declares them.
-use Rattle.std.proofs.Common.{◌≡◌, ◌∙◌, ℕ, zero, suc, ◌<◌, arith, Bool, true, false, ◌||◌, List, [], ◌∷◌, ◌++◌, Option, Some, None, option_and_then, option_map, slice_get, refl, sym, ap, subst}
+use Rattle.std.proofs.Common.{◌≡◌, ◌∙◌, ℕ, zero, suc, ◌<◌, arith, Bool, true, false, ◌||◌, List, [], ◌∷◌, ◌++◌, Option, Some, None}
+use Rattle.std.proofs.Common.{option_and_then, option_map, slice_get, refl, sym, ap, subst}
 use Rattle.tsa_tree.specs.declared.kind.Kind.{Kind}
 use Rattle.tsa_tree.specs.declared.kind.Kind.TheVariants as type
 use Rattle.tsa_tree.specs.types.Units.{outset}
@@ -18,7 +19,8 @@ use Rattle.tsa_place_model.proofs.GlobalsInRow.{IsLaid, unit_laid}
 use Rattle.tsa_place_model.proofs.Pieces.{at_row, element_is, row_at}
 use Rattle.tsa_place_model.proofs.Rows.{PieceAt, Row, Thing}
 use Rattle.tsa_place_model.proofs.Leading.{what_is_led_to_bears}
-use Rattle.tsa_path.proofs.StandDeclared.{Heads, Marks, StandsAs, element_marked, global_marked, inner_marks, marks, member_marked, no_heads, part_marks, items_heads}
+use Rattle.tsa_path.proofs.StandDeclared.{Heads, Marks, StandsAs, element_marked, global_marked, inner_marks, marks, member_marked}
+use Rattle.tsa_path.proofs.StandDeclared.{no_heads, part_marks, items_heads}
 use Rattle.tsa_sound.specs.LaidOut as laid
 use Rattle.tsa_sound.specs.LaidOut.{LaidOut}
 use Rattle.tsa_sound_accepted.specs.laid.Laws.{PlacesAreLaidOut}

@@ -1,5 +1,6 @@
 -- The locals that the paths of lock expressions mention: those that their names stand for, and that never change.
-use Rattle.std.proofs.Common.{◌≡◌, ◌∙◌, ℕ, Bool, true, false, ◌&&◌, List, [], ◌∷◌, ◌++◌, Option, Some, None, option_map, option_and_then, refl, subst}
+use Rattle.std.proofs.Common.{◌≡◌, ◌∙◌, ℕ, Bool, true, false, ◌&&◌, List, [], ◌∷◌, ◌++◌, Option, Some, None, option_map, option_and_then}
+use Rattle.std.proofs.Common.{refl, subst}
 use Rattle.tsa_tree.specs.declared.expr.UnaryOp.TheVariants as prefix
 use Rattle.tsa_tree.specs.declared.kind.ThingType.{ThingType}
 use Rattle.tsa_tree.specs.declared.meaning.Entry.{Entry}
@@ -10,7 +11,8 @@ use Rattle.tsa_tree.specs.types.DeclaredTypes.{value_in}
 use Rattle.tsa_tree.specs.types.Operands.{integer_kind}
 use Rattle.tsa_tree.specs.types.Scopes.{Scope, context_of, known_in}
 use Rattle.tsa_place_model.specs.LockPaths as path
-use Rattle.tsa_place_model.specs.LockPaths.{Led, as_lock, element_step, in_range, index_step, is_address, is_pointer, leads, lock_way, meant, member_step, name_way, or_variable, to_member}
+use Rattle.tsa_place_model.specs.LockPaths.{Led, as_lock, element_step, in_range, index_step, is_address, is_pointer, leads, lock_way}
+use Rattle.tsa_place_model.specs.LockPaths.{meant, member_step, name_way, or_variable, to_member}
 use Rattle.tsa_tree.specs.types.Lookups.{numbered}
 use Rattle.tsa_place_model.specs.Ways.{Way, from, onward}
 use Rattle.tsa_place_model.specs.declared.path.PathStep.{PathStep}

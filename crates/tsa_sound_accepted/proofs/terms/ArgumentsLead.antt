@@ -1,5 +1,7 @@
 -- The paths that are handed on with the arguments of a call are those of the arguments' terms.
-use Rattle.std.proofs.Common.{◌≡◌, ◌∙◌, ℕ, pos, negsuc, neg_ℤ, ◌-◌, ◌^◌, ◌%◌, arith, nat_lt, ◌⊎◌, inl, inr, Bool, true, false, not, ◌&&◌, ◌||◌, List, [], ◌∷◌, Option, Some, None, is_some, is_none, option_map, Result, Ok, Err, if◌then◌else◌, refl, sym, ap, subst}
+use Rattle.std.proofs.Common.{◌≡◌, ◌∙◌, ℕ, pos, negsuc, neg_ℤ, ◌-◌, ◌^◌, ◌%◌, arith, nat_lt, ◌⊎◌, inl, inr, Bool, true, false, not, ◌&&◌}
+use Rattle.std.proofs.Common.{◌||◌, List, [], ◌∷◌, Option, Some, None, is_some, is_none, option_map, Result, Ok, Err, if◌then◌else◌, refl}
+use Rattle.std.proofs.Common.{sym, ap, subst}
 use Rattle.std.proofs.lemmas.Bool.Decides.{nat_tests}
 use Rattle.tsa_tree.specs.declared.kind.ExpressionType.{ExpressionType}
 use Rattle.tsa_tree.specs.declared.kind.Kind.{Kind}
@@ -15,7 +17,8 @@ use Rattle.tsa_tree.specs.expressions.Syntax.{Expression, Arguments, number, nul
 use Rattle.tsa_tree.specs.types.Constants.{go_on, without_trap}
 use Rattle.tsa_tree.specs.types.DeclaredTypes.{value_in}
 use Rattle.tsa_tree.specs.types.Expressions.{type_of, types_of, all_typed, arguments_break}
-use Rattle.tsa_tree.specs.types.Operands.{integer_kind, unsigned_kind, goes_to, is_integer, is_single, keeps_const, lacks, same_target, target_of}
+use Rattle.tsa_tree.specs.types.Operands.{integer_kind, unsigned_kind, goes_to, is_integer, is_single, keeps_const, lacks, same_target}
+use Rattle.tsa_tree.specs.types.Operands.{target_of}
 use Rattle.tsa_tree.specs.types.Scopes.{Scope, context_of, known_in}
 use Rattle.tsa_place_model.specs.Arguments.{argument_way, index_argument, local_argument, or_local, way_of}
 use Rattle.tsa_place_model.specs.LockPaths.{Led, in_range, leads}
@@ -28,7 +31,8 @@ use Rattle.tsa_place_model.specs.Calls.{index_in}
 use Rattle.tsa_core.specs.Kinds.{Setting, Belongs}
 use Rattle.tsa_core.specs.Meanings.{loaded, null_pointer, of_name, of_number, as_kind, meaning, arguments}
 use Rattle.tsa_core.specs.Meanings as meant
-use Rattle.tsa_core.specs.Terms.{Term, constant, variable, answer, global, member, element, target, load, address, converted, prefixed, joined, Sense}
+use Rattle.tsa_core.specs.Terms.{Term, constant, variable, answer, global, member, element, target, load, address, converted, prefixed}
+use Rattle.tsa_core.specs.Terms.{joined, Sense}
 use Rattle.tsa_core.specs.Uses.{argument_ways}
 use Rattle.tsa_core.proofs.KindTests.{both_true, neither, not_false, one_of}
 use Rattle.tsa_core.proofs.TypedTerms.{some_same}

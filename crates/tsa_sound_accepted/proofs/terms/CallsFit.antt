@@ -1,5 +1,6 @@
 -- At each point that calls the terms are as the laws of turns ask.
-use Rattle.std.proofs.Common.{◌≡◌, ◌∙◌, ℕ, Bool, List, map, Option, Some, None, IsSome, is_some, option_and_then, option_map, slice_get, refl, sym, ap, subst}
+use Rattle.std.proofs.Common.{◌≡◌, ◌∙◌, ℕ, Bool, List, map, Option, Some, None, IsSome, is_some, option_and_then, option_map, slice_get}
+use Rattle.std.proofs.Common.{refl, sym, ap, subst}
 use Rattle.tsa_tree.specs.declared.kind.Kind.{Kind}
 use Rattle.tsa_tree.specs.declared.kind.Kind.TheVariants as type
 use Rattle.tsa_tree.specs.types.Units.{outset}

@@ -1,5 +1,6 @@
 -- The guards of each place that is loaded or set at a point are among those that its uses name.
-use Rattle.std.proofs.Common.{◌≡◌, ◌∙◌, inl, inr, ℕ, Bool, true, false, not, ◌&&◌, ◌||◌, List, [], ◌∷◌, ◌++◌, All, Contains, Option, Some, None, sym, subst}
+use Rattle.std.proofs.Common.{◌≡◌, ◌∙◌, inl, inr, ℕ, Bool, true, false, not, ◌&&◌, ◌||◌, List, [], ◌∷◌, ◌++◌, All, Contains, Option, Some}
+use Rattle.std.proofs.Common.{None, sym, subst}
 use Rattle.std.proofs.lemmas.List.Elements.{All-nil, All-cons, Contains-append_left, Contains-append_right, Contains-push}
 use Rattle.std.proofs.lemmas.List.Folds.{list_any-append}
 use Rattle.std.specs.List.{flat_map, list_any}
@@ -10,7 +11,8 @@ use Rattle.tsa_place_model.specs.Ways.{Way}
 use Rattle.tsa_core.specs.Kinds.{Setting, Belongs}
 use Rattle.tsa_core.specs.Loads.{loads, places}
 use Rattle.tsa_core.specs.Meanings.{meaning}
-use Rattle.tsa_core.specs.Terms.{Term, constant, variable, answer, global, member, element, target, load, address, converted, prefixed, joined}
+use Rattle.tsa_core.specs.Terms.{Term, constant, variable, answer, global, member, element, target, load, address, converted, prefixed}
+use Rattle.tsa_core.specs.Terms.{joined}
 use Rattle.tsa_core.specs.Uses.{Access, access, access_guards, accesses}
 use Rattle.tsa_core.proofs.KindTests.{or_left, one_of}
 use Rattle.tsa_core.proofs.ValuesServe.{free_gives}

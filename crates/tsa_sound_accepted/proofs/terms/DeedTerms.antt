@@ -28,7 +28,8 @@ use Rattle.tsa_core.specs.Kinds.{Setting, Belongs}
 use Rattle.tsa_core.specs.Meanings.{Call, is_place, loaded, as_kind, call_in, meaning}
 use Rattle.tsa_core.specs.PointKinds.{at_point}
 use Rattle.tsa_core.specs.PointLoads.{init_cells, right_cells, written_cells, cells_inside, cells_before}
-use Rattle.tsa_core.specs.Terms.{Term, constant, variable, answer, global, member, element, target, load, address, converted, prefixed, joined}
+use Rattle.tsa_core.specs.Terms.{Term, constant, variable, answer, global, member, element, target, load, address, converted, prefixed}
+use Rattle.tsa_core.specs.Terms.{joined}
 use Rattle.tsa_core.proofs.DeedsHold.{Facts}
 use Rattle.tsa_core.proofs.DeedsTold.{init_told, SetTold, set_told}
 use Rattle.tsa_core.proofs.KindTests.{both_true, not_true}
@@ -43,7 +44,8 @@ use Rattle.tsa_sound_accepted.proofs.terms.CellsTold.{IsTold, cells_told, whole_
 use Rattle.tsa_sound_accepted.proofs.terms.PointsAsked.{DeedAsked, InitAsked}
 use Rattle.tsa_sound_accepted.proofs.terms.TermsFit as terms
 use Rattle.tsa_sound_accepted.proofs.terms.TermsFit.{as_kind_fits}
-use Rattle.tsa_sound_accepted.proofs.terms.ValuesFit.{IsQuiet, as_kind_quiet, whole_quiet, condition_quiet, whole_fits, condition_fits, whole_call_fits, condition_call_fits}
+use Rattle.tsa_sound_accepted.proofs.terms.ValuesFit.{IsQuiet, as_kind_quiet, whole_quiet, condition_quiet, whole_fits, condition_fits}
+use Rattle.tsa_sound_accepted.proofs.terms.ValuesFit.{whole_call_fits, condition_call_fits}
 use Rattle.tsa_base.proofs.Truths.{never}
 
 -- zero and null are in range

@@ -1,5 +1,6 @@
 -- A deed that calls does something with the answer, and a test of it looks at the answer.
-use Rattle.std.proofs.Common.{◌≡◌, ◌∙◌, Bool, true, false, not, ◌&&◌, ◌||◌, Option, Some, None, IsSome, is_some, option_map, if◌then◌else◌, refl, sym, ap, subst}
+use Rattle.std.proofs.Common.{◌≡◌, ◌∙◌, Bool, true, false, not, ◌&&◌, ◌||◌, Option, Some, None, IsSome, is_some, option_map, if◌then◌else◌}
+use Rattle.std.proofs.Common.{refl, sym, ap, subst}
 use Rattle.tsa_tree.specs.declarations.Syntax.{Initialiser, value, list}
 use Rattle.tsa_tree.specs.declared.expr.BinaryOp.{BinaryOp}
 use Rattle.tsa_tree.specs.declared.expr.BinaryOp.TheVariants as op
@@ -20,11 +21,13 @@ use Rattle.tsa_tree.specs.types.Scopes.{Scope, context_of, known_in}
 use Rattle.tsa_core.specs.Bodies.{declared, point_by, right_side, set_to}
 use Rattle.tsa_core.specs.Meanings.{Call, beside, call_in, loaded, meaning, null_pointer, of_call, of_name}
 use Rattle.tsa_core.specs.Meanings as meant
-use Rattle.tsa_core.specs.Terms.{Term, constant, variable, answer, global, member, element, target, load, address, converted, prefixed, joined, Sense}
+use Rattle.tsa_core.specs.Terms.{Term, constant, variable, answer, global, member, element, target, load, address, converted, prefixed}
+use Rattle.tsa_core.specs.Terms.{joined, Sense}
 use Rattle.tsa_core.proofs.DeedsHold.{Facts}
 use Rattle.tsa_core.proofs.KindTests.{both_true, not_true, one_of}
 use Rattle.tsa_core.proofs.TypedTerms.{some_same}
-use Rattle.tsa_rules.specs.Conditions.{Condition, Subject, the_call, the_local, condition, condition_at, condition_in, subject_in, answer_beside, comparison, either, itself}
+use Rattle.tsa_rules.specs.Conditions.{Condition, Subject, the_call, the_local, condition, condition_at, condition_in, subject_in}
+use Rattle.tsa_rules.specs.Conditions.{answer_beside, comparison, either, itself}
 use Rattle.tsa_rules.specs.Conditions as conditions
 use Rattle.tsa_sound.specs.CallFacts.{CanCall}
 use Rattle.tsa_sound_accepted.proofs.terms.ValuesFit.{constant_made, either_called, no_call_made}

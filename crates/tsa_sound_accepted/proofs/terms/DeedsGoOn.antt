@@ -11,11 +11,13 @@ use Rattle.tsa_tree.specs.types.Constants.{constant_of}
 use Rattle.tsa_tree.specs.types.DeclaredTypes.{thing_type, typed_value, value_in}
 use Rattle.tsa_tree.specs.types.Expressions.{type_of}
 use Rattle.tsa_tree.specs.types.Scopes.{Scope, context_of}
-use Rattle.tsa_core.specs.Bodies.{evaluate, set_local, set_cell, declare, test, give, can_have, right_side, set_to, declared, point_by, zero_term}
+use Rattle.tsa_core.specs.Bodies.{evaluate, set_local, set_cell, declare, test, give, can_have, right_side, set_to, declared, point_by}
+use Rattle.tsa_core.specs.Bodies.{zero_term}
 use Rattle.tsa_core.specs.Control.{Outcome, Next, Yes, No, Rest, Chosen}
 use Rattle.tsa_core.specs.Laws.{goes_by, is_chosen, is_told}
 use Rattle.tsa_core.specs.Meanings.{Call, as_kind, call_in, loaded, meaning}
-use Rattle.tsa_core.specs.Terms.{Term, constant, variable, answer, global, member, element, target, load, address, converted, prefixed, joined}
+use Rattle.tsa_core.specs.Terms.{Term, constant, variable, answer, global, member, element, target, load, address, converted, prefixed}
+use Rattle.tsa_core.specs.Terms.{joined}
 use Rattle.tsa_core.proofs.ValuesServe.{no_call, constant_free}
 use Rattle.tsa_base.proofs.Truths.{never}
 

@@ -1,5 +1,6 @@
 -- Where all guards of what an expression stands for have paths, these are the guards of its term.
-use Rattle.std.proofs.Common.{◌≡◌, ◌∙◌, ℕ, Bool, true, false, List, [], ◌∷◌, ◌++◌, Option, Some, None, is_some, is_none, option_map, option_and_then, slice_get, refl, sym, ap, ap₂, subst}
+use Rattle.std.proofs.Common.{◌≡◌, ◌∙◌, ℕ, Bool, true, false, List, [], ◌∷◌, ◌++◌, Option, Some, None, is_some, is_none, option_map}
+use Rattle.std.proofs.Common.{option_and_then, slice_get, refl, sym, ap, ap₂, subst}
 use Rattle.std.proofs.lemmas.List.Folds.{list_any-append}
 use Rattle.std.specs.List.{list_any}
 use Rattle.tsa_tree.specs.declared.expr.BinaryOp.{BinaryOp}

@@ -1,5 +1,6 @@
 -- Where an expression leads, its term leads: along the same path.
-use Rattle.std.proofs.Common.{◌≡◌, ◌∙◌, ℕ, pos, negsuc, Bool, true, false, not, ◌&&◌, nat_lt, List, Option, Some, None, is_some, option_map, option_and_then, if◌then◌else◌, refl, sym, ap, ap₂, subst}
+use Rattle.std.proofs.Common.{◌≡◌, ◌∙◌, ℕ, pos, negsuc, Bool, true, false, not, ◌&&◌, nat_lt, List, Option, Some, None, is_some, option_map}
+use Rattle.std.proofs.Common.{option_and_then, if◌then◌else◌, refl, sym, ap, ap₂, subst}
 use Rattle.tsa_tree.specs.declared.expr.UnaryOp.TheVariants as prefix
 use Rattle.tsa_tree.specs.declared.kind.ExpressionType.{ExpressionType}
 use Rattle.tsa_tree.specs.declared.kind.Kind.TheVariants as type
@@ -12,19 +13,22 @@ use Rattle.tsa_tree.specs.declared.number.Number.TheVariants as numeral
 use Rattle.tsa_tree.specs.expressions.Syntax.{Expression, number, null, named, call, unary, binary, field, index}
 use Rattle.tsa_tree.specs.types.DeclaredTypes.{value_in}
 use Rattle.tsa_tree.specs.types.Expressions.{type_of, types_of, member_of, member_type, owner}
-use Rattle.tsa_tree.specs.types.Operands.{integer_kind, pointer_kind, is_single, struct_of, is_struct_place, lacks, breaks_prefix, breaks_index, prefix_type, element_type, address_of, followed}
+use Rattle.tsa_tree.specs.types.Operands.{integer_kind, pointer_kind, is_single, struct_of, is_struct_place, lacks, breaks_prefix}
+use Rattle.tsa_tree.specs.types.Operands.{breaks_index, prefix_type, element_type, address_of, followed}
 use Rattle.tsa_tree.specs.types.Runnable.{is_small}
 use Rattle.tsa_tree.specs.types.Scopes.{Scope, context_of, known_in}
 use Rattle.tsa_tree.specs.types.Types.{single}
 use Rattle.tsa_tree.specs.types.Lookups.{members_at, numbered}
 use Rattle.tsa_place_model.specs.LockPaths as path
-use Rattle.tsa_place_model.specs.LockPaths.{Led, led, meant, pointed, member_step, element_step, in_range, or_variable, index_step, name_way, leads}
+use Rattle.tsa_place_model.specs.LockPaths.{Led, led, meant, pointed, member_step, element_step, in_range, or_variable, index_step}
+use Rattle.tsa_place_model.specs.LockPaths.{name_way, leads}
 use Rattle.tsa_place_model.specs.Ways.{Way, from, onward}
 use Rattle.tsa_place_model.specs.declared.path.Root.TheVariants.{Local}
 use Rattle.tsa_place_model.specs.declared.path.PathStep.{PathStep}
 use Rattle.tsa_place_model.specs.declared.path.PathStep.TheVariants.{Constant, Variable, Field, Follow}
 use Rattle.tsa_core.specs.Kinds.{Setting, Belongs}
-use Rattle.tsa_core.specs.Meanings.{is_place, is_cell, loaded, never_changes, of_name, of_prefix, base_of, to_member, of_field, of_index, meaning}
+use Rattle.tsa_core.specs.Meanings.{is_place, is_cell, loaded, never_changes, of_name, of_prefix, base_of, to_member, of_field, of_index}
+use Rattle.tsa_core.specs.Meanings.{meaning}
 use Rattle.tsa_core.specs.Terms.{variable, load, Sense}
 use Rattle.tsa_core.proofs.KindTests.{both_true, not_false, single_length}
 use Rattle.tsa_core.proofs.KindsOfOperators.{struct_told}

@@ -1,5 +1,6 @@
 -- At each point of each function with a body of a unit in the profile the terms are as the laws of turns ask.
-use Rattle.std.proofs.Common.{◌≡◌, ◌∙◌, ℕ, Bool, true, List, [], ◌∷◌, ◌++◌, length, All, Contains, Option, Some, None, IsSome, option_map, slice_get, refl, sym, ap, subst}
+use Rattle.std.proofs.Common.{◌≡◌, ◌∙◌, ℕ, Bool, true, List, [], ◌∷◌, ◌++◌, length, All, Contains, Option, Some, None, IsSome, option_map}
+use Rattle.std.proofs.Common.{slice_get, refl, sym, ap, subst}
 use Rattle.std.proofs.lemmas.Slice.Eq.{bytes_eq-Decides}
 use Rattle.std.specs.List.{list_any}
 use Rattle.std.specs.Str.{bytes_eq}
@@ -22,7 +23,8 @@ use Rattle.tsa_core.specs.Kinds.{Belongs}
 use Rattle.tsa_core.specs.Meanings.{Call}
 use Rattle.tsa_core.specs.PointKinds.{PointHolds, Signatures}
 use Rattle.tsa_core.specs.PointLoads.{LoadsAgree, LoadsJustThose}
-use Rattle.tsa_core.specs.Programs.{Bodied, Declared, Function, Program, bodied_function, body_in, declared_functions, function_in, function_of, layout_or_none, program_of, stable_locals, uses_in}
+use Rattle.tsa_core.specs.Programs.{Bodied, Declared, Function, Program, bodied_function, body_in, declared_functions, function_in}
+use Rattle.tsa_core.specs.Programs.{function_of, layout_or_none, program_of, stable_locals, uses_in}
 use Rattle.tsa_core.specs.Uses.{Uses, uses_of}
 use Rattle.tsa_core.proofs.BodiesAgree.{bodies_agree}
 use Rattle.tsa_core.proofs.BodyScopes.{BeginsIn, unit_begins}

@@ -1,5 +1,6 @@
 -- What the terms at a point are, by a layout, kinds of locals, signatures and the uses of the point.
-use Rattle.std.proofs.Common.{◌≡◌, ◌∙◌, inl, inr, ℕ, Bool, true, false, List, [], ◌++◌, All, Contains, Option, Some, None, IsSome, if◌then◌else◌, refl, sym, ap, subst}
+use Rattle.std.proofs.Common.{◌≡◌, ◌∙◌, inl, inr, ℕ, Bool, true, false, List, [], ◌++◌, All, Contains, Option, Some, None, IsSome}
+use Rattle.std.proofs.Common.{if◌then◌else◌, refl, sym, ap, subst}
 use Rattle.std.proofs.lemmas.List.Elements.{All-contains, All-head}
 use Rattle.std.specs.List.{list_any}
 use Rattle.tsa_tree.specs.declared.expr.BinaryOp.{BinaryOp}
@@ -16,7 +17,8 @@ use Rattle.tsa_core.specs.Kinds.{Setting, Belongs}
 use Rattle.tsa_core.specs.Loads.{loads, places}
 use Rattle.tsa_core.specs.Meanings.{Call, is_place}
 use Rattle.tsa_core.specs.PointKinds.{Signatures, answer_of, at_point}
-use Rattle.tsa_core.specs.PointLoads.{call_loads, cell_set, cells_before, cells_inside, loads_inside, loads_right, old_value, right_cells, written_cells, LoadsAgree, LoadsJustThose}
+use Rattle.tsa_core.specs.PointLoads.{call_loads, cell_set, cells_before, cells_inside, loads_inside, loads_right, old_value, right_cells}
+use Rattle.tsa_core.specs.PointLoads.{written_cells, LoadsAgree, LoadsJustThose}
 use Rattle.tsa_core.specs.Terms.{Term, address}
 use Rattle.tsa_core.specs.Uses.{Access, Uses, accesses, uses, uses_by}
 use Rattle.tsa_core.proofs.DeedsHold.{Facts}

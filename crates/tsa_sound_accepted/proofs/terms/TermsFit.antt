@@ -1,5 +1,8 @@
--- The terms of typed expressions fit: constants are in range, what never changes is declared const, and the address of no guarded place is taken.
-use Rattle.std.proofs.Common.{◌≡◌, ◌∙◌, ℕ, pos, ◌^◌, ◌<◌, arith, nat_le, int_le, int_lt, neg_ℤ, Bool, true, false, ◌&&◌, List, [], ◌∷◌, Option, Some, None, is_some, is_none, option_map, option_and_then, slice_get, if◌then◌else◌, refl, sym, ap, subst}
+-- The terms of typed expressions fit: constants are in range, what never changes is declared const, and the address of no guarded place is
+-- taken.
+use Rattle.std.proofs.Common.{◌≡◌, ◌∙◌, ℕ, pos, ◌^◌, ◌<◌, arith, nat_le, int_le, int_lt, neg_ℤ, Bool, true, false, ◌&&◌, List, [], ◌∷◌}
+use Rattle.std.proofs.Common.{Option, Some, None, is_some, is_none, option_map, option_and_then, slice_get, if◌then◌else◌, refl, sym, ap}
+use Rattle.std.proofs.Common.{subst}
 use Rattle.std.proofs.lemmas.Bool.Decides.{nat_tests}
 use Rattle.std.specs.List.{list_any}
 use Rattle.tsa_tree.specs.declared.expr.BinaryOp.{BinaryOp}
@@ -19,15 +22,18 @@ use Rattle.tsa_tree.specs.tokens.Signs.{Aliases}
 use Rattle.tsa_tree.specs.types.Arithmetic.{is_int}
 use Rattle.tsa_tree.specs.types.Constants.{enumerator, number_value}
 use Rattle.tsa_tree.specs.types.Expressions.{type_of, types_of, all_typed, member_of, member_type, owner}
-use Rattle.tsa_tree.specs.types.Operands.{integer_kind, pointer_kind, unsigned_kind, is_array, is_integer, lacks, breaks_prefix, breaks_binary, breaks_index, prefix_type, binary_type, element_type}
+use Rattle.tsa_tree.specs.types.Operands.{integer_kind, pointer_kind, unsigned_kind, is_array, is_integer, lacks, breaks_prefix}
+use Rattle.tsa_tree.specs.types.Operands.{breaks_binary, breaks_index, prefix_type, binary_type, element_type}
 use Rattle.tsa_tree.specs.types.Runnable.{has_call, have_call}
 use Rattle.tsa_tree.specs.types.Scopes.{Scope, context_of, known_in}
 use Rattle.tsa_tree.specs.types.Lookups.{members_at, numbered}
 use Rattle.tsa_core.specs.Kinds.{Setting, Belongs, place_type, struct_in}
 use Rattle.tsa_place_model.specs.Layouts.{Part, structure_at}
-use Rattle.tsa_core.specs.Meanings.{is_place, is_cell, is_loaded, loaded, never_changes, of_number, name_term, of_name, of_call, beside, operands, base_of, to_member, of_field, as_kind, null_pointer, meaning, arguments}
+use Rattle.tsa_core.specs.Meanings.{is_place, is_cell, is_loaded, loaded, never_changes, of_number, name_term, of_name, of_call, beside}
+use Rattle.tsa_core.specs.Meanings.{operands, base_of, to_member, of_field, as_kind, null_pointer, meaning, arguments}
 use Rattle.tsa_core.specs.Meanings as meant
-use Rattle.tsa_core.specs.Terms.{Term, constant, variable, answer, global, member, element, target, load, address, converted, prefixed, joined, Sense}
+use Rattle.tsa_core.specs.Terms.{Term, constant, variable, answer, global, member, element, target, load, address, converted, prefixed}
+use Rattle.tsa_core.specs.Terms.{joined, Sense}
 use Rattle.tsa_core.specs.Uses.{access_guards}
 use Rattle.tsa_core.proofs.KindTests.{both_true, neither, not_false, and_true, single_length, so}
 use Rattle.tsa_core.proofs.KindsOfOperators.{Holds, struct_told, target_told, followed_place, struct_place, object_is, array_not_small}

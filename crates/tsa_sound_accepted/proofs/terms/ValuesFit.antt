@@ -1,5 +1,6 @@
 -- Values that may be calls fit, so do the arguments of their calls, and beside a call stand constants alone.
-use Rattle.std.proofs.Common.{◌≡◌, ◌∙◌, ℕ, Bool, true, false, not, ◌&&◌, ◌||◌, List, Option, Some, None, IsSome, is_some, if◌then◌else◌, refl, sym, ap, ap₂, subst, inl, inr}
+use Rattle.std.proofs.Common.{◌≡◌, ◌∙◌, ℕ, Bool, true, false, not, ◌&&◌, ◌||◌, List, Option, Some, None, IsSome, is_some, if◌then◌else◌}
+use Rattle.std.proofs.Common.{refl, sym, ap, ap₂, subst, inl, inr}
 use Rattle.tsa_tree.specs.declared.expr.BinaryOp.{BinaryOp}
 use Rattle.tsa_tree.specs.declared.expr.BinaryOp.TheVariants as op
 use Rattle.tsa_tree.specs.declared.expr.UnaryOp.TheVariants as prefix
@@ -21,7 +22,8 @@ use Rattle.tsa_tree.specs.types.Scopes.{Scope, context_of, known_in}
 use Rattle.tsa_tree.specs.types.Lookups.{params_in}
 use Rattle.tsa_place_model.specs.Calls.{Layout}
 use Rattle.tsa_core.specs.Kinds.{Belongs}
-use Rattle.tsa_core.specs.Meanings.{Call, loaded, of_name, of_call, beside, operands, as_kind, null_pointer, call_of, call_in, or_call, meaning}
+use Rattle.tsa_core.specs.Meanings.{Call, loaded, of_name, of_call, beside, operands, as_kind, null_pointer, call_of, call_in, or_call}
+use Rattle.tsa_core.specs.Meanings.{meaning}
 use Rattle.tsa_core.specs.Meanings as meant
 use Rattle.tsa_core.specs.PointKinds.{at_point}
 use Rattle.tsa_core.specs.Terms.{Term, converted, joined, Sense}

@@ -30,7 +30,8 @@ pub record PathsAreNamedOnce : Type 0 where
   pub own : (u : Program) (f : Function) → All (λ a. IsAmong (paths_of u f) a.path) f.attrs
   pub called : (u : Program) (f : Function) → length f.uses ≡ length (points_of f) → (p : ℕ) → All (λ a. IsAmong (paths_of u f) a.path) (attrs_at u f p)
 
--- At a point no path mentions a local that is assigned, no attribute one that is set, and a try variable is set at its own declaration alone.
+-- At a point no path mentions a local that is assigned, no attribute one that is set, and a try variable is set at its own declaration
+-- alone.
 pub record SetsApart (u : Program) (paths : List Way) (f : Function) (p : ℕ) : Type 0 where
   pub assigned : (n : ℕ) (o : Option BinaryOp) (kind : Kind) (x : Term) (c : Way) → (point_at f p).action ≡ set_local n o kind x → Contains paths c
       → mentions n c ≡ false

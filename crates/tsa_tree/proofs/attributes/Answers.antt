@@ -6,8 +6,11 @@ use Rattle.tsa_tree.specs.declared.sign.Sign.{Sign}
 use Rattle.tsa_tree.specs.declared.sign.Sign.TheVariants as sign
 use Rattle.tsa_tree.specs.attributes.Syntax.{Attribute}
 use Rattle.tsa_tree.specs.attributes.Spelling.{IsGroup, of_macro, of_no_entries, of_list, IsAttributes, of_no_group, of_group}
-use Rattle.tsa_tree.specs.attributes.Beginnings.{begins_name, BeginsGroup, begins_no_group, begins_macro, begins_word, begins_first_open, begins_list, begins_no_entries, begins_close, begins_group, BeginsAttributes, begins_one_group, begins_next_group}
-use Rattle.tsa_tree.specs.attributes.Refusals.{left_out, RefusesGroup, macro_lacks, macro_left_out, in_list, RefusesAttributes, first_group, next_group}
+use Rattle.tsa_tree.specs.attributes.Beginnings.{begins_name, BeginsGroup, begins_no_group, begins_macro, begins_word, begins_first_open}
+use Rattle.tsa_tree.specs.attributes.Beginnings.{begins_list, begins_no_entries, begins_close, begins_group, BeginsAttributes}
+use Rattle.tsa_tree.specs.attributes.Beginnings.{begins_one_group, begins_next_group}
+use Rattle.tsa_tree.specs.attributes.Refusals.{left_out, RefusesGroup, macro_lacks, macro_left_out, in_list, RefusesAttributes, first_group}
+use Rattle.tsa_tree.specs.attributes.Refusals.{next_group}
 use Rattle.tsa_tree.specs.attributes.Answers.{IsAnswer, read_any}
 use Rattle.tsa_tree.specs.expressions.Answers.{below_limit}
 use Rattle.tsa_tree.specs.Reads.{read}

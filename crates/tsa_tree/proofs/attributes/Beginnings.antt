@@ -12,10 +12,19 @@ use Rattle.tsa_tree.specs.attributes.Syntax.{Attribute, Taking, taking, try_valu
 use Rattle.tsa_tree.specs.tokens.Signs.{Aliases, sign_at, identifier_at, is_word_at, entry_meaning}
 use Rattle.tsa_tree.specs.expressions.Beginnings.{begins_unary, begins_left, begins_item}
 use Rattle.tsa_tree.specs.expressions.Beginnings as begins
-use Rattle.tsa_tree.specs.attributes.Spelling.{IsAttribute, of_text, of_one, of_nothing, IsEntry, of_known, of_ignored, of_entry, of_entries, of_macro, of_no_entries, IsAttributes, of_no_group, of_group}
-use Rattle.tsa_tree.specs.attributes.Beginnings.{Opened, BeginsAttribute, begins_name, begins_open, begins_text, begins_one, begins_expressions, begins_try, begins_tried, begins_whole, begins_balanced, begins_nothing, begins_known, begins_ignored, begins_entry, begins_first, begins_next, BeginsGroup, begins_no_group, begins_macro, begins_word, begins_first_open, begins_list, begins_no_entries, begins_close, begins_group, BeginsAttributes, begins_one_group, begins_next_group}
-use Rattle.tsa_tree.specs.attributes.Refusals.{lacking, Lacks, no_parenthesis, nothing_inside, result_alone, RefusesEntries, entry_lacks, entry_left_out, next_entry, RefusesGroup, macro_lacks, macro_left_out, in_list, RefusesAttributes, first_group, next_group}
-use Rattle.tsa_tree.specs.Rows.{some_attributes, attributes, group, entries, Kind, kind, a_word, a_result, sees, Row, takes_result, lacking_at, lacks, arguments_row, attribute_row, group_row, entries_end, entry_row, rule}
+use Rattle.tsa_tree.specs.attributes.Spelling.{IsAttribute, of_text, of_one, of_nothing, IsEntry, of_known, of_ignored, of_entry}
+use Rattle.tsa_tree.specs.attributes.Spelling.{of_entries, of_macro, of_no_entries, IsAttributes, of_no_group, of_group}
+use Rattle.tsa_tree.specs.attributes.Beginnings.{Opened, BeginsAttribute, begins_name, begins_open, begins_text, begins_one}
+use Rattle.tsa_tree.specs.attributes.Beginnings.{begins_expressions, begins_try, begins_tried, begins_whole, begins_balanced}
+use Rattle.tsa_tree.specs.attributes.Beginnings.{begins_nothing, begins_known, begins_ignored, begins_entry, begins_first, begins_next}
+use Rattle.tsa_tree.specs.attributes.Beginnings.{BeginsGroup, begins_no_group, begins_macro, begins_word, begins_first_open, begins_list}
+use Rattle.tsa_tree.specs.attributes.Beginnings.{begins_no_entries, begins_close, begins_group, BeginsAttributes, begins_one_group}
+use Rattle.tsa_tree.specs.attributes.Beginnings.{begins_next_group}
+use Rattle.tsa_tree.specs.attributes.Refusals.{lacking, Lacks, no_parenthesis, nothing_inside, result_alone, RefusesEntries, entry_lacks}
+use Rattle.tsa_tree.specs.attributes.Refusals.{entry_left_out, next_entry, RefusesGroup, macro_lacks, macro_left_out, in_list}
+use Rattle.tsa_tree.specs.attributes.Refusals.{RefusesAttributes, first_group, next_group}
+use Rattle.tsa_tree.specs.Rows.{some_attributes, attributes, group, entries, Kind, kind, a_word, a_result, sees, Row, takes_result}
+use Rattle.tsa_tree.specs.Rows.{lacking_at, lacks, arguments_row, attribute_row, group_row, entries_end, entry_row, rule}
 use Rattle.tsa_grammar.specs.Form.{done, token, part, either}
 use Rattle.tsa_tree.proofs.tokens.ProductionSigns.{shows_open, shows_close, shows_comma, shows_text}
 use Rattle.tsa_tree.proofs.attributes.Meanings.{ClosedEntries, Begun, Opens}

@@ -1,5 +1,6 @@
 -- What one token tells of another thing that it could be, among attributes and in balanced tokens.
-use Rattle.std.proofs.Common.{ℕ, suc, ◌≡◌, refl, subst, sym, List, [], ◌∷◌, Bool, true, false, ◌&&◌, Option, Some, None, slice_get, nat_eq, codes, if◌then◌else◌}
+use Rattle.std.proofs.Common.{ℕ, suc, ◌≡◌, refl, subst, sym, List, [], ◌∷◌, Bool, true, false, ◌&&◌, Option, Some, None, slice_get, nat_eq}
+use Rattle.std.proofs.Common.{codes, if◌then◌else◌}
 use Rattle.std.specs.List.{list_all, list_any}
 use Rattle.std.specs.Str.{bytes_eq}
 use Rattle.std.proofs.lemmas.Slice.Eq.{bytes_eq-Decides}
@@ -10,8 +11,10 @@ use Rattle.tsa_base.specs.declared.token.TokenKind.TheVariants.{Word, Number, Te
 use Rattle.tsa_tree.specs.declared.sign.Sign.{Sign}
 use Rattle.tsa_tree.specs.declared.sign.Sign.TheVariants as sign
 use Rattle.tsa_tree.specs.attributes.Syntax.{try_value}
-use Rattle.tsa_tree.specs.tokens.Signs.{Aliases, listed, sign_or, word_signs, word_sign, punctuator_signs, punctuator_sign, sign_of, sign_in, sign_at, kind_in, is_word, is_word_at, identifier_in, identifier_at, is_plain_sign}
-use Rattle.tsa_tree.specs.Rows.{mark, Closer, closing_parenthesis, closing_bracket, closing_brace, closer_kind, a_result, a_close, is_given, sees}
+use Rattle.tsa_tree.specs.tokens.Signs.{Aliases, listed, sign_or, word_signs, word_sign, punctuator_signs, punctuator_sign, sign_of}
+use Rattle.tsa_tree.specs.tokens.Signs.{sign_in, sign_at, kind_in, is_word, is_word_at, identifier_in, identifier_at, is_plain_sign}
+use Rattle.tsa_tree.specs.Rows.{mark, Closer, closing_parenthesis, closing_bracket, closing_brace, closer_kind, a_result, a_close, is_given}
+use Rattle.tsa_tree.specs.Rows.{sees}
 
 pub both : (p q : Bool) → (p && q) ≡ true → (p ≡ true) × (q ≡ true)
 both true q e = (refl, e)

@@ -7,7 +7,8 @@ use Rattle.tsa_tree.specs.expressions.Answers.{below_limit}
 use Rattle.tsa_tree.specs.attributes.Syntax.{Attribute}
 use Rattle.tsa_tree.specs.attributes.Spelling.{IsAttributes, of_no_group}
 use Rattle.tsa_tree.specs.attributes.Beginnings.{BeginsAttributes, begins_one_group, begins_no_group}
-use Rattle.tsa_tree.specs.attributes.Answers.{read_any, SpellTheSame, BeginTheSame, RefuseTheSame, OneList, PiecesBegin, Spelled, Begun, Refused, AnAnswer, OneAnswer}
+use Rattle.tsa_tree.specs.attributes.Answers.{read_any, SpellTheSame, BeginTheSame, RefuseTheSame, OneList, PiecesBegin, Spelled, Begun}
+use Rattle.tsa_tree.specs.attributes.Answers.{Refused, AnAnswer, OneAnswer}
 use Rattle.tsa_tree.specs.Rows as rows
 use Rattle.tsa_tree.specs.Rows.{is_attribute_sign, attributes}
 use Rattle.tsa_tree.specs.tokens.Signs.{Aliases, sign_at, sign_in}

@@ -7,17 +7,25 @@ use Rattle.tsa_tree.specs.declared.sign.Meaning.{Meaning}
 use Rattle.tsa_tree.specs.declared.sign.Meaning.TheVariants as mean
 use Rattle.tsa_tree.specs.attributes.Syntax.{Attribute}
 use Rattle.tsa_tree.specs.tokens.Signs.{Aliases, sign_at, is_word_at, entry_meaning}
-use Rattle.tsa_tree.specs.attributes.Spelling.{IsEntry, of_known, of_ignored, of_ignored_list, IsEntries, of_entry, of_entries, IsGroup, of_macro, of_no_entries, of_list, IsAttributes, of_no_group, of_group}
-use Rattle.tsa_tree.specs.attributes.Beginnings.{Opened, BeginsEntry, begins_nothing, begins_known, begins_ignored, begins_entry, BeginsEntries, begins_first, begins_next, BeginsGroup, begins_no_group, begins_macro, begins_word, begins_first_open, begins_list, begins_no_entries, begins_close, begins_group, BeginsAttributes, begins_one_group, begins_next_group}
-use Rattle.tsa_tree.specs.attributes.Refusals.{lacking, left_out, RefusesEntries, entry_lacks, entry_left_out, next_entry, RefusesGroup, macro_lacks, macro_left_out, in_list, RefusesAttributes, first_group, next_group}
-use Rattle.tsa_tree.specs.Rows.{some_attributes, attributes, group, entries, closing_parenthesis, kind, a_word, sees, Row, lacks, group_row, entries_end, entry_row, rule}
+use Rattle.tsa_tree.specs.attributes.Spelling.{IsEntry, of_known, of_ignored, of_ignored_list, IsEntries, of_entry, of_entries, IsGroup}
+use Rattle.tsa_tree.specs.attributes.Spelling.{of_macro, of_no_entries, of_list, IsAttributes, of_no_group, of_group}
+use Rattle.tsa_tree.specs.attributes.Beginnings.{Opened, BeginsEntry, begins_nothing, begins_known, begins_ignored, begins_entry}
+use Rattle.tsa_tree.specs.attributes.Beginnings.{BeginsEntries, begins_first, begins_next, BeginsGroup, begins_no_group, begins_macro}
+use Rattle.tsa_tree.specs.attributes.Beginnings.{begins_word, begins_first_open, begins_list, begins_no_entries, begins_close, begins_group}
+use Rattle.tsa_tree.specs.attributes.Beginnings.{BeginsAttributes, begins_one_group, begins_next_group}
+use Rattle.tsa_tree.specs.attributes.Refusals.{lacking, left_out, RefusesEntries, entry_lacks, entry_left_out, next_entry, RefusesGroup}
+use Rattle.tsa_tree.specs.attributes.Refusals.{macro_lacks, macro_left_out, in_list, RefusesAttributes, first_group, next_group}
+use Rattle.tsa_tree.specs.Rows.{some_attributes, attributes, group, entries, closing_parenthesis, kind, a_word, sees, Row, lacks, group_row}
+use Rattle.tsa_tree.specs.Rows.{entries_end, entry_row, rule}
 use Rattle.tsa_tree.proofs.tokens.ProductionSigns.{seen}
 use Rattle.tsa_tree.proofs.Inductions.{begins_whole}
 use Rattle.tsa_tree.proofs.attributes.ToRows.{and_both, lacks_true, attribute_goes, attribute_starts, attribute_begins}
 use Rattle.tsa_tree.proofs.attributes.SkipsToRows.{balanced_rows, balanced_begins}
 use Rattle.tsa_grammar.specs.Form.{done, token, part, either}
 use Rattle.tsa_grammar.specs.Spelling as forms
-use Rattle.tsa_grammar.specs.Spelling.{by_rule, goes_done, goes_token, goes_part, goes_limit, goes_left, goes_right, begins_rule, starts_here, starts_barred, starts_token, starts_in, starts_over, starts_limit, starts_left, starts_right}
+use Rattle.tsa_grammar.specs.Spelling.{by_rule, goes_done, goes_token, goes_part, goes_limit, goes_left, goes_right, begins_rule}
+use Rattle.tsa_grammar.specs.Spelling.{starts_here, starts_barred, starts_token, starts_in, starts_over, starts_limit, starts_left}
+use Rattle.tsa_grammar.specs.Spelling.{starts_right}
 
 module _ (tokens : List Lexeme) (aliases : Aliases) (fits : ℕ → Bool) where
   abbrev Goes : Row some_attributes → List Attribute → (a b : ℕ) → Type 0

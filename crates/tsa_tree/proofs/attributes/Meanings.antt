@@ -11,7 +11,8 @@ use Rattle.tsa_tree.specs.expressions.Beginnings.{BeginsExpression, BeginsUnary,
 use Rattle.tsa_tree.specs.attributes.Spelling.{IsBalanced, IsEntries, IsGroup, IsAttributes}
 use Rattle.tsa_tree.specs.attributes.Beginnings.{BeginsBalanced, BeginsEntries, BeginsGroup, BeginsAttributes}
 use Rattle.tsa_tree.specs.attributes.Refusals.{RefusesEntries, RefusesGroup, RefusesAttributes}
-use Rattle.tsa_tree.specs.Rows.{Sort, an_expression, some_arguments, a_skip, Node, Call, expression, operation, operand, postfix, series, attributes, group, entries, balanced, Closer, closer_kind, kind, sees, Row, rule}
+use Rattle.tsa_tree.specs.Rows.{Sort, an_expression, some_arguments, a_skip, Node, Call, expression, operation, operand, postfix, series}
+use Rattle.tsa_tree.specs.Rows.{attributes, group, entries, balanced, Closer, closer_kind, kind, sees, Row, rule}
 use Rattle.tsa_tree.proofs.Inductions as all
 
 module _ (tokens : List Lexeme) (fits : ℕ → Bool) where

@@ -10,11 +10,14 @@ use Rattle.tsa_tree.specs.declared.sign.Meaning.TheVariants as mean
 use Rattle.tsa_tree.specs.attributes.Syntax as takes
 use Rattle.tsa_tree.specs.attributes.Syntax.{Attribute, Taking, taking}
 use Rattle.tsa_tree.specs.tokens.Signs.{Aliases, sign_at, is_word_at}
-use Rattle.tsa_tree.specs.Rows.{some_attributes, a_skip, Call, attributes, group, entries, balanced, mark, Kind, Closer, closer_kind, a_word, a_result, an_open, a_close, a_comma, a_macro, sees, is_attribute_sign, Row, takes_result, opens, lacking_at, lacks, arguments_row, attribute_row, group_row, entries_end, entry_row, balanced_row, rule}
+use Rattle.tsa_tree.specs.Rows.{some_attributes, a_skip, Call, attributes, group, entries, balanced, mark, Kind, Closer, closer_kind}
+use Rattle.tsa_tree.specs.Rows.{a_word, a_result, an_open, a_close, a_comma, a_macro, sees, is_attribute_sign, Row, takes_result, opens}
+use Rattle.tsa_tree.specs.Rows.{lacking_at, lacks, arguments_row, attribute_row, group_row, entries_end, entry_row, balanced_row, rule}
 use Rattle.tsa_grammar.specs.Form.{done}
 use Rattle.tsa_tree.proofs.tokens.Facts.{close_plain, comma_plain, plain_no_open, close_no_comma}
 use Rattle.tsa_tree.proofs.RowFacts.{begins_no_close, ended, Good, Barren, Start, never}
-use Rattle.tsa_tree.proofs.attributes.Facts.{both, no_closer, open_no_closing, bracket_no_closing, brace_no_closing, plain_no_closing, close_no_text, word_at_no_close, close_no_result}
+use Rattle.tsa_tree.proofs.attributes.Facts.{both, no_closer, open_no_closing, bracket_no_closing, brace_no_closing, plain_no_closing}
+use Rattle.tsa_tree.proofs.attributes.Facts.{close_no_text, word_at_no_close, close_no_result}
 
 module _ (tokens : List Lexeme) where
   -- Nothing is whole after `(` where `)` stands there, or a result alone before `)`.

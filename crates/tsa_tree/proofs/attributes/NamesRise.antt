@@ -5,7 +5,9 @@ use Rattle.tsa_tree.specs.declared.attr.AttrKind.{AttrKind}
 use Rattle.tsa_tree.specs.declared.attr.AttrKind.TheVariants as attr
 use Rattle.tsa_tree.specs.declared.expr.UnaryOp.TheVariants as prefix_op
 use Rattle.tsa_tree.specs.attributes.Syntax.{Attribute, without_not, one_more, without_nots, negative}
-use Rattle.tsa_tree.specs.attributes.Spelling.{attribute_or, IsAttribute, of_text, of_one, of_expressions, of_try, IsEntry, of_known, of_ignored, of_ignored_list, IsEntries, of_entry, of_entries, IsGroup, of_macro, of_no_entries, of_list, IsAttributes, of_no_group, of_group}
+use Rattle.tsa_tree.specs.attributes.Spelling.{attribute_or, IsAttribute, of_text, of_one, of_expressions, of_try, IsEntry, of_known}
+use Rattle.tsa_tree.specs.attributes.Spelling.{of_ignored, of_ignored_list, IsEntries, of_entry, of_entries, IsGroup, of_macro}
+use Rattle.tsa_tree.specs.attributes.Spelling.{of_no_entries, of_list, IsAttributes, of_no_group, of_group}
 use Rattle.tsa_tree.specs.expressions.Syntax.{Expression, Arguments, unary, none, more}
 use Rattle.tsa_tree.specs.tokens.Signs.{Aliases}
 use Rattle.tsa_tree.specs.units.Names.{names_in_expression, names_in_arguments, names_in_attributes}

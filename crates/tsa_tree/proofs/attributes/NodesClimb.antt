@@ -1,11 +1,14 @@
 -- The nodes of attributes stand in the order of the text.
-use Rattle.std.proofs.Common.{ℕ, ◌+◌, ◌<◌, ◌≡◌, ◌∙◌, ap, sym, refl, subst, List, [], ◌∷◌, ◌++◌, Bool, Option, Some, None, append_assoc, arith}
+use Rattle.std.proofs.Common.{ℕ, ◌+◌, ◌<◌, ◌≡◌, ◌∙◌, ap, sym, refl, subst, List, [], ◌∷◌, ◌++◌, Bool, Option, Some, None, append_assoc}
+use Rattle.std.proofs.Common.{arith}
 use Rattle.tsa_base.specs.Tokens.{Lexeme}
 use Rattle.tsa_tree.specs.declared.attr.AttrKind.{AttrKind}
 use Rattle.tsa_tree.specs.declared.attr.AttrKind.TheVariants as attr
 use Rattle.tsa_tree.specs.declared.expr.UnaryOp.TheVariants as prefix_op
 use Rattle.tsa_tree.specs.attributes.Syntax.{Attribute, without_not, without_nots, negative}
-use Rattle.tsa_tree.specs.attributes.Spelling.{attribute_or, IsAttribute, of_text, of_one, of_expressions, of_try, IsEntry, of_known, of_ignored, of_ignored_list, IsEntries, of_entry, of_entries, IsGroup, of_macro, of_no_entries, of_list, IsAttributes, of_no_group, of_group}
+use Rattle.tsa_tree.specs.attributes.Spelling.{attribute_or, IsAttribute, of_text, of_one, of_expressions, of_try, IsEntry, of_known}
+use Rattle.tsa_tree.specs.attributes.Spelling.{of_ignored, of_ignored_list, IsEntries, of_entry, of_entries, IsGroup, of_macro}
+use Rattle.tsa_tree.specs.attributes.Spelling.{of_no_entries, of_list, IsAttributes, of_no_group, of_group}
 use Rattle.tsa_tree.specs.expressions.Syntax.{Expression, Arguments, unary, none, more}
 use Rattle.tsa_tree.specs.tokens.Signs.{Aliases}
 use Rattle.tsa_tree.specs.units.Order.{places_in_expression, places_in_arguments, places_in_attribute, places_in_attributes}
@@ -13,7 +16,8 @@ use Rattle.tsa_tree.proofs.attributes.TokenCounts.{ahead-balanced}
 use Rattle.tsa_tree.proofs.attributes.NamesRise.{parts}
 use Rattle.tsa_tree.proofs.expressions.TokenCounts.{ahead-expression, ahead-series}
 use Rattle.tsa_tree.proofs.expressions.NodesClimb.{climbs-expression, climbs-series}
-use Rattle.tsa_tree.proofs.tokens.Climbing.{Climbs, no_place, climbs-within, climbs-then, climbs-last, climbs-tail, climbs-back, climbs-over, climbs-alone}
+use Rattle.tsa_tree.proofs.tokens.Climbing.{Climbs, no_place, climbs-within, climbs-then, climbs-last, climbs-tail, climbs-back}
+use Rattle.tsa_tree.proofs.tokens.Climbing.{climbs-over, climbs-alone}
 
 places-attributes : (xs ys : List Attribute) → places_in_attributes (xs ++ ys) ≡ places_in_attributes xs ++ places_in_attributes ys
 places-attributes [] ys = refl

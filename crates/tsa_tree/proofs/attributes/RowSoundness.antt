@@ -12,9 +12,14 @@ use Rattle.tsa_tree.specs.attributes.Syntax as takes
 use Rattle.tsa_tree.specs.attributes.Syntax.{Attribute, Taking, taking, try_value}
 use Rattle.tsa_tree.specs.expressions.Syntax.{Arguments}
 use Rattle.tsa_tree.specs.tokens.Signs.{Aliases, sign_at, identifier_at, is_word_at, entry_meaning}
-use Rattle.tsa_tree.specs.attributes.Spelling.{attribute, attribute_of, IsAttribute, of_text, of_one, of_expressions, of_try, IsBalanced, of_nothing, of_token, of_parentheses, of_brackets, of_braces, IsEntry, of_known, of_ignored, of_ignored_list, of_entry, of_entries, IsGroup, of_macro, of_no_entries, of_list, IsAttributes, of_no_group, of_group}
+use Rattle.tsa_tree.specs.attributes.Spelling.{attribute, attribute_of, IsAttribute, of_text, of_one, of_expressions, of_try, IsBalanced}
+use Rattle.tsa_tree.specs.attributes.Spelling.{of_nothing, of_token, of_parentheses, of_brackets, of_braces, IsEntry, of_known, of_ignored}
+use Rattle.tsa_tree.specs.attributes.Spelling.{of_ignored_list, of_entry, of_entries, IsGroup, of_macro, of_no_entries, of_list}
+use Rattle.tsa_tree.specs.attributes.Spelling.{IsAttributes, of_no_group, of_group}
 use Rattle.tsa_tree.specs.attributes.Beginnings.{Opened}
-use Rattle.tsa_tree.specs.Rows.{some_attributes, a_skip, attributes, group, entries, balanced, Closer, closing_parenthesis, closing_bracket, closing_brace, Kind, kind, a_word, is_given, sees, Row, lacks, arguments_row, attribute_row, group_row, entries_end, entry_row, balanced_row, rule}
+use Rattle.tsa_tree.specs.Rows.{some_attributes, a_skip, attributes, group, entries, balanced, Closer, closing_parenthesis, closing_bracket}
+use Rattle.tsa_tree.specs.Rows.{closing_brace, Kind, kind, a_word, is_given, sees, Row, lacks, arguments_row, attribute_row, group_row}
+use Rattle.tsa_tree.specs.Rows.{entries_end, entry_row, balanced_row, rule}
 use Rattle.tsa_tree.proofs.tokens.ProductionSigns.{shows_open, shows_close, shows_close_bracket, shows_comma, shows_text, shows_close_brace}
 use Rattle.tsa_tree.proofs.attributes.Meanings.{Keeps, Closed, ClosedEntries, ClosedBalanced}
 

@@ -7,11 +7,13 @@ use Rattle.tsa_tree.specs.declared.sign.Sign.TheVariants as sign
 use Rattle.tsa_tree.specs.tokens.Signs.{Aliases, sign_at, is_plain_sign}
 use Rattle.tsa_tree.specs.attributes.Spelling.{IsBalanced, of_nothing, of_token, of_parentheses, of_brackets, of_braces}
 use Rattle.tsa_tree.specs.attributes.Beginnings.{BeginsBalanced, begins_balanced, begins_parentheses, begins_brackets, begins_braces}
-use Rattle.tsa_tree.specs.Rows.{a_skip, balanced, Closer, closer_kind, closing_parenthesis, closing_bracket, closing_brace, kind, a_plain, sees, Row, balanced_row, rule}
+use Rattle.tsa_tree.specs.Rows.{a_skip, balanced, Closer, closer_kind, closing_parenthesis, closing_bracket, closing_brace, kind, a_plain}
+use Rattle.tsa_tree.specs.Rows.{sees, Row, balanced_row, rule}
 use Rattle.tsa_tree.proofs.tokens.ProductionSigns.{seen}
 use Rattle.tsa_grammar.specs.Form.{done, token, part}
 use Rattle.tsa_grammar.specs.Spelling as forms
-use Rattle.tsa_grammar.specs.Spelling.{by_rule, goes_done, goes_token, goes_part, goes_limit, goes_left, goes_right, begins_rule, starts_here, starts_token, starts_in, starts_over, starts_limit, starts_right}
+use Rattle.tsa_grammar.specs.Spelling.{by_rule, goes_done, goes_token, goes_part, goes_limit, goes_left, goes_right, begins_rule}
+use Rattle.tsa_grammar.specs.Spelling.{starts_here, starts_token, starts_in, starts_over, starts_limit, starts_right}
 
 module _ (tokens : List Lexeme) (aliases : Aliases) (fits : ℕ → Bool) where
   abbrev pub Skips : (d : ℕ) (closer : Closer) (a b : ℕ) → Type 0

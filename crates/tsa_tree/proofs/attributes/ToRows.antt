@@ -9,14 +9,17 @@ use Rattle.tsa_tree.specs.attributes.Syntax as takes
 use Rattle.tsa_tree.specs.attributes.Syntax.{Attribute, Taking, taking}
 use Rattle.tsa_tree.specs.tokens.Signs.{Aliases, sign_at}
 use Rattle.tsa_tree.specs.attributes.Spelling.{attribute, IsAttribute, of_text, of_one, of_expressions, of_try}
-use Rattle.tsa_tree.specs.attributes.Beginnings.{BeginsAttribute, begins_no_name, begins_name, begins_open, begins_text, begins_one, begins_expressions, begins_try, begins_tried, begins_whole}
+use Rattle.tsa_tree.specs.attributes.Beginnings.{BeginsAttribute, begins_no_name, begins_name, begins_open, begins_text, begins_one}
+use Rattle.tsa_tree.specs.attributes.Beginnings.{begins_expressions, begins_try, begins_tried, begins_whole}
 use Rattle.tsa_tree.specs.attributes.Refusals.{Lacks, no_parenthesis, nothing_inside, result_alone}
-use Rattle.tsa_tree.specs.Rows.{some_attributes, Kind, kind, a_result, is_given, sees, Row, takes_result, lacking_at, lacks, arguments_row, attribute_row, rule}
+use Rattle.tsa_tree.specs.Rows.{some_attributes, Kind, kind, a_result, is_given, sees, Row, takes_result, lacking_at, lacks, arguments_row}
+use Rattle.tsa_tree.specs.Rows.{attribute_row, rule}
 use Rattle.tsa_tree.proofs.tokens.ProductionSigns.{seen}
 use Rattle.tsa_tree.proofs.expressions.ToRows.{expression_rows, series_rows}
 use Rattle.tsa_tree.proofs.expressions.BeginningsToRows.{expression_begins, series_begins}
 use Rattle.tsa_grammar.specs.Spelling as forms
-use Rattle.tsa_grammar.specs.Spelling.{goes_token, goes_part, goes_bar, goes_limit, goes_left, starts_here, starts_bar, starts_token, starts_in, starts_over, starts_limit, starts_left}
+use Rattle.tsa_grammar.specs.Spelling.{goes_token, goes_part, goes_bar, goes_limit, goes_left, starts_here, starts_bar, starts_token}
+use Rattle.tsa_grammar.specs.Spelling.{starts_in, starts_over, starts_limit, starts_left}
 
 -- one of two tests holds where either does
 pub or_left : (p q : Bool) → p ≡ true → (p || q) ≡ true

@@ -3,7 +3,10 @@ use Rattle.std.proofs.Common.{ℕ, ◌<◌, ◌≤◌, ◌≡◌, refl, List, []
 use Rattle.tsa_base.specs.Tokens.{Lexeme}
 use Rattle.tsa_tree.specs.declared.attr.AttrKind.{AttrKind}
 use Rattle.tsa_tree.specs.attributes.Syntax.{Attribute}
-use Rattle.tsa_tree.specs.attributes.Spelling.{IsAttribute, of_text, of_one, of_expressions, of_try, IsBalanced, of_nothing, of_token, of_parentheses, of_brackets, of_braces, IsEntry, of_known, of_ignored, of_ignored_list, IsEntries, of_entry, of_entries, IsGroup, of_macro, of_no_entries, of_list, IsAttributes, of_no_group, of_group}
+use Rattle.tsa_tree.specs.attributes.Spelling.{IsAttribute, of_text, of_one, of_expressions, of_try, IsBalanced, of_nothing, of_token}
+use Rattle.tsa_tree.specs.attributes.Spelling.{of_parentheses, of_brackets, of_braces, IsEntry, of_known, of_ignored, of_ignored_list}
+use Rattle.tsa_tree.specs.attributes.Spelling.{IsEntries, of_entry, of_entries, IsGroup, of_macro, of_no_entries, of_list, IsAttributes}
+use Rattle.tsa_tree.specs.attributes.Spelling.{of_no_group, of_group}
 use Rattle.tsa_tree.specs.tokens.Signs.{Aliases}
 use Rattle.tsa_tree.proofs.expressions.TokenCounts.{ahead-expression, ahead-series}
 

@@ -6,10 +6,16 @@ use Rattle.tsa_tree.specs.declarations.Syntax.{Specified, Initialiser, value, De
 use Rattle.tsa_tree.specs.declarations.Spelling.{Role, a_member, a_global}
 use Rattle.tsa_tree.specs.expressions.Syntax.{Expression}
 use Rattle.tsa_tree.specs.tokens.Signs.{Aliases, sign_at, span_over}
-use Rattle.tsa_tree.specs.Rows.{an_expression, a_declared, some_declarations, a_variable, some_variables, Call, expression, declared_rest, declarators, member_line, members, variable, variables, locals, an_equals, a_comma, a_semicolon, an_open_bracket, rank, sees, is_attribute_sign, Row, behind_attributes, behind_init, delimiter, behind_declared, rule}
+use Rattle.tsa_tree.specs.Rows.{an_expression, a_declared, some_declarations, a_variable, some_variables, Call, expression, declared_rest}
+use Rattle.tsa_tree.specs.Rows.{declarators, member_line, members, variable, variables, locals, an_equals, a_comma, a_semicolon}
+use Rattle.tsa_tree.specs.Rows.{an_open_bracket, rank, sees, is_attribute_sign, Row, behind_attributes, behind_init, delimiter}
+use Rattle.tsa_tree.specs.Rows.{behind_declared, rule}
 use Rattle.tsa_tree.proofs.tokens.Facts.{is_plain, comma_plain}
-use Rattle.tsa_tree.proofs.RowFacts.{begins_rest, First, Ends, Moves, Next, Start, Good, EndsValue, EndsLocal, EndsVariable, EndsVariables, Bare}
-use Rattle.tsa_tree.proofs.declarations.Facts.{semicolon_plain, plain_no_bracket, equals_no_bracket, attribute_no_bracket, plain_no_attribute, equals_no_attribute, plain_no_equals, semicolon_no_comma, type_no_brace, bracket_rest, attribute_rest, equals_rest, comma_rest, semicolon_rest, not_true, not_false}
+use Rattle.tsa_tree.proofs.RowFacts.{begins_rest, First, Ends, Moves, Next, Start, Good, EndsValue, EndsLocal, EndsVariable, EndsVariables}
+use Rattle.tsa_tree.proofs.RowFacts.{Bare}
+use Rattle.tsa_tree.proofs.declarations.Facts.{semicolon_plain, plain_no_bracket, equals_no_bracket, attribute_no_bracket}
+use Rattle.tsa_tree.proofs.declarations.Facts.{plain_no_attribute, equals_no_attribute, plain_no_equals, semicolon_no_comma, type_no_brace}
+use Rattle.tsa_tree.proofs.declarations.Facts.{bracket_rest, attribute_rest, equals_rest, comma_rest, semicolon_rest, not_true, not_false}
 use Rattle.tsa_tree.proofs.declarations.Meet.{settled_declarator, good_behind_length, good_behind_attributes, value_over}
 use Rattle.tsa_grammar.specs.Form.{done, token, part, either}
 use Rattle.tsa_grammar.proofs.Good as g

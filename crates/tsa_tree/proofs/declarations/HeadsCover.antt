@@ -3,10 +3,15 @@ use Rattle.std.proofs.Common.{ℕ, ◌+◌, List, ◌∷◌, ◌++◌, Option, B
 use Rattle.tsa_base.specs.Tokens.{Lexeme}
 use Rattle.tsa_tree.specs.declarations.Syntax.{Parameter, EnumConstant, Signature, Head}
 use Rattle.tsa_tree.specs.declarations.Spelling.{no_star, of_star, of_const_star}
-use Rattle.tsa_tree.specs.declarations.ItemSpelling.{IsParameter, of_named, of_unnamed, IsParameterList, of_last_parameter, of_further_parameter, IsParameters, no_parameter, of_lone_void, of_parameters, IsTag, no_tag, of_tag, IsSignature, of_signature, IsHead, of_head, IsConstant, of_name_alone, of_name_and_value, IsConstants, of_last_constant, of_constant_and_comma, of_further_constant, IsEnumBody, of_enum_body}
+use Rattle.tsa_tree.specs.declarations.ItemSpelling.{IsParameter, of_named, of_unnamed, IsParameterList, of_last_parameter}
+use Rattle.tsa_tree.specs.declarations.ItemSpelling.{of_further_parameter, IsParameters, no_parameter, of_lone_void, of_parameters, IsTag}
+use Rattle.tsa_tree.specs.declarations.ItemSpelling.{no_tag, of_tag, IsSignature, of_signature, IsHead, of_head, IsConstant, of_name_alone}
+use Rattle.tsa_tree.specs.declarations.ItemSpelling.{of_name_and_value, IsConstants, of_last_constant, of_constant_and_comma}
+use Rattle.tsa_tree.specs.declarations.ItemSpelling.{of_further_constant, IsEnumBody, of_enum_body}
 use Rattle.tsa_tree.specs.expressions.Syntax.{Identifier}
 use Rattle.tsa_tree.specs.tokens.Signs.{Aliases}
-use Rattle.tsa_tree.specs.units.Spans.{spans_in_optional, spans_in_attributes, span_of_name, spans_in_parameter, spans_in_parameters, spans_in_head, spans_in_constants}
+use Rattle.tsa_tree.specs.units.Spans.{spans_in_optional, spans_in_attributes, span_of_name, spans_in_parameter, spans_in_parameters}
+use Rattle.tsa_tree.specs.units.Spans.{spans_in_head, spans_in_constants}
 use Rattle.tsa_tree.proofs.attributes.SpansCover.{cover-attributes}
 use Rattle.tsa_tree.proofs.declarations.TokenCounts.{ahead-star, ahead-storage, ahead-specifier}
 use Rattle.tsa_tree.proofs.declarations.SpansCover.{cover-specifier, cover-declarator}

@@ -5,13 +5,19 @@ use Rattle.std.specs.declared.option.Option.{Option}
 use Rattle.tsa_base.specs.Tokens.{Lexeme}
 use Rattle.tsa_tree.specs.declared.sign.Sign.TheVariants as sign
 use Rattle.tsa_tree.specs.declarations.Syntax.{Base, int, unsigned, void, structure, enumerated, alias, Parameter, EnumConstant, Head}
-use Rattle.tsa_tree.specs.declarations.Spelling.{no_const, of_const, IsBase, of_int, of_unsigned, of_unsigned_int, of_signed, of_signed_int, of_void, of_struct, of_enum, of_alias, of_specifier, no_star, of_star, of_const_star}
+use Rattle.tsa_tree.specs.declarations.Spelling.{no_const, of_const, IsBase, of_int, of_unsigned, of_unsigned_int, of_signed, of_signed_int}
+use Rattle.tsa_tree.specs.declarations.Spelling.{of_void, of_struct, of_enum, of_alias, of_specifier, no_star, of_star, of_const_star}
 use Rattle.tsa_tree.specs.expressions.Syntax.{Identifier}
-use Rattle.tsa_tree.specs.declarations.ItemSpelling.{IsParameter, of_named, of_unnamed, IsParameterList, of_last_parameter, of_further_parameter, IsParameters, no_parameter, of_lone_void, of_parameters, IsTag, no_tag, of_tag, of_signature, IsHead, of_head, IsConstant, of_name_alone, of_name_and_value, IsConstants, of_last_constant, of_constant_and_comma, of_further_constant, IsEnumBody, of_enum_body}
+use Rattle.tsa_tree.specs.declarations.ItemSpelling.{IsParameter, of_named, of_unnamed, IsParameterList, of_last_parameter}
+use Rattle.tsa_tree.specs.declarations.ItemSpelling.{of_further_parameter, IsParameters, no_parameter, of_lone_void, of_parameters, IsTag}
+use Rattle.tsa_tree.specs.declarations.ItemSpelling.{no_tag, of_tag, of_signature, IsHead, of_head, IsConstant, of_name_alone}
+use Rattle.tsa_tree.specs.declarations.ItemSpelling.{of_name_and_value, IsConstants, of_last_constant, of_constant_and_comma}
+use Rattle.tsa_tree.specs.declarations.ItemSpelling.{of_further_constant, IsEnumBody, of_enum_body}
 use Rattle.tsa_tree.specs.tokens.Signs.{Aliases, sign_at, is_void, is_close}
 use Rattle.tsa_tree.specs.tokens.Signs as signs
 use Rattle.tsa_tree.specs.expressions.Sound.{is_name}
-use Rattle.tsa_tree.specs.declarations.Sound.{SoundParameter, SoundEachParameter, SoundParameters, is_bare_void, is_lone_void, SoundHead, SoundConstant, SoundEachConstant, SoundConstants}
+use Rattle.tsa_tree.specs.declarations.Sound.{SoundParameter, SoundEachParameter, SoundParameters, is_bare_void, is_lone_void, SoundHead}
+use Rattle.tsa_tree.specs.declarations.Sound.{SoundConstant, SoundEachConstant, SoundConstants}
 use Rattle.tsa_tree.specs.units.Sound.{SoundTag, SoundTags}
 use Rattle.tsa_tree.proofs.tokens.NamesAndNumbers.{AreTokensOfKinds, name_at}
 use Rattle.tsa_tree.proofs.tokens.SignsRead.{tag_at}

@@ -2,10 +2,15 @@
 use Rattle.std.proofs.Common.{ℕ, List, ◌∷◌, ◌++◌, Bool, Option, arith}
 use Rattle.tsa_base.specs.Tokens.{Lexeme}
 use Rattle.tsa_tree.specs.declarations.Syntax.{Parameter, EnumConstant, Signature, Head}
-use Rattle.tsa_tree.specs.declarations.ItemSpelling.{IsParameter, of_named, of_unnamed, IsParameterList, of_last_parameter, of_further_parameter, IsParameters, no_parameter, of_lone_void, of_parameters, IsTag, no_tag, of_tag, IsSignature, of_signature, IsHead, of_head, IsConstant, of_name_alone, of_name_and_value, IsConstants, of_last_constant, of_constant_and_comma, of_further_constant, IsEnumBody, of_enum_body}
+use Rattle.tsa_tree.specs.declarations.ItemSpelling.{IsParameter, of_named, of_unnamed, IsParameterList, of_last_parameter}
+use Rattle.tsa_tree.specs.declarations.ItemSpelling.{of_further_parameter, IsParameters, no_parameter, of_lone_void, of_parameters, IsTag}
+use Rattle.tsa_tree.specs.declarations.ItemSpelling.{no_tag, of_tag, IsSignature, of_signature, IsHead, of_head, IsConstant, of_name_alone}
+use Rattle.tsa_tree.specs.declarations.ItemSpelling.{of_name_and_value, IsConstants, of_last_constant, of_constant_and_comma}
+use Rattle.tsa_tree.specs.declarations.ItemSpelling.{of_further_constant, IsEnumBody, of_enum_body}
 use Rattle.tsa_tree.specs.expressions.Syntax.{Identifier}
 use Rattle.tsa_tree.specs.tokens.Signs.{Aliases}
-use Rattle.tsa_tree.specs.units.Names.{names_in_optional, names_in_attributes, the_name, name_of_base, names_in_parameters, names_in_head, names_in_constants}
+use Rattle.tsa_tree.specs.units.Names.{names_in_optional, names_in_attributes, the_name, name_of_base, names_in_parameters, names_in_head}
+use Rattle.tsa_tree.specs.units.Names.{names_in_constants}
 use Rattle.tsa_tree.proofs.attributes.NamesRise.{rises-attributes}
 use Rattle.tsa_tree.proofs.declarations.TokenCounts.{ahead-star, ahead-storage}
 use Rattle.tsa_tree.proofs.declarations.NamesRise.{rises-specifier, declared}

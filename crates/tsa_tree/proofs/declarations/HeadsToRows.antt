@@ -6,9 +6,17 @@ use Rattle.tsa_tree.specs.declared.sign.Keyword.TheVariants as key
 use Rattle.tsa_tree.specs.declared.sign.Sign.{Sign}
 use Rattle.tsa_tree.specs.declared.sign.Sign.TheVariants as sign
 use Rattle.tsa_tree.specs.declarations.Syntax.{Specified, Parameter, EnumConstant, Signature, StructBody, Head, head_of}
-use Rattle.tsa_tree.specs.declarations.ItemSpelling.{parameter, parameter_start, IsParameter, of_named, of_unnamed, IsParameterList, of_last_parameter, of_further_parameter, IsParameters, no_parameter, of_lone_void, of_parameters, IsStorage, no_storage, of_storage, IsSignature, of_signature, IsHead, of_head, IsStructBody, of_struct_body, IsConstant, of_name_alone, of_name_and_value, IsConstants, of_last_constant, of_constant_and_comma, of_further_constant, IsEnumBody, of_enum_body}
+use Rattle.tsa_tree.specs.declarations.ItemSpelling.{parameter, parameter_start, IsParameter, of_named, of_unnamed, IsParameterList}
+use Rattle.tsa_tree.specs.declarations.ItemSpelling.{of_last_parameter, of_further_parameter, IsParameters, no_parameter, of_lone_void}
+use Rattle.tsa_tree.specs.declarations.ItemSpelling.{of_parameters, IsStorage, no_storage, of_storage, IsSignature, of_signature, IsHead}
+use Rattle.tsa_tree.specs.declarations.ItemSpelling.{of_head, IsStructBody, of_struct_body, IsConstant, of_name_alone, of_name_and_value}
+use Rattle.tsa_tree.specs.declarations.ItemSpelling.{IsConstants, of_last_constant, of_constant_and_comma, of_further_constant, IsEnumBody}
+use Rattle.tsa_tree.specs.declarations.ItemSpelling.{of_enum_body}
 use Rattle.tsa_tree.specs.tokens.Signs.{Aliases, sign_at, identifier_at, is_void, is_close}
-use Rattle.tsa_tree.specs.Rows.{Sort, a_specifier, a_declarator, some_parameters, a_signature, a_head, a_struct_body, some_constants, Node, Call, specifier, declarator, parameter_list, parameters, signature, head, struct_body, constants, enum_body, a_name, a_close, a_comma, an_open_brace, a_close_brace, is_keyword, sees, Row, behind_storage, parameter_end, constants_end, rule}
+use Rattle.tsa_tree.specs.Rows.{Sort, a_specifier, a_declarator, some_parameters, a_signature, a_head, a_struct_body, some_constants, Node}
+use Rattle.tsa_tree.specs.Rows.{Call, specifier, declarator, parameter_list, parameters, signature, head, struct_body, constants, enum_body}
+use Rattle.tsa_tree.specs.Rows.{a_name, a_close, a_comma, an_open_brace, a_close_brace, is_keyword, sees, Row, behind_storage}
+use Rattle.tsa_tree.specs.Rows.{parameter_end, constants_end, rule}
 use Rattle.tsa_tree.proofs.attributes.Facts.{both}
 use Rattle.tsa_tree.proofs.declarations.ToRows.{specifier_rows, star_goes, declarator_rows, attributes_goes, members_rows}
 use Rattle.tsa_tree.proofs.tokens.ProductionSigns.{seen}

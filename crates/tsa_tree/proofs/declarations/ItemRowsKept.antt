@@ -11,9 +11,13 @@ use Rattle.tsa_tree.specs.declarations.Syntax.{Base, structure, enumerated, Spec
 use Rattle.tsa_tree.specs.units.Syntax.{UnitItem}
 use Rattle.tsa_tree.specs.declarations.Spelling.{IsBase, of_struct, of_enum, no_const, IsSpecifier, of_specifier}
 use Rattle.tsa_tree.specs.expressions.Syntax.{Identifier}
-use Rattle.tsa_tree.specs.declarations.ItemSpelling.{IsStorage, no_storage, IsTag, no_tag, of_tag, of_head, IsItem, of_structure, of_tag_alone, of_structure_alias, of_enumeration, of_enumeration_alias, of_alias_item, of_globals, of_function, of_body_item}
+use Rattle.tsa_tree.specs.declarations.ItemSpelling.{IsStorage, no_storage, IsTag, no_tag, of_tag, of_head, IsItem, of_structure}
+use Rattle.tsa_tree.specs.declarations.ItemSpelling.{of_tag_alone, of_structure_alias, of_enumeration, of_enumeration_alias, of_alias_item}
+use Rattle.tsa_tree.specs.declarations.ItemSpelling.{of_globals, of_function, of_body_item}
 use Rattle.tsa_tree.specs.tokens.Signs.{Aliases, sign_at, identifier_at, is_tag}
-use Rattle.tsa_tree.specs.Rows.{a_specifier, some_items, specifier, declared, item, behind_storage, declared_of, structure_end, structure_alias_end, enumeration_end, enumeration_alias_end, alias_end, alias_of, structure_row, enumeration_row, structure_alias_row, enumeration_alias_row, typedef_row, item_row, rule}
+use Rattle.tsa_tree.specs.Rows.{a_specifier, some_items, specifier, declared, item, behind_storage, declared_of, structure_end}
+use Rattle.tsa_tree.specs.Rows.{structure_alias_end, enumeration_end, enumeration_alias_end, alias_end, alias_of, structure_row}
+use Rattle.tsa_tree.specs.Rows.{enumeration_row, structure_alias_row, enumeration_alias_row, typedef_row, item_row, rule}
 use Rattle.tsa_tree.proofs.tokens.ProductionSigns.{shows_name}
 use Rattle.tsa_tree.proofs.declarations.Signs.{shows_semicolon}
 use Rattle.tsa_tree.proofs.expressions.RowsToProductions.{production_of}

@@ -8,9 +8,14 @@ use Rattle.tsa_tree.specs.attributes.Syntax.{Attribute}
 use Rattle.tsa_tree.specs.declarations.Syntax.{Base, structure, enumerated, Specified}
 use Rattle.tsa_tree.specs.expressions.Syntax.{Identifier}
 use Rattle.tsa_tree.specs.tokens.Signs.{Aliases, sign_at, identifier_at, is_tag}
-use Rattle.tsa_tree.specs.Rows.{a_specifier, some_items, specifier, declared, item, an_open_brace, a_semicolon, sees, is_keyword, Row, declared_of, structure_end, structure_alias_end, enumeration_end, enumeration_alias_end, alias_end, alias_of, structure_row, enumeration_row, tagged_alias, structure_alias_row, enumeration_alias_row, typedef_row, item_row, rule}
+use Rattle.tsa_tree.specs.Rows.{a_specifier, some_items, specifier, declared, item, an_open_brace, a_semicolon, sees, is_keyword, Row}
+use Rattle.tsa_tree.specs.Rows.{declared_of, structure_end, structure_alias_end, enumeration_end, enumeration_alias_end, alias_end}
+use Rattle.tsa_tree.specs.Rows.{alias_of, structure_row, enumeration_row, tagged_alias, structure_alias_row, enumeration_alias_row}
+use Rattle.tsa_tree.specs.Rows.{typedef_row, item_row, rule}
 use Rattle.tsa_tree.proofs.RowFacts.{begins_declarator, Ends, Next, Good, Settled, Bare}
-use Rattle.tsa_tree.proofs.declarations.Facts.{declarator_no_keyword, plain_no_attribute, name_no_attribute, semicolon_plain, declarator_no_brace, keyword_no_brace, declarator_no_semicolon, keyword_no_semicolon, tag_no_brace, tag_no_attribute, brace_no_attribute, semicolon_no_open_brace}
+use Rattle.tsa_tree.proofs.declarations.Facts.{declarator_no_keyword, plain_no_attribute, name_no_attribute, semicolon_plain}
+use Rattle.tsa_tree.proofs.declarations.Facts.{declarator_no_brace, keyword_no_brace, declarator_no_semicolon, keyword_no_semicolon}
+use Rattle.tsa_tree.proofs.declarations.Facts.{tag_no_brace, tag_no_attribute, brace_no_attribute, semicolon_no_open_brace}
 use Rattle.tsa_tree.proofs.declarations.Meet.{settled_declarator, good_behind_consts}
 use Rattle.tsa_tree.proofs.declarations.ItemsMeet.{good_behind_storage}
 use Rattle.tsa_grammar.specs.Form.{done, part}

@@ -7,9 +7,16 @@ use Rattle.tsa_tree.specs.attributes.Spelling.{IsAttributes}
 use Rattle.tsa_tree.specs.declarations.Syntax.{Specified, Parameter, EnumConstant, head_of, Declarator, Signature}
 use Rattle.tsa_tree.specs.units.Syntax.{body_item}
 use Rattle.tsa_tree.specs.declarations.Spelling.{a_global, IsDeclarators, of_last_declarator, of_further_declarator, IsDeclarator}
-use Rattle.tsa_tree.specs.declarations.ItemSpelling.{parameter, parameter_start, IsParameter, of_named, of_unnamed, of_last_parameter, of_further_parameter, of_lone_void, no_parameter, of_parameters, IsStorage, no_storage, of_storage, IsSignature, of_signature, IsHead, of_head, IsStructBody, of_struct_body, IsConstant, of_name_alone, of_name_and_value, of_last_constant, of_constant_and_comma, of_further_constant, IsEnumBody, of_enum_body}
+use Rattle.tsa_tree.specs.declarations.ItemSpelling.{parameter, parameter_start, IsParameter, of_named, of_unnamed, of_last_parameter}
+use Rattle.tsa_tree.specs.declarations.ItemSpelling.{of_further_parameter, of_lone_void, no_parameter, of_parameters, IsStorage, no_storage}
+use Rattle.tsa_tree.specs.declarations.ItemSpelling.{of_storage, IsSignature, of_signature, IsHead, of_head, IsStructBody, of_struct_body}
+use Rattle.tsa_tree.specs.declarations.ItemSpelling.{IsConstant, of_name_alone, of_name_and_value, of_last_constant, of_constant_and_comma}
+use Rattle.tsa_tree.specs.declarations.ItemSpelling.{of_further_constant, IsEnumBody, of_enum_body}
 use Rattle.tsa_tree.specs.tokens.Signs.{Aliases, span_at, identifier_at, is_lone_void}
-use Rattle.tsa_tree.specs.Rows.{Sort, a_skip, a_specifier, a_declarator, some_parameters, a_signature, a_head, a_struct_body, some_constants, some_items, Node, storage, specifier, declarator, parameter_list, parameters, signature, head, struct_body, constants, enum_body, declared, a_name, sees, Row, behind_storage, parameter_end, constants_end, function_end, rule}
+use Rattle.tsa_tree.specs.Rows.{Sort, a_skip, a_specifier, a_declarator, some_parameters, a_signature, a_head, a_struct_body}
+use Rattle.tsa_tree.specs.Rows.{some_constants, some_items, Node, storage, specifier, declarator, parameter_list, parameters, signature}
+use Rattle.tsa_tree.specs.Rows.{head, struct_body, constants, enum_body, declared, a_name, sees, Row, behind_storage, parameter_end}
+use Rattle.tsa_tree.specs.Rows.{constants_end, function_end, rule}
 use Rattle.tsa_tree.proofs.tokens.ProductionSigns.{shows_name, shows_open, shows_close, shows_comma, shows_close_brace}
 use Rattle.tsa_tree.proofs.declarations.Signs.{shows_open_brace, shows_semicolon, shows_equals}
 use Rattle.tsa_tree.proofs.expressions.RowsToProductions.{production_of}

@@ -6,10 +6,17 @@ use Rattle.tsa_tree.specs.declared.sign.Keyword.TheVariants as key
 use Rattle.tsa_tree.specs.declarations.Syntax.{Specified, Declared, Parameter, EnumConstant, Head, head_of}
 use Rattle.tsa_tree.specs.declarations.ItemSpelling.{parameter, parameter_start}
 use Rattle.tsa_tree.specs.tokens.Signs.{Aliases, sign_at, identifier_at, is_star, is_lone_void}
-use Rattle.tsa_tree.specs.Rows.{Sort, a_skip, a_specifier, a_declarator, some_parameters, a_signature, a_head, a_struct_body, some_constants, some_items, Call, storage, specifier, declarator, parameter_list, parameters, signature, head, struct_body, constants, enum_body, declared, a_name, an_open, a_close, a_comma, an_open_brace, a_close_brace, a_semicolon, rank, sees, is_keyword, Row, behind_storage, parameter_end, constants_end, behind_global, function_end, nothing, rule}
+use Rattle.tsa_tree.specs.Rows.{Sort, a_skip, a_specifier, a_declarator, some_parameters, a_signature, a_head, a_struct_body}
+use Rattle.tsa_tree.specs.Rows.{some_constants, some_items, Call, storage, specifier, declarator, parameter_list, parameters, signature}
+use Rattle.tsa_tree.specs.Rows.{head, struct_body, constants, enum_body, declared, a_name, an_open, a_close, a_comma, an_open_brace}
+use Rattle.tsa_tree.specs.Rows.{a_close_brace, a_semicolon, rank, sees, is_keyword, Row, behind_storage, parameter_end, constants_end}
+use Rattle.tsa_tree.specs.Rows.{behind_global, function_end, nothing, rule}
 use Rattle.tsa_tree.proofs.tokens.Facts.{is_plain, comma_plain, close_plain, close_no_comma, plain_no_name}
 use Rattle.tsa_tree.proofs.RowFacts.{begins_type, First, Ends, Moves, Next, Start, Good, Settled, Bare, never, ended}
-use Rattle.tsa_tree.proofs.declarations.Facts.{plain_no_keyword, name_no_keyword, plain_no_star, name_no_star, plain_no_attribute, plain_no_equals, semicolon_plain, star_begins, brace_plain, brace_no_comma, type_no_close, void_no_close, type_no_storage, name_no_brace, rest_no_open, brace_no_attribute, open_brace_no_semicolon, not_true, not_false}
+use Rattle.tsa_tree.proofs.declarations.Facts.{plain_no_keyword, name_no_keyword, plain_no_star, name_no_star, plain_no_attribute}
+use Rattle.tsa_tree.proofs.declarations.Facts.{plain_no_equals, semicolon_plain, star_begins, brace_plain, brace_no_comma, type_no_close}
+use Rattle.tsa_tree.proofs.declarations.Facts.{void_no_close, type_no_storage, name_no_brace, rest_no_open, brace_no_attribute}
+use Rattle.tsa_tree.proofs.declarations.Facts.{open_brace_no_semicolon, not_true, not_false}
 use Rattle.tsa_tree.proofs.declarations.Meet.{settled_declarator, good_behind_star, good_behind_attributes}
 use Rattle.tsa_grammar.specs.Form.{done, token, part, either}
 use Rattle.tsa_grammar.proofs.Good as g

@@ -8,17 +8,25 @@ use Rattle.tsa_tree.specs.declared.sign.Sign.{Sign}
 use Rattle.tsa_tree.specs.declared.sign.Sign.TheVariants as sign
 use Rattle.tsa_tree.specs.attributes.Syntax.{Attribute}
 use Rattle.tsa_tree.specs.attributes.Spelling.{IsGroup, IsAttributes, of_no_group, of_group}
-use Rattle.tsa_tree.specs.declarations.Syntax.{Base, structure, enumerated, Specified, Declarator, Declaration, EnumConstant, Signature, StructBody, head_of, made_of}
+use Rattle.tsa_tree.specs.declarations.Syntax.{Base, structure, enumerated, Specified, Declarator, Declaration, EnumConstant, Signature}
+use Rattle.tsa_tree.specs.declarations.Syntax.{StructBody, head_of, made_of}
 use Rattle.tsa_tree.specs.units.Syntax.{UnitItem, structure_item, alias_item, enumeration_item, global_item, function_item, body_item}
 use Rattle.tsa_tree.specs.declarations.Spelling as spells
-use Rattle.tsa_tree.specs.declarations.Spelling.{a_global, IsConsts, no_const, of_const, IsBase, of_specifier, IsSpecifier, IsDeclarator, IsDeclarators, of_last_declarator, of_further_declarator}
+use Rattle.tsa_tree.specs.declarations.Spelling.{a_global, IsConsts, no_const, of_const, IsBase, of_specifier, IsSpecifier, IsDeclarator}
+use Rattle.tsa_tree.specs.declarations.Spelling.{IsDeclarators, of_last_declarator, of_further_declarator}
 use Rattle.tsa_tree.specs.expressions.Syntax.{Identifier}
-use Rattle.tsa_tree.specs.declarations.ItemSpelling.{IsStorage, no_storage, of_storage, IsTag, no_tag, of_tag, IsSignature, of_head, IsStructBody, IsEnumBody, IsItem, of_structure, of_tag_alone, of_structure_alias, of_enumeration, of_enumeration_alias, of_alias_item, of_globals, of_function, of_body_item}
+use Rattle.tsa_tree.specs.declarations.ItemSpelling.{IsStorage, no_storage, of_storage, IsTag, no_tag, of_tag, IsSignature, of_head}
+use Rattle.tsa_tree.specs.declarations.ItemSpelling.{IsStructBody, IsEnumBody, IsItem, of_structure, of_tag_alone, of_structure_alias}
+use Rattle.tsa_tree.specs.declarations.ItemSpelling.{of_enumeration, of_enumeration_alias, of_alias_item, of_globals, of_function}
+use Rattle.tsa_tree.specs.declarations.ItemSpelling.{of_body_item}
 use Rattle.tsa_tree.specs.tokens.Signs.{Aliases, sign_at, span_over, identifier_at, is_storage, span_at}
-use Rattle.tsa_tree.specs.Rows.{Sort, some_attributes, a_specifier, some_items, Node, Call, attributes, specifier, declared, item, a_name, a_semicolon, a_tag, is_keyword, sees, Row, behind_storage, structure_end, structure_alias_end, enumeration_end, enumeration_alias_end, alias_end, tagged_alias, typedef_row, item_row, rule, function_end}
+use Rattle.tsa_tree.specs.Rows.{Sort, some_attributes, a_specifier, some_items, Node, Call, attributes, specifier, declared, item, a_name}
+use Rattle.tsa_tree.specs.Rows.{a_semicolon, a_tag, is_keyword, sees, Row, behind_storage, structure_end, structure_alias_end}
+use Rattle.tsa_tree.specs.Rows.{enumeration_end, enumeration_alias_end, alias_end, tagged_alias, typedef_row, item_row, rule, function_end}
 use Rattle.tsa_tree.proofs.attributes.ListsToRows.{attributes_rows}
 use Rattle.tsa_tree.proofs.attributes.TokenCounts.{ahead-group, ahead-attributes}
-use Rattle.tsa_tree.proofs.declarations.ToRows.{consts_goes, qualified_rows, specifier_rows, declarator_rows, rest_rows_comma, rest_rows_semicolon, declarators_rows}
+use Rattle.tsa_tree.proofs.declarations.ToRows.{consts_goes, qualified_rows, specifier_rows, declarator_rows, rest_rows_comma}
+use Rattle.tsa_tree.proofs.declarations.ToRows.{rest_rows_semicolon, declarators_rows}
 use Rattle.tsa_tree.proofs.declarations.HeadsToRows.{storage_goes, signature_rows, struct_body_rows, enum_body_rows}
 use Rattle.tsa_tree.proofs.tokens.ProductionSigns.{seen}
 use Rattle.tsa_tree.specs.statements.Syntax.{Statements}

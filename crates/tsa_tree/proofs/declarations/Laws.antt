@@ -1,9 +1,12 @@
 -- Laws of the grammar of declarations and items.
-use Rattle.std.proofs.Common.{ℕ, ◌+◌, ◌≤◌, ◌≡◌, ◌∙◌, ap, sym, refl, List, [], ◌∷◌, Bool, true, false, Option, Some, None, Ok, Err, length, arith, inl, inr, nat_eq}
+use Rattle.std.proofs.Common.{ℕ, ◌+◌, ◌≤◌, ◌≡◌, ◌∙◌, ap, sym, refl, List, [], ◌∷◌, Bool, true, false, Option, Some, None, Ok, Err, length}
+use Rattle.std.proofs.Common.{arith, inl, inr, nat_eq}
 use Rattle.tsa_base.specs.Tokens.{Lexeme}
 use Rattle.tsa_tree.specs.expressions.Answers.{an_expression, below_limit}
 use Rattle.tsa_tree.specs.attributes.Refusals.{left_out}
-use Rattle.tsa_tree.specs.declarations.Answers.{Part, an_item, a_head_alone, some_locals, sort_of, call_of, Spells, RowsSpell, Begins, Refuses, IsAnswer, SpellTheSame, TypesSpellTheSame, OneSpelled, OneItem, PiecesBegin, AnAnswer, OneAnswer}
+use Rattle.tsa_tree.specs.declarations.Answers.{Part, an_item, a_head_alone, some_locals, sort_of, call_of, Spells, RowsSpell, Begins}
+use Rattle.tsa_tree.specs.declarations.Answers.{Refuses, IsAnswer, SpellTheSame, TypesSpellTheSame, OneSpelled, OneItem, PiecesBegin}
+use Rattle.tsa_tree.specs.declarations.Answers.{AnAnswer, OneAnswer}
 use Rattle.tsa_tree.specs.declarations.Syntax.{Declaration, Initialiser, value, list}
 use Rattle.tsa_tree.specs.expressions.Syntax.{Expression}
 use Rattle.tsa_tree.specs.Reads.{read}

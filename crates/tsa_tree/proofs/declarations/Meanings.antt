@@ -1,17 +1,23 @@
--- What the parts of declarations, items and statements are in terms of the productions. Expressions and attributes are what their rows spell.
+-- What the parts of declarations, items and statements are in terms of the productions. Expressions and attributes are what their rows
+-- spell.
 use Rattle.std.proofs.Common.{ℕ, ◌+◌, ◌≡◌, List, [], ◌∷◌, map, Bool, true, false, ◌⊎◌}
 use Rattle.tsa_base.specs.Tokens.{Lexeme}
 use Rattle.tsa_tree.specs.declared.sign.Sign.{Sign}
 use Rattle.tsa_tree.specs.declared.sign.Sign.TheVariants as sign
 use Rattle.tsa_tree.specs.declarations.Syntax.{Specified, Declarator, Declaration, Signature, head_of}
 use Rattle.tsa_tree.specs.units.Syntax.{UnitItem, global_item, function_item, body_item}
-use Rattle.tsa_tree.specs.declarations.Spelling.{a_member, a_global, IsConsts, IsSpecifier, IsDeclarator, IsInitialiser, IsInitialisers, IsRest, IsDeclarators, IsMembers, IsVariable, IsVariables, IsLocals}
-use Rattle.tsa_tree.specs.declarations.ItemSpelling.{IsParameterList, IsParameters, IsStorage, IsSignature, IsHead, IsStructBody, IsConstants, IsEnumBody, IsItem}
+use Rattle.tsa_tree.specs.declarations.Spelling.{a_member, a_global, IsConsts, IsSpecifier, IsDeclarator, IsInitialiser, IsInitialisers}
+use Rattle.tsa_tree.specs.declarations.Spelling.{IsRest, IsDeclarators, IsMembers, IsVariable, IsVariables, IsLocals}
+use Rattle.tsa_tree.specs.declarations.ItemSpelling.{IsParameterList, IsParameters, IsStorage, IsSignature, IsHead, IsStructBody}
+use Rattle.tsa_tree.specs.declarations.ItemSpelling.{IsConstants, IsEnumBody, IsItem}
 use Rattle.tsa_tree.specs.units.Spelling.{IsItems}
 use Rattle.tsa_tree.specs.statements.Syntax.{Statements}
 use Rattle.tsa_tree.specs.statements.Spelling.{IsSimple, IsForInit, IsStatement, IsStatements}
 use Rattle.tsa_tree.specs.tokens.Signs.{Aliases, sign_at, span_at}
-use Rattle.tsa_tree.specs.Rows.{Sort, Node, Call, consts, storage, specifier, declarator, initialiser, initialisers, declared_rest, declarators, member_line, members, variable, variables, locals, parameter_list, parameters, signature, head, struct_body, constants, enum_body, declared, item, items, simple, for_init, statement, statements, is_past, sees, Row, rule}
+use Rattle.tsa_tree.specs.Rows.{Sort, Node, Call, consts, storage, specifier, declarator, initialiser, initialisers, declared_rest}
+use Rattle.tsa_tree.specs.Rows.{declarators, member_line, members, variable, variables, locals, parameter_list, parameters, signature, head}
+use Rattle.tsa_tree.specs.Rows.{struct_body, constants, enum_body, declared, item, items, simple, for_init, statement, statements, is_past}
+use Rattle.tsa_tree.specs.Rows.{sees, Row, rule}
 use Rattle.tsa_tree.proofs.Inductions as all
 use Rattle.tsa_grammar.specs.Spelling as forms
 

@@ -1,5 +1,6 @@
 -- The rows of types, declarators and initialisers meet what their reader needs.
-use Rattle.std.proofs.Common.{ℕ, ◌+◌, ◌-◌, ◌<◌, ◌≡◌, ◌∙◌, ap, sym, subst, refl, List, [], Bool, true, false, Option, Some, None, arith, ◌⊎◌, inl, inr}
+use Rattle.std.proofs.Common.{ℕ, ◌+◌, ◌-◌, ◌<◌, ◌≡◌, ◌∙◌, ap, sym, subst, refl, List, [], Bool, true, false, Option, Some, None, arith, ◌⊎◌}
+use Rattle.std.proofs.Common.{inl, inr}
 use Rattle.tsa_base.specs.Tokens.{Lexeme}
 use Rattle.tsa_tree.specs.declared.sign.Keyword.TheVariants as key
 use Rattle.tsa_tree.specs.declared.sign.Sign.{Sign}
@@ -8,12 +9,18 @@ use Rattle.tsa_tree.specs.attributes.Syntax.{Attribute}
 use Rattle.tsa_tree.specs.declarations.Syntax.{Base, int, unsigned, void, structure, enumerated, alias, Initialiser, value, list}
 use Rattle.tsa_tree.specs.expressions.Syntax.{Expression}
 use Rattle.tsa_tree.specs.tokens.Signs.{Aliases, sign_at, identifier_at, is_star}
-use Rattle.tsa_tree.specs.Rows.{Sort, a_skip, a_specifier, a_declarator, an_initialiser, some_initialisers, some_attributes, Call, attributes, consts, specifier, declarator, initialiser, initialisers, rank, a_name, a_comma, an_open_bracket, a_close_brace, sees, is_keyword, Row, behind_consts, specified, with_int, specifier_row, behind_star, behind_length, behind_attributes, list_row, rule}
+use Rattle.tsa_tree.specs.Rows.{Sort, a_skip, a_specifier, a_declarator, an_initialiser, some_initialisers, some_attributes, Call}
+use Rattle.tsa_tree.specs.Rows.{attributes, consts, specifier, declarator, initialiser, initialisers, rank, a_name, a_comma}
+use Rattle.tsa_tree.specs.Rows.{an_open_bracket, a_close_brace, sees, is_keyword, Row, behind_consts, specified, with_int, specifier_row}
+use Rattle.tsa_tree.specs.Rows.{behind_star, behind_length, behind_attributes, list_row, rule}
 use Rattle.tsa_grammar.specs.Form.{done, token}
 use Rattle.tsa_grammar.proofs.Good as g
 use Rattle.tsa_tree.proofs.tokens.Facts.{is_plain, comma_plain, bracket_plain}
-use Rattle.tsa_tree.proofs.RowFacts.{begins_type, begins_declarator, begins_initialiser, is_signing, First, Ends, Moves, Next, Start, Good, Settled, EndsValue, Bare, never, ended}
-use Rattle.tsa_tree.proofs.declarations.Facts.{declarator_no_keyword, name_no_star, name_no_keyword, brace_plain, brace_no_comma, const_no_int, unsigning, tag_unsigned, operand_no_brace, operand_begins, brace_begins, initialiser_no_brace, star_begins, name_begins}
+use Rattle.tsa_tree.proofs.RowFacts.{begins_type, begins_declarator, begins_initialiser, is_signing, First, Ends, Moves, Next, Start, Good}
+use Rattle.tsa_tree.proofs.RowFacts.{Settled, EndsValue, Bare, never, ended}
+use Rattle.tsa_tree.proofs.declarations.Facts.{declarator_no_keyword, name_no_star, name_no_keyword, brace_plain, brace_no_comma}
+use Rattle.tsa_tree.proofs.declarations.Facts.{const_no_int, unsigning, tag_unsigned, operand_no_brace, operand_begins, brace_begins}
+use Rattle.tsa_tree.proofs.declarations.Facts.{initialiser_no_brace, star_begins, name_begins}
 
 module _ (tokens : List Lexeme) where
   -- what is known of the token before m, where it is told of the place before m + 1

@@ -1,12 +1,21 @@
 -- The names in declarations stand one after the other, the name of a base that several share counted once.
-use Rattle.std.proofs.Common.{ℕ, ◌+◌, ◌≡◌, ◌∙◌, ap, sym, refl, subst, List, [], ◌∷◌, ◌++◌, Bool, true, false, Option, Some, None, append_assoc, if◌then◌else◌, arith}
+use Rattle.std.proofs.Common.{ℕ, ◌+◌, ◌≡◌, ◌∙◌, ap, sym, refl, subst, List, [], ◌∷◌, ◌++◌, Bool, true, false, Option, Some, None}
+use Rattle.std.proofs.Common.{append_assoc, if◌then◌else◌, arith}
 use Rattle.std.proofs.lemmas.Bool.{eq-eqb}
 use Rattle.tsa_base.specs.Tokens.{Lexeme}
 use Rattle.tsa_tree.specs.declarations.Syntax.{Base, Specified, Initialiser, Initialisers, Declaration, Declarator}
-use Rattle.tsa_tree.specs.declarations.Spelling.{Role, IsBase, of_int, of_unsigned, of_unsigned_int, of_signed, of_signed_int, of_void, of_struct, of_enum, of_alias, IsSpecifier, of_specifier, IsDeclarator, of_declarator, IsLength, no_length, of_length, IsInitialiser, of_value, of_no_values, of_values, IsInitialisers, of_last_value, of_value_and_comma, of_further_value, IsInit, no_init, of_init, IsRest, of_rest, IsDeclarators, of_last_declarator, of_further_declarator, IsMembers, no_member, of_members, IsVariable, of_unset, of_set, IsVariables, of_last_variable, of_further_variable, IsLocals, of_locals, of_one_local}
+use Rattle.tsa_tree.specs.declarations.Spelling.{Role, IsBase, of_int, of_unsigned, of_unsigned_int, of_signed, of_signed_int, of_void}
+use Rattle.tsa_tree.specs.declarations.Spelling.{of_struct, of_enum, of_alias, IsSpecifier, of_specifier, IsDeclarator, of_declarator}
+use Rattle.tsa_tree.specs.declarations.Spelling.{IsLength, no_length, of_length, IsInitialiser, of_value, of_no_values, of_values}
+use Rattle.tsa_tree.specs.declarations.Spelling.{IsInitialisers, of_last_value, of_value_and_comma, of_further_value, IsInit, no_init}
+use Rattle.tsa_tree.specs.declarations.Spelling.{of_init, IsRest, of_rest, IsDeclarators, of_last_declarator, of_further_declarator}
+use Rattle.tsa_tree.specs.declarations.Spelling.{IsMembers, no_member, of_members, IsVariable, of_unset, of_set, IsVariables}
+use Rattle.tsa_tree.specs.declarations.Spelling.{of_last_variable, of_further_variable, IsLocals, of_locals, of_one_local}
 use Rattle.tsa_tree.specs.expressions.Syntax.{Identifier, Expression}
 use Rattle.tsa_tree.specs.tokens.Signs.{Aliases}
-use Rattle.tsa_tree.specs.units.Names.{names_in_optional, the_name, name_of_base, begins_where, name_unshared, names_in_initialiser, names_in_initialisers, names_in_init, names_behind_base, base_in, names_in_declaration, names_in_declarations}
+use Rattle.tsa_tree.specs.units.Names.{names_in_optional, the_name, name_of_base, begins_where, name_unshared, names_in_initialiser}
+use Rattle.tsa_tree.specs.units.Names.{names_in_initialisers, names_in_init, names_behind_base, base_in, names_in_declaration}
+use Rattle.tsa_tree.specs.units.Names.{names_in_declarations}
 use Rattle.tsa_tree.proofs.attributes.NamesRise.{rises-attributes}
 use Rattle.tsa_tree.proofs.declarations.TokenCounts.{ahead-consts, ahead-star}
 use Rattle.tsa_tree.proofs.expressions.NamesRise.{rises-expression}

@@ -1,16 +1,29 @@
 -- The nodes of declarations, parameters, heads and enumerators stand in the order of the text.
 use Rattle.std.proofs.Common.{ℕ, ◌+◌, ◌≡◌, ◌∙◌, ap, sym, refl, subst, List, [], ◌∷◌, ◌++◌, Bool, Option, append_assoc, arith}
 use Rattle.tsa_base.specs.Tokens.{Lexeme}
-use Rattle.tsa_tree.specs.declarations.Syntax.{Specified, Initialiser, Initialisers, Declaration, Declarator, Parameter, EnumConstant, Signature, Head}
-use Rattle.tsa_tree.specs.declarations.Spelling.{Role, IsSpecifier, no_star, of_star, of_const_star, IsDeclarator, of_declarator, IsLength, no_length, of_length, IsInitialiser, of_value, of_no_values, of_values, IsInitialisers, of_last_value, of_value_and_comma, of_further_value, IsInit, no_init, of_init, IsRest, of_rest, IsDeclarators, of_last_declarator, of_further_declarator, IsMembers, no_member, of_members, IsVariable, of_unset, of_set, IsVariables, of_last_variable, of_further_variable, IsLocals, of_locals, of_one_local}
-use Rattle.tsa_tree.specs.declarations.ItemSpelling.{IsParameter, of_named, of_unnamed, IsParameterList, of_last_parameter, of_further_parameter, IsParameters, no_parameter, of_lone_void, of_parameters, IsSignature, of_signature, IsHead, of_head, IsConstant, of_name_alone, of_name_and_value, IsConstants, of_last_constant, of_constant_and_comma, of_further_constant, IsEnumBody, of_enum_body}
+use Rattle.tsa_tree.specs.declarations.Syntax.{Specified, Initialiser, Initialisers, Declaration, Declarator, Parameter, EnumConstant}
+use Rattle.tsa_tree.specs.declarations.Syntax.{Signature, Head}
+use Rattle.tsa_tree.specs.declarations.Spelling.{Role, IsSpecifier, no_star, of_star, of_const_star, IsDeclarator, of_declarator, IsLength}
+use Rattle.tsa_tree.specs.declarations.Spelling.{no_length, of_length, IsInitialiser, of_value, of_no_values, of_values, IsInitialisers}
+use Rattle.tsa_tree.specs.declarations.Spelling.{of_last_value, of_value_and_comma, of_further_value, IsInit, no_init, of_init, IsRest}
+use Rattle.tsa_tree.specs.declarations.Spelling.{of_rest, IsDeclarators, of_last_declarator, of_further_declarator, IsMembers, no_member}
+use Rattle.tsa_tree.specs.declarations.Spelling.{of_members, IsVariable, of_unset, of_set, IsVariables, of_last_variable}
+use Rattle.tsa_tree.specs.declarations.Spelling.{of_further_variable, IsLocals, of_locals, of_one_local}
+use Rattle.tsa_tree.specs.declarations.ItemSpelling.{IsParameter, of_named, of_unnamed, IsParameterList, of_last_parameter}
+use Rattle.tsa_tree.specs.declarations.ItemSpelling.{of_further_parameter, IsParameters, no_parameter, of_lone_void, of_parameters}
+use Rattle.tsa_tree.specs.declarations.ItemSpelling.{IsSignature, of_signature, IsHead, of_head, IsConstant, of_name_alone}
+use Rattle.tsa_tree.specs.declarations.ItemSpelling.{of_name_and_value, IsConstants, of_last_constant, of_constant_and_comma}
+use Rattle.tsa_tree.specs.declarations.ItemSpelling.{of_further_constant, IsEnumBody, of_enum_body}
 use Rattle.tsa_tree.specs.expressions.Syntax.{Expression}
 use Rattle.tsa_tree.specs.tokens.Signs.{Aliases}
-use Rattle.tsa_tree.specs.units.Order.{places_in_optional, places_in_attributes, places_in_initialiser, places_in_initialisers, places_in_init, places_in_declaration, places_in_declarations, places_in_parameters, places_in_head, places_in_constants}
+use Rattle.tsa_tree.specs.units.Order.{places_in_optional, places_in_attributes, places_in_initialiser, places_in_initialisers}
+use Rattle.tsa_tree.specs.units.Order.{places_in_init, places_in_declaration, places_in_declarations, places_in_parameters, places_in_head}
+use Rattle.tsa_tree.specs.units.Order.{places_in_constants}
 use Rattle.tsa_tree.proofs.attributes.NodesClimb.{climbs-attributes}
 use Rattle.tsa_tree.proofs.declarations.TokenCounts.{ahead-specifier, ahead-star, ahead-storage}
 use Rattle.tsa_tree.proofs.expressions.NodesClimb.{climbs-expression}
-use Rattle.tsa_tree.proofs.tokens.Climbing.{Climbs, no_place, climbs-ends, climbs-within, climbs-then, climbs-last, climbs-over, climbs-alone, climbs-name}
+use Rattle.tsa_tree.proofs.tokens.Climbing.{Climbs, no_place, climbs-ends, climbs-within, climbs-then, climbs-last, climbs-over}
+use Rattle.tsa_tree.proofs.tokens.Climbing.{climbs-alone, climbs-name}
 
 places-declarations : (xs ys : List Declaration) → places_in_declarations (xs ++ ys) ≡ places_in_declarations xs ++ places_in_declarations ys
 places-declarations [] ys = refl

@@ -3,11 +3,19 @@ use Rattle.std.proofs.Common.{ℕ, ◌+◌, ◌≡◌, refl, List, [], ◌∷◌
 use Rattle.std.specs.declared.option.Option.{Option}
 use Rattle.tsa_base.specs.Tokens.{Lexeme}
 use Rattle.tsa_tree.specs.declarations.Syntax.{Base, Specified, Initialiser, Initialisers, Declaration, Declarator}
-use Rattle.tsa_tree.specs.declarations.Spelling.{Role, a_member, a_global, IsBase, of_int, of_unsigned, of_unsigned_int, of_signed, of_signed_int, of_void, of_struct, of_enum, of_alias, IsSpecifier, of_specifier, IsStar, no_star, of_star, of_const_star, IsDeclarator, of_declarator, IsLength, no_length, of_length, IsInitialiser, of_value, of_no_values, of_values, IsInitialisers, of_last_value, of_value_and_comma, of_further_value, IsInit, no_init, of_init, IsRest, of_rest, IsDeclarators, of_last_declarator, of_further_declarator, IsMembers, no_member, of_members, IsVariable, of_unset, of_set, IsVariables, of_last_variable, of_further_variable, IsLocals, of_locals}
+use Rattle.tsa_tree.specs.declarations.Spelling.{Role, a_member, a_global, IsBase, of_int, of_unsigned, of_unsigned_int, of_signed}
+use Rattle.tsa_tree.specs.declarations.Spelling.{of_signed_int, of_void, of_struct, of_enum, of_alias, IsSpecifier, of_specifier, IsStar}
+use Rattle.tsa_tree.specs.declarations.Spelling.{no_star, of_star, of_const_star, IsDeclarator, of_declarator, IsLength, no_length}
+use Rattle.tsa_tree.specs.declarations.Spelling.{of_length, IsInitialiser, of_value, of_no_values, of_values, IsInitialisers, of_last_value}
+use Rattle.tsa_tree.specs.declarations.Spelling.{of_value_and_comma, of_further_value, IsInit, no_init, of_init, IsRest, of_rest}
+use Rattle.tsa_tree.specs.declarations.Spelling.{IsDeclarators, of_last_declarator, of_further_declarator, IsMembers, no_member, of_members}
+use Rattle.tsa_tree.specs.declarations.Spelling.{IsVariable, of_unset, of_set, IsVariables, of_last_variable, of_further_variable, IsLocals}
+use Rattle.tsa_tree.specs.declarations.Spelling.{of_locals}
 use Rattle.tsa_tree.specs.expressions.Syntax.{Expression}
 use Rattle.tsa_tree.specs.tokens.Signs.{Aliases}
 use Rattle.tsa_tree.specs.expressions.Sound.{SoundOptional, is_name}
-use Rattle.tsa_tree.specs.declarations.Sound.{SoundBase, SoundInitialiser, SoundInitialisers, SoundInit, SoundMember, SoundMembers, SoundGlobal, SoundLocal}
+use Rattle.tsa_tree.specs.declarations.Sound.{SoundBase, SoundInitialiser, SoundInitialisers, SoundInit, SoundMember, SoundMembers}
+use Rattle.tsa_tree.specs.declarations.Sound.{SoundGlobal, SoundLocal}
 use Rattle.tsa_tree.proofs.tokens.NamesAndNumbers.{AreTokensOfKinds, name_at}
 use Rattle.tsa_tree.proofs.tokens.SignsRead.{tag_at, type_at}
 use Rattle.tsa_tree.proofs.expressions.ReadSound.{expression_sound}

@@ -8,11 +8,15 @@ use Rattle.tsa_tree.specs.attributes.Spelling.{IsAttributes}
 use Rattle.tsa_tree.specs.attributes.Refusals.{left_out}
 use Rattle.tsa_tree.specs.declarations.Answers.{Part, an_item, a_head_alone, some_locals, sort_of, call_of, Spells}
 use Rattle.tsa_tree.specs.declarations.Syntax.{Specified, Declarator, Declaration, declaration, value, Signature, Head, head_of}
-use Rattle.tsa_tree.specs.declarations.Spelling.{IsLength, no_length, of_length, IsDeclarator, IsVariable, of_unset, of_set, IsVariables, of_last_variable, of_further_variable, IsLocals, of_locals, of_one_local}
+use Rattle.tsa_tree.specs.declarations.Spelling.{IsLength, no_length, of_length, IsDeclarator, IsVariable, of_unset, of_set, IsVariables}
+use Rattle.tsa_tree.specs.declarations.Spelling.{of_last_variable, of_further_variable, IsLocals, of_locals, of_one_local}
 use Rattle.tsa_tree.specs.expressions.Syntax.{Expression}
 use Rattle.tsa_tree.specs.declarations.ItemSpelling.{IsStorage, no_storage, of_storage, IsSignature, of_signature, IsHead, of_head}
 use Rattle.tsa_tree.specs.tokens.Signs.{Aliases, sign_at, span_over}
-use Rattle.tsa_tree.specs.Rows.{Sort, an_expression, some_attributes, a_specifier, a_declarator, some_declarations, a_variable, some_variables, a_signature, a_head, Node, Call, expression, attributes, specifier, declarator, variable, variables, locals, signature, head, an_open_bracket, a_comma, an_equals, sees, is_attribute_sign, Row, behind_length, behind_storage, rule}
+use Rattle.tsa_tree.specs.Rows.{Sort, an_expression, some_attributes, a_specifier, a_declarator, some_declarations, a_variable}
+use Rattle.tsa_tree.specs.Rows.{some_variables, a_signature, a_head, Node, Call, expression, attributes, specifier, declarator, variable}
+use Rattle.tsa_tree.specs.Rows.{variables, locals, signature, head, an_open_bracket, a_comma, an_equals, sees, is_attribute_sign, Row}
+use Rattle.tsa_tree.specs.Rows.{behind_length, behind_storage, rule}
 use Rattle.tsa_tree.proofs.expressions.Answers as whole
 use Rattle.tsa_tree.proofs.attributes.Answers.{on_sign}
 use Rattle.tsa_tree.proofs.attributes.RowEquality.{attributes_begin, attributes_refuse}
@@ -24,7 +28,8 @@ use Rattle.tsa_tree.proofs.RowFacts.{Ends, EndsVariable, EndsVariables, EndsLoca
 use Rattle.tsa_tree.proofs.expressions.RowEquality.{begin_the_same}
 use Rattle.tsa_grammar.specs.Form.{done, token, part, either}
 use Rattle.tsa_grammar.specs.Spelling as forms
-use Rattle.tsa_grammar.specs.Spelling.{by_rule, goes_done, goes_token, begins_rule, starts_here, starts_token, starts_in, starts_over, starts_limit, starts_left, starts_right}
+use Rattle.tsa_grammar.specs.Spelling.{by_rule, goes_done, goes_token, begins_rule, starts_here, starts_token, starts_in, starts_over}
+use Rattle.tsa_grammar.specs.Spelling.{starts_limit, starts_left, starts_right}
 use Rattle.tsa_grammar.specs.Reading.{all}
 
 module _ (tokens : List Lexeme) (aliases : Aliases) where

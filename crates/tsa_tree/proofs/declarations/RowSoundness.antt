@@ -9,13 +9,26 @@ use Rattle.tsa_tree.specs.declared.sign.Sign.{Sign}
 use Rattle.tsa_tree.specs.declared.sign.Sign.TheVariants as sign
 use Rattle.tsa_tree.specs.attributes.Syntax.{Attribute}
 use Rattle.tsa_tree.specs.attributes.Spelling.{IsAttributes, of_no_group}
-use Rattle.tsa_tree.specs.declarations.Syntax.{Base, int, unsigned, void, Specified, constant, Initialiser, value, list, Initialisers, Declaration, declaration, Declarator, Declared}
-use Rattle.tsa_tree.specs.declarations.Spelling.{Role, a_member, a_global, IsConsts, no_const, of_const, IsBase, of_int, of_unsigned, of_unsigned_int, of_signed, of_signed_int, of_void, of_struct, of_enum, of_alias, IsSpecifier, of_specifier, IsStar, no_star, of_star, of_const_star, IsDeclarator, of_declarator, IsLength, no_length, of_length, IsInitialiser, of_value, of_no_values, of_values, IsInitialisers, of_last_value, of_value_and_comma, of_further_value, IsInit, no_init, of_init, IsRest, of_rest, IsDeclarators, of_last_declarator, of_further_declarator, IsMembers, no_member, of_members, IsVariable, of_unset, of_set, IsVariables, of_last_variable, of_further_variable, IsLocals, of_locals, of_one_local}
+use Rattle.tsa_tree.specs.declarations.Syntax.{Base, int, unsigned, void, Specified, constant, Initialiser, value, list, Initialisers}
+use Rattle.tsa_tree.specs.declarations.Syntax.{Declaration, declaration, Declarator, Declared}
+use Rattle.tsa_tree.specs.declarations.Spelling.{Role, a_member, a_global, IsConsts, no_const, of_const, IsBase, of_int, of_unsigned}
+use Rattle.tsa_tree.specs.declarations.Spelling.{of_unsigned_int, of_signed, of_signed_int, of_void, of_struct, of_enum, of_alias}
+use Rattle.tsa_tree.specs.declarations.Spelling.{IsSpecifier, of_specifier, IsStar, no_star, of_star, of_const_star, IsDeclarator}
+use Rattle.tsa_tree.specs.declarations.Spelling.{of_declarator, IsLength, no_length, of_length, IsInitialiser, of_value, of_no_values}
+use Rattle.tsa_tree.specs.declarations.Spelling.{of_values, IsInitialisers, of_last_value, of_value_and_comma, of_further_value, IsInit}
+use Rattle.tsa_tree.specs.declarations.Spelling.{no_init, of_init, IsRest, of_rest, IsDeclarators, of_last_declarator}
+use Rattle.tsa_tree.specs.declarations.Spelling.{of_further_declarator, IsMembers, no_member, of_members, IsVariable, of_unset, of_set}
+use Rattle.tsa_tree.specs.declarations.Spelling.{IsVariables, of_last_variable, of_further_variable, IsLocals, of_locals, of_one_local}
 use Rattle.tsa_tree.specs.expressions.Syntax.{Expression}
 use Rattle.tsa_tree.specs.tokens.Signs.{Aliases, sign_at, span_over, identifier_at}
-use Rattle.tsa_tree.specs.Rows.{Sort, an_expression, a_skip, a_specifier, a_declarator, an_initialiser, some_initialisers, a_declared, some_declarations, a_variable, some_variables, Node, expression, consts, specifier, declarator, initialiser, initialisers, declared_rest, declarators, member_line, members, variable, variables, locals, Row, a_name, an_equals, sees, behind_consts, specified, specifier_row, behind_star, behind_length, behind_attributes, behind_init, delimiter, rule}
+use Rattle.tsa_tree.specs.Rows.{Sort, an_expression, a_skip, a_specifier, a_declarator, an_initialiser, some_initialisers, a_declared}
+use Rattle.tsa_tree.specs.Rows.{some_declarations, a_variable, some_variables, Node, expression, consts, specifier, declarator, initialiser}
+use Rattle.tsa_tree.specs.Rows.{initialisers, declared_rest, declarators, member_line, members, variable, variables, locals, Row, a_name}
+use Rattle.tsa_tree.specs.Rows.{an_equals, sees, behind_consts, specified, specifier_row, behind_star, behind_length, behind_attributes}
+use Rattle.tsa_tree.specs.Rows.{behind_init, delimiter, rule}
 use Rattle.tsa_tree.proofs.tokens.ProductionSigns.{shows_name, shows_close_bracket, shows_comma, shows_close_brace}
-use Rattle.tsa_tree.proofs.declarations.Signs.{shows_open_bracket, shows_open_brace, shows_semicolon, shows_equals, shows_keyword, shows_star}
+use Rattle.tsa_tree.proofs.declarations.Signs.{shows_open_bracket, shows_open_brace, shows_semicolon, shows_equals, shows_keyword}
+use Rattle.tsa_tree.proofs.declarations.Signs.{shows_star}
 use Rattle.tsa_tree.proofs.expressions.RowsToProductions.{production_of}
 use Rattle.tsa_grammar.specs.Form.{done, token, part, either}
 use Rattle.tsa_tree.proofs.declarations.Meanings.{Closed, delimiter_sign, Keeps, Means}

@@ -4,10 +4,16 @@ use Rattle.tsa_base.specs.Tokens.{Lexeme}
 use Rattle.tsa_tree.specs.tokens.Signs.{Aliases}
 use Rattle.tsa_tree.specs.units.Spelling.{no_items, of_items}
 use Rattle.tsa_tree.specs.Rows.{some_items}
-use Rattle.tsa_tree.specs.Rows.{Sort, Node, Call, consts, storage, specifier, declarator, initialiser, initialisers, declared_rest, declarators, member_line, members, variable, variables, locals, parameter_list, parameters, signature, head, struct_body, constants, enum_body, declared, item, items, simple, for_init, statement, statements, Row, sees, rule}
+use Rattle.tsa_tree.specs.Rows.{Sort, Node, Call, consts, storage, specifier, declarator, initialiser, initialisers, declared_rest}
+use Rattle.tsa_tree.specs.Rows.{declarators, member_line, members, variable, variables, locals, parameter_list, parameters, signature, head}
+use Rattle.tsa_tree.specs.Rows.{struct_body, constants, enum_body, declared, item, items, simple, for_init, statement, statements, Row}
+use Rattle.tsa_tree.specs.Rows.{sees, rule}
 use Rattle.tsa_tree.proofs.declarations.Meanings.{Keeps, Means}
-use Rattle.tsa_tree.proofs.declarations.RowSoundness.{keeps_consts, keeps_specifier, keeps_declarator, keeps_initialiser, keeps_initialisers, keeps_rest, keeps_declarators, keeps_member_line, keeps_members, keeps_variable, keeps_variables, keeps_locals}
-use Rattle.tsa_tree.proofs.declarations.ItemsKept.{keeps_storage, keeps_parameter_list, keeps_parameters, keeps_signature, keeps_head, keeps_struct_body, keeps_constants, keeps_enum_body, keeps_declared}
+use Rattle.tsa_tree.proofs.declarations.RowSoundness.{keeps_consts, keeps_specifier, keeps_declarator, keeps_initialiser}
+use Rattle.tsa_tree.proofs.declarations.RowSoundness.{keeps_initialisers, keeps_rest, keeps_declarators, keeps_member_line, keeps_members}
+use Rattle.tsa_tree.proofs.declarations.RowSoundness.{keeps_variable, keeps_variables, keeps_locals}
+use Rattle.tsa_tree.proofs.declarations.ItemsKept.{keeps_storage, keeps_parameter_list, keeps_parameters, keeps_signature, keeps_head}
+use Rattle.tsa_tree.proofs.declarations.ItemsKept.{keeps_struct_body, keeps_constants, keeps_enum_body, keeps_declared}
 use Rattle.tsa_tree.proofs.declarations.ItemRowsKept.{keeps_item}
 use Rattle.tsa_tree.proofs.statements.RowSoundness.{keeps_simple, keeps_for_init, keeps_statement, keeps_statements}
 use Rattle.tsa_grammar.specs.Spelling as forms

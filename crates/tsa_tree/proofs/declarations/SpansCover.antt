@@ -3,11 +3,18 @@ use Rattle.std.proofs.Common.{ℕ, ◌+◌, ◌≤◌, ◌≡◌, ◌∙◌, ap,
 use Rattle.tsa_base.specs.declared.token.Span.{Span}
 use Rattle.tsa_base.specs.Tokens.{Lexeme}
 use Rattle.tsa_tree.specs.declarations.Syntax.{Base, Specified, Initialiser, Initialisers, Declaration, Declarator}
-use Rattle.tsa_tree.specs.declarations.Spelling.{Role, IsBase, of_int, of_unsigned, of_unsigned_int, of_signed, of_signed_int, of_void, of_struct, of_enum, of_alias, IsSpecifier, of_specifier, IsDeclarator, of_declarator, IsLength, no_length, of_length, IsInitialiser, of_value, of_no_values, of_values, IsInitialisers, of_last_value, of_value_and_comma, of_further_value, IsInit, no_init, of_init, IsRest, of_rest, IsDeclarators, of_last_declarator, of_further_declarator, IsMembers, no_member, of_members, IsVariable, of_unset, of_set, IsVariables, of_last_variable, of_further_variable, IsLocals, of_locals, of_one_local}
+use Rattle.tsa_tree.specs.declarations.Spelling.{Role, IsBase, of_int, of_unsigned, of_unsigned_int, of_signed, of_signed_int, of_void}
+use Rattle.tsa_tree.specs.declarations.Spelling.{of_struct, of_enum, of_alias, IsSpecifier, of_specifier, IsDeclarator, of_declarator}
+use Rattle.tsa_tree.specs.declarations.Spelling.{IsLength, no_length, of_length, IsInitialiser, of_value, of_no_values, of_values}
+use Rattle.tsa_tree.specs.declarations.Spelling.{IsInitialisers, of_last_value, of_value_and_comma, of_further_value, IsInit, no_init}
+use Rattle.tsa_tree.specs.declarations.Spelling.{of_init, IsRest, of_rest, IsDeclarators, of_last_declarator, of_further_declarator}
+use Rattle.tsa_tree.specs.declarations.Spelling.{IsMembers, no_member, of_members, IsVariable, of_unset, of_set, IsVariables}
+use Rattle.tsa_tree.specs.declarations.Spelling.{of_last_variable, of_further_variable, IsLocals, of_locals, of_one_local}
 use Rattle.tsa_tree.specs.expressions.Syntax.{Expression}
 use Rattle.tsa_tree.specs.tokens.Signs.{Aliases}
 use Rattle.tsa_tree.specs.units.Names.{name_of_base}
-use Rattle.tsa_tree.specs.units.Spans.{spans_in_optional, span_in_base, spans_in_initialiser, spans_in_initialisers, spans_in_init, spans_in_declaration, spans_in_declarations}
+use Rattle.tsa_tree.specs.units.Spans.{spans_in_optional, span_in_base, spans_in_initialiser, spans_in_initialisers, spans_in_init}
+use Rattle.tsa_tree.specs.units.Spans.{spans_in_declaration, spans_in_declarations}
 use Rattle.tsa_tree.proofs.attributes.SpansCover.{cover-attributes}
 use Rattle.tsa_tree.proofs.declarations.TokenCounts.{ahead-consts, ahead-star}
 use Rattle.tsa_tree.proofs.declarations.NamesRise.{rises-shared, rises-rest, rises-declarators, rises-variable, rises-variables}

@@ -7,12 +7,23 @@ use Rattle.tsa_tree.specs.declared.sign.Sign.{Sign}
 use Rattle.tsa_tree.specs.declared.sign.Sign.TheVariants as sign
 use Rattle.tsa_tree.specs.attributes.Syntax.{Attribute}
 use Rattle.tsa_tree.specs.attributes.Spelling.{IsAttributes, of_no_group, of_group}
-use Rattle.tsa_tree.specs.declarations.Syntax.{Base, Specified, Declarator, Declared, Declaration, declaration, Initialiser, value, Initialisers}
+use Rattle.tsa_tree.specs.declarations.Syntax.{Base, Specified, Declarator, Declared, Declaration, declaration, Initialiser, value}
+use Rattle.tsa_tree.specs.declarations.Syntax.{Initialisers}
 use Rattle.tsa_tree.specs.declarations.Spelling as spells
-use Rattle.tsa_tree.specs.declarations.Spelling.{Role, a_member, a_global, IsConsts, no_const, of_const, IsBase, IsSpecifier, of_specifier, IsStar, no_star, of_star, of_const_star, IsDeclarator, of_declarator, IsLength, no_length, of_length, IsInitialiser, of_value, of_no_values, of_values, IsInitialisers, of_last_value, of_value_and_comma, of_further_value, IsInit, no_init, of_init, IsRest, of_rest, IsDeclarators, of_last_declarator, of_further_declarator, IsMembers, no_member, of_members, IsVariable, of_unset, of_set, IsVariables, of_last_variable, of_further_variable, IsLocals, of_locals, of_one_local}
+use Rattle.tsa_tree.specs.declarations.Spelling.{Role, a_member, a_global, IsConsts, no_const, of_const, IsBase, IsSpecifier, of_specifier}
+use Rattle.tsa_tree.specs.declarations.Spelling.{IsStar, no_star, of_star, of_const_star, IsDeclarator, of_declarator, IsLength, no_length}
+use Rattle.tsa_tree.specs.declarations.Spelling.{of_length, IsInitialiser, of_value, of_no_values, of_values, IsInitialisers, of_last_value}
+use Rattle.tsa_tree.specs.declarations.Spelling.{of_value_and_comma, of_further_value, IsInit, no_init, of_init, IsRest, of_rest}
+use Rattle.tsa_tree.specs.declarations.Spelling.{IsDeclarators, of_last_declarator, of_further_declarator, IsMembers, no_member, of_members}
+use Rattle.tsa_tree.specs.declarations.Spelling.{IsVariable, of_unset, of_set, IsVariables, of_last_variable, of_further_variable, IsLocals}
+use Rattle.tsa_tree.specs.declarations.Spelling.{of_locals, of_one_local}
 use Rattle.tsa_tree.specs.expressions.Syntax.{Expression}
 use Rattle.tsa_tree.specs.tokens.Signs.{Aliases, sign_at, span_over, identifier_at, is_star}
-use Rattle.tsa_tree.specs.Rows.{Sort, an_expression, a_skip, a_specifier, a_declarator, an_initialiser, some_initialisers, a_declared, some_declarations, a_variable, some_variables, Node, Call, expression, consts, specifier, declarator, initialiser, initialisers, declared_rest, declarators, members, variable, variables, locals, a_name, an_equals, is_keyword, sees, Row, behind_consts, specified, specifier_row, behind_star, behind_length, behind_attributes, behind_init, delimiter, rule}
+use Rattle.tsa_tree.specs.Rows.{Sort, an_expression, a_skip, a_specifier, a_declarator, an_initialiser, some_initialisers, a_declared}
+use Rattle.tsa_tree.specs.Rows.{some_declarations, a_variable, some_variables, Node, Call, expression, consts, specifier, declarator}
+use Rattle.tsa_tree.specs.Rows.{initialiser, initialisers, declared_rest, declarators, members, variable, variables, locals, a_name}
+use Rattle.tsa_tree.specs.Rows.{an_equals, is_keyword, sees, Row, behind_consts, specified, specifier_row, behind_star, behind_length}
+use Rattle.tsa_tree.specs.Rows.{behind_attributes, behind_init, delimiter, rule}
 use Rattle.tsa_tree.proofs.tokens.ProductionSigns.{seen}
 use Rattle.tsa_tree.proofs.expressions.ToRows.{expression_rows}
 use Rattle.tsa_tree.proofs.attributes.ListsToRows.{attributes_rows}

@@ -2,7 +2,9 @@
 use Rattle.std.proofs.Common.{ℕ, ◌<◌, ◌≤◌, Bool, List, arith}
 use Rattle.tsa_base.specs.Tokens.{Lexeme}
 use Rattle.tsa_tree.specs.declarations.Syntax.{Base, Specified, Declarator}
-use Rattle.tsa_tree.specs.declarations.Spelling.{IsConsts, no_const, of_const, IsBase, of_int, of_unsigned, of_unsigned_int, of_signed, of_signed_int, of_void, of_struct, of_enum, of_alias, IsSpecifier, of_specifier, IsStar, no_star, of_star, of_const_star, IsDeclarator, of_declarator}
+use Rattle.tsa_tree.specs.declarations.Spelling.{IsConsts, no_const, of_const, IsBase, of_int, of_unsigned, of_unsigned_int, of_signed}
+use Rattle.tsa_tree.specs.declarations.Spelling.{of_signed_int, of_void, of_struct, of_enum, of_alias, IsSpecifier, of_specifier, IsStar}
+use Rattle.tsa_tree.specs.declarations.Spelling.{no_star, of_star, of_const_star, IsDeclarator, of_declarator}
 use Rattle.tsa_tree.specs.declarations.ItemSpelling.{IsStorage, no_storage, of_storage}
 use Rattle.tsa_tree.specs.tokens.Signs.{Aliases}
 

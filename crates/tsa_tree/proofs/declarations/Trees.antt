@@ -3,7 +3,8 @@ use Rattle.std.proofs.Common.{ℕ, ◌≡◌, ◌∙◌, ◌+◌, max, List, ref
 use Rattle.std.specs.Borrow.{Bor}
 use mathlib.Core.Former.{Count}
 use Rattle.tsa_base.specs.declared.token.Span.{Span}
-use Rattle.tsa_tree.specs.declared.decl.Init.{Init, List as init_list, List', Row_of-Init, end_of-Init, more_of-Init, items-the_row-Init, items_hidden-the_row-Init-0}
+use Rattle.tsa_tree.specs.declared.decl.Init.{Init, List as init_list, List', Row_of-Init, end_of-Init, more_of-Init, items-the_row-Init}
+use Rattle.tsa_tree.specs.declared.decl.Init.{items_hidden-the_row-Init-0}
 use Rattle.tsa_tree.specs.declarations.Syntax.{Initialiser, value, list, Initialisers, no_more, one_more}
 use Rattle.tsa_tree.specs.declarations.Shapes.{init_shape, init_row_shape, init_shapes}
 

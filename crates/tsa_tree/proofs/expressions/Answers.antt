@@ -1,5 +1,6 @@
 -- Reading by the rows gives the answer that the grammar alone asks for, and there is no other.
-use Rattle.std.proofs.Common.{ℕ, ◌+◌, ◌≤◌, ◌≡◌, ◌∙◌, ap, sym, subst, refl, List, Bool, true, false, Some, None, Ok, Err, arith, inl, inr, ◌⊎◌, nat_eq}
+use Rattle.std.proofs.Common.{ℕ, ◌+◌, ◌≤◌, ◌≡◌, ◌∙◌, ap, sym, subst, refl, List, Bool, true, false, Some, None, Ok, Err, arith, inl, inr}
+use Rattle.std.proofs.Common.{◌⊎◌, nat_eq}
 use Rattle.std.specs.declared.option.Option.{Option}
 use Rattle.tsa_base.specs.Tokens.{Lexeme}
 use Rattle.tsa_tree.specs.declared.expr.BinaryOp.{BinaryOp}
@@ -9,7 +10,8 @@ use Rattle.tsa_tree.specs.expressions.Syntax.{Expression}
 use Rattle.tsa_tree.specs.tokens.Signs.{Aliases, sign_at, operator}
 use Rattle.tsa_tree.specs.Rows as rows
 use Rattle.tsa_tree.specs.Rows.{sees, rule, is_postfix, mark, an_open}
-use Rattle.tsa_tree.specs.expressions.Answers.{Part, an_expression, a_unary, Spells, Begins, below_limit, IsLongest, IsBroken, IsTooDeep, RefusedAt, IsAnswer}
+use Rattle.tsa_tree.specs.expressions.Answers.{Part, an_expression, a_unary, Spells, Begins, below_limit, IsLongest, IsBroken, IsTooDeep}
+use Rattle.tsa_tree.specs.expressions.Answers.{RefusedAt, IsAnswer}
 use Rattle.tsa_tree.specs.Reads.{read}
 use Rattle.tsa_tree.specs.expressions.Laws.{call_of, RowsBegin}
 use Rattle.tsa_tree.proofs.RowFacts.{last_named, lone, Ended, Ends}

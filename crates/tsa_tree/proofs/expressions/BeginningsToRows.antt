@@ -7,15 +7,20 @@ use Rattle.tsa_tree.specs.declared.sign.Sign.{Sign}
 use Rattle.tsa_tree.specs.declared.sign.Sign.TheVariants as sign
 use Rattle.tsa_tree.specs.expressions.Syntax.{Expression, binary, field, index, height}
 use Rattle.tsa_tree.specs.tokens.Signs.{Aliases, sign_at, span_over, identifier_at, operator, level, access}
-use Rattle.tsa_tree.specs.expressions.Spelling.{IsExpression, of_unary, of_binary, IsPostfix, of_primary, of_field, of_index, IsPrimary, of_number, of_null, of_name, of_call, of_parentheses, of_none, of_some}
-use Rattle.tsa_tree.specs.expressions.Beginnings.{BeginsExpression, begins_unary, begins_left, begins_right, BeginsUnary, begins_nothing, begins_operand, begins_call, begins_parentheses, begins_base, begins_member, begins_index, BeginsArguments, begins_item, begins_next}
-use Rattle.tsa_tree.specs.Rows.{Sort, an_expression, some_arguments, Call, expression, operand, series, sees, Row, kind, tightest, climb_on, operation_row, postfix_row, call_row, operand_row, rule}
+use Rattle.tsa_tree.specs.expressions.Spelling.{IsExpression, of_unary, of_binary, IsPostfix, of_primary, of_field, of_index, IsPrimary}
+use Rattle.tsa_tree.specs.expressions.Spelling.{of_number, of_null, of_name, of_call, of_parentheses, of_none, of_some}
+use Rattle.tsa_tree.specs.expressions.Beginnings.{BeginsExpression, begins_unary, begins_left, begins_right, BeginsUnary, begins_nothing}
+use Rattle.tsa_tree.specs.expressions.Beginnings.{begins_operand, begins_call, begins_parentheses, begins_base, begins_member, begins_index}
+use Rattle.tsa_tree.specs.expressions.Beginnings.{BeginsArguments, begins_item, begins_next}
+use Rattle.tsa_tree.specs.Rows.{Sort, an_expression, some_arguments, Call, expression, operand, series, sees, Row, kind, tightest, climb_on}
+use Rattle.tsa_tree.specs.Rows.{operation_row, postfix_row, call_row, operand_row, rule}
 use Rattle.tsa_tree.proofs.tokens.ProductionSigns.{level_low, operator_sign, access_sign, seen, prefix_sign}
 use Rattle.tsa_tree.proofs.Inductions.{begins_whole}
 use Rattle.tsa_tree.proofs.expressions.ToRows.{behind, after, expression_rows, operand_rows, postfix_on, series_rows}
 use Rattle.tsa_grammar.specs.Form.{done, token, part}
 use Rattle.tsa_grammar.specs.Spelling as forms
-use Rattle.tsa_grammar.specs.Spelling.{goes_done, goes_right, begins_rule, starts_here, starts_token, starts_in, starts_over, starts_limit, starts_only, starts_left, starts_right}
+use Rattle.tsa_grammar.specs.Spelling.{goes_done, goes_right, begins_rule, starts_here, starts_token, starts_in, starts_over, starts_limit}
+use Rattle.tsa_grammar.specs.Spelling.{starts_only, starts_left, starts_right}
 
 module _ (tokens : List Lexeme) (aliases : Aliases) (fits : ℕ → Bool) where
   abbrev pub Begins : (s : Sort) → Call s → (a b : ℕ) → Type 0

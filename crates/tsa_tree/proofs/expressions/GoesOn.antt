@@ -8,8 +8,10 @@ use Rattle.tsa_tree.specs.declared.sign.Sign.TheVariants as sign
 use Rattle.tsa_tree.specs.expressions.Syntax.{Expression}
 use Rattle.tsa_tree.specs.tokens.Signs.{Aliases, sign_at, operator, level, access}
 use Rattle.tsa_tree.specs.Rows.{is_postfix}
-use Rattle.tsa_tree.specs.expressions.Spelling.{IsExpression, of_unary, of_binary, IsUnary, of_postfix, of_prefix, IsPostfix, of_primary, of_field, of_index, IsPrimary, of_number, of_null, of_name, of_call, of_parentheses}
-use Rattle.tsa_tree.specs.expressions.Beginnings.{BeginsExpression, begins_unary, begins_right, BeginsUnary, begins_nothing, begins_operand, begins_call, begins_member, begins_index, begins_item}
+use Rattle.tsa_tree.specs.expressions.Spelling.{IsExpression, of_unary, of_binary, IsUnary, of_postfix, of_prefix, IsPostfix, of_primary}
+use Rattle.tsa_tree.specs.expressions.Spelling.{of_field, of_index, IsPrimary, of_number, of_null, of_name, of_call, of_parentheses}
+use Rattle.tsa_tree.specs.expressions.Beginnings.{BeginsExpression, begins_unary, begins_right, BeginsUnary, begins_nothing, begins_operand}
+use Rattle.tsa_tree.specs.expressions.Beginnings.{begins_call, begins_member, begins_index, begins_item}
 use Rattle.tsa_tree.proofs.RowFacts.{last_named}
 use Rattle.tsa_grammar.specs.Reading.{all}
 

@@ -3,8 +3,12 @@ use Rattle.std.proofs.Common.{ℕ, refl, List, Bool}
 use Rattle.tsa_base.specs.Tokens.{Lexeme}
 use Rattle.tsa_tree.specs.expressions.Syntax.{Expression, Arguments}
 use Rattle.tsa_tree.specs.tokens.Signs.{Aliases}
-use Rattle.tsa_tree.specs.expressions.Spelling.{IsExpression, of_unary, of_binary, IsUnary, of_postfix, of_prefix, IsPostfix, of_primary, of_field, of_index, IsPrimary, of_number, of_null, of_name, of_call, of_parentheses, IsArguments, of_none, of_some, IsSeries, of_last, of_further}
-use Rattle.tsa_tree.specs.expressions.Beginnings.{BeginsExpression, begins_unary, begins_left, begins_right, BeginsUnary, begins_nothing, begins_operand, begins_call, begins_parentheses, begins_base, begins_member, begins_index, BeginsArguments, begins_item, begins_next}
+use Rattle.tsa_tree.specs.expressions.Spelling.{IsExpression, of_unary, of_binary, IsUnary, of_postfix, of_prefix, IsPostfix, of_primary}
+use Rattle.tsa_tree.specs.expressions.Spelling.{of_field, of_index, IsPrimary, of_number, of_null, of_name, of_call, of_parentheses}
+use Rattle.tsa_tree.specs.expressions.Spelling.{IsArguments, of_none, of_some, IsSeries, of_last, of_further}
+use Rattle.tsa_tree.specs.expressions.Beginnings.{BeginsExpression, begins_unary, begins_left, begins_right, BeginsUnary, begins_nothing}
+use Rattle.tsa_tree.specs.expressions.Beginnings.{begins_operand, begins_call, begins_parentheses, begins_base, begins_member, begins_index}
+use Rattle.tsa_tree.specs.expressions.Beginnings.{BeginsArguments, begins_item, begins_next}
 use Rattle.tsa_tree.specs.expressions.Answers.{Part, an_expression, a_unary, Spells, Begins}
 use Rattle.tsa_grammar.specs.Reading.{all}
 

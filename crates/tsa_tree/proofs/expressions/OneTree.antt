@@ -1,5 +1,6 @@
 -- Two trees that the same tokens spell are equal, whatever stands after those tokens.
-use Rattle.std.proofs.Common.{ℕ, ◌<◌, ◌≤◌, ◌≡◌, ◌∙◌, ap, sym, refl, List, [], ◌∷◌, zero, suc, Some, None, length, take, slice_get, arith, nat_eq}
+use Rattle.std.proofs.Common.{ℕ, ◌<◌, ◌≤◌, ◌≡◌, ◌∙◌, ap, sym, refl, List, [], ◌∷◌, zero, suc, Some, None, length, take, slice_get, arith}
+use Rattle.std.proofs.Common.{nat_eq}
 use Rattle.std.proofs.lemmas.List.{length-take}
 use Rattle.std.proofs.lemmas.Option.{slice_get_past}
 use Rattle.tsa_base.specs.Tokens.{Lexeme}

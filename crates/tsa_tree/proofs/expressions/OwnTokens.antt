@@ -4,8 +4,11 @@ use Rattle.tsa_base.specs.Tokens.{Lexeme}
 use Rattle.tsa_tree.specs.declared.sign.Sign.{Sign}
 use Rattle.tsa_tree.specs.declared.sign.Sign.TheVariants as sign
 use Rattle.tsa_tree.specs.expressions.Syntax.{Expression, Arguments, number, null, named, call, unary, binary, field, index}
-use Rattle.tsa_tree.specs.tokens.Signs.{Aliases, sign_at, sign_in, span_at, span_in, span_over, identifier_at, identifier_in, value_at, unsigned_at, value_of, unsigned_of, kind_in, operator, prefix, access}
-use Rattle.tsa_tree.specs.expressions.Spelling.{IsExpression, of_unary, of_binary, IsUnary, of_postfix, of_prefix, IsPostfix, of_primary, of_field, of_index, IsPrimary, of_number, of_null, of_name, of_call, of_parentheses, IsArguments, of_none, of_some, IsSeries, of_last, of_further}
+use Rattle.tsa_tree.specs.tokens.Signs.{Aliases, sign_at, sign_in, span_at, span_in, span_over, identifier_at, identifier_in, value_at}
+use Rattle.tsa_tree.specs.tokens.Signs.{unsigned_at, value_of, unsigned_of, kind_in, operator, prefix, access}
+use Rattle.tsa_tree.specs.expressions.Spelling.{IsExpression, of_unary, of_binary, IsUnary, of_postfix, of_prefix, IsPostfix, of_primary}
+use Rattle.tsa_tree.specs.expressions.Spelling.{of_field, of_index, IsPrimary, of_number, of_null, of_name, of_call, of_parentheses}
+use Rattle.tsa_tree.specs.expressions.Spelling.{IsArguments, of_none, of_some, IsSeries, of_last, of_further}
 use Rattle.tsa_tree.proofs.expressions.TokenCounts.{ahead-expression, ahead-unary, ahead-postfix, ahead-arguments, ahead-series}
 
 module _ (tokens others : List Lexeme) (aliases : Aliases) (fits : ℕ → Bool) where

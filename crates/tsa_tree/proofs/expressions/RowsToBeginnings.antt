@@ -10,9 +10,15 @@ use Rattle.tsa_tree.specs.declared.sign.Sign.{Sign}
 use Rattle.tsa_tree.specs.declared.sign.Sign.TheVariants as sign
 use Rattle.tsa_tree.specs.expressions.Syntax.{Expression, Arguments, call, binary, none, more}
 use Rattle.tsa_tree.specs.tokens.Signs.{Aliases, sign_at, span_over, identifier_at, operator, prefix, prefix_of, level, access}
-use Rattle.tsa_tree.specs.expressions.Spelling.{IsExpression, of_unary, of_binary, IsUnary, of_postfix, of_prefix, IsPostfix, of_primary, of_field, of_index, of_number, of_null, of_name, of_call, of_parentheses, of_none, of_some, of_last, of_further}
-use Rattle.tsa_tree.specs.expressions.Beginnings.{BeginsExpression, begins_unary, begins_left, begins_right, BeginsUnary, begins_nothing, begins_operand, begins_call, begins_parentheses, begins_base, begins_member, begins_index, begins_item, begins_next}
-use Rattle.tsa_tree.specs.Rows.{Sort, an_expression, some_arguments, Call, expression, operation, operand, postfix, series, attributes, group, entries, balanced, Kind, kind, sees, tightest, climb, climb_on, operation_row, post, postfix_row, prefix_row, call_row, operand_row, series_end, rule}
+use Rattle.tsa_tree.specs.expressions.Spelling.{IsExpression, of_unary, of_binary, IsUnary, of_postfix, of_prefix, IsPostfix, of_primary}
+use Rattle.tsa_tree.specs.expressions.Spelling.{of_field, of_index, of_number, of_null, of_name, of_call, of_parentheses, of_none, of_some}
+use Rattle.tsa_tree.specs.expressions.Spelling.{of_last, of_further}
+use Rattle.tsa_tree.specs.expressions.Beginnings.{BeginsExpression, begins_unary, begins_left, begins_right, BeginsUnary, begins_nothing}
+use Rattle.tsa_tree.specs.expressions.Beginnings.{begins_operand, begins_call, begins_parentheses, begins_base, begins_member, begins_index}
+use Rattle.tsa_tree.specs.expressions.Beginnings.{begins_item, begins_next}
+use Rattle.tsa_tree.specs.Rows.{Sort, an_expression, some_arguments, Call, expression, operation, operand, postfix, series, attributes}
+use Rattle.tsa_tree.specs.Rows.{group, entries, balanced, Kind, kind, sees, tightest, climb, climb_on, operation_row, post, postfix_row}
+use Rattle.tsa_tree.specs.Rows.{prefix_row, call_row, operand_row, series_end, rule}
 use Rattle.tsa_tree.proofs.tokens.ProductionSigns.{shows_name, shows_open, shows_close, shows_close_bracket, shows_comma}
 use Rattle.tsa_tree.proofs.Inductions as all
 use Rattle.tsa_tree.proofs.attributes.Meanings.{Needs, Closed, Means, Begun, Refused, Opens}

@@ -9,8 +9,12 @@ use Rattle.tsa_tree.specs.declared.sign.Sign.{Sign}
 use Rattle.tsa_tree.specs.declared.sign.Sign.TheVariants as sign
 use Rattle.tsa_tree.specs.expressions.Syntax.{Expression, call, binary}
 use Rattle.tsa_tree.specs.tokens.Signs.{Aliases, sign_at, span_over, identifier_at, operator, prefix, prefix_of, level, access}
-use Rattle.tsa_tree.specs.expressions.Spelling.{IsExpression, of_unary, of_binary, IsUnary, of_postfix, of_prefix, IsPostfix, of_primary, of_field, of_index, of_number, of_null, of_name, of_call, of_parentheses, of_none, of_some, of_last, of_further}
-use Rattle.tsa_tree.specs.Rows.{Sort, an_expression, some_arguments, Node, Call, expression, operation, operand, postfix, series, attributes, group, entries, balanced, Kind, kind, sees, tightest, climb, climb_on, operation_row, post, postfix_row, prefix_row, call_row, operand_row, series_end, rule}
+use Rattle.tsa_tree.specs.expressions.Spelling.{IsExpression, of_unary, of_binary, IsUnary, of_postfix, of_prefix, IsPostfix, of_primary}
+use Rattle.tsa_tree.specs.expressions.Spelling.{of_field, of_index, of_number, of_null, of_name, of_call, of_parentheses, of_none, of_some}
+use Rattle.tsa_tree.specs.expressions.Spelling.{of_last, of_further}
+use Rattle.tsa_tree.specs.Rows.{Sort, an_expression, some_arguments, Node, Call, expression, operation, operand, postfix, series}
+use Rattle.tsa_tree.specs.Rows.{attributes, group, entries, balanced, Kind, kind, sees, tightest, climb, climb_on, operation_row, post}
+use Rattle.tsa_tree.specs.Rows.{postfix_row, prefix_row, call_row, operand_row, series_end, rule}
 use Rattle.tsa_tree.proofs.tokens.ProductionSigns.{shows_name, shows_open, shows_close, shows_close_bracket, shows_comma}
 use Rattle.tsa_tree.proofs.Inductions as all
 pub use Rattle.tsa_tree.proofs.attributes.Meanings.{Needs, Closed, Means, Keeps}

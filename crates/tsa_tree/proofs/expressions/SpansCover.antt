@@ -3,7 +3,9 @@ use Rattle.std.proofs.Common.{ℕ, ◌+◌, List, Bool, arith}
 use Rattle.tsa_base.specs.Tokens.{Lexeme}
 use Rattle.tsa_tree.specs.expressions.Syntax.{Expression, Arguments}
 use Rattle.tsa_tree.specs.tokens.Signs.{Aliases}
-use Rattle.tsa_tree.specs.expressions.Spelling.{IsExpression, of_unary, of_binary, IsUnary, of_postfix, of_prefix, IsPostfix, of_primary, of_field, of_index, IsPrimary, of_number, of_null, of_name, of_call, of_parentheses, IsArguments, of_none, of_some, IsSeries, of_last, of_further}
+use Rattle.tsa_tree.specs.expressions.Spelling.{IsExpression, of_unary, of_binary, IsUnary, of_postfix, of_prefix, IsPostfix, of_primary}
+use Rattle.tsa_tree.specs.expressions.Spelling.{of_field, of_index, IsPrimary, of_number, of_null, of_name, of_call, of_parentheses}
+use Rattle.tsa_tree.specs.expressions.Spelling.{IsArguments, of_none, of_some, IsSeries, of_last, of_further}
 use Rattle.tsa_tree.specs.units.Spans.{spans_in_expression, spans_in_arguments}
 use Rattle.tsa_tree.proofs.expressions.TokenCounts.{ahead-expression, ahead-unary, ahead-postfix, ahead-arguments}
 use Rattle.tsa_tree.proofs.tokens.Covering.{Cover, no_span, over, token_at, name_at, cover-within, cover-both, cover-then, cover-last}

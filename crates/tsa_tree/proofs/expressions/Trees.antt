@@ -5,7 +5,8 @@ use mathlib.Core.Former.{Count}
 use Rattle.tsa_base.specs.declared.token.Span.{Span}
 use Rattle.tsa_tree.specs.declared.expr.Name.{Name}
 use Rattle.tsa_tree.specs.declared.expr.Expr.{Expr}
-use Rattle.tsa_tree.specs.declared.expr.ExprKind.{ExprKind, Call, Call', Row_of-Expr, end_of-Expr, more_of-Expr, items-the_row-Expr, items_hidden-the_row-Expr-0}
+use Rattle.tsa_tree.specs.declared.expr.ExprKind.{ExprKind, Call, Call', Row_of-Expr, end_of-Expr, more_of-Expr, items-the_row-Expr}
+use Rattle.tsa_tree.specs.declared.expr.ExprKind.{items_hidden-the_row-Expr-0}
 use Rattle.tsa_tree.specs.expressions.Syntax.{call, more}
 use Rattle.tsa_tree.specs.expressions.Shapes.{name_shape, kind_shape, row_shape, shape, shapes}
 

@@ -7,13 +7,17 @@ use Rattle.tsa_tree.specs.declared.sign.Sign.{Sign}
 use Rattle.tsa_tree.specs.declared.sign.Sign.TheVariants as sign
 use Rattle.tsa_tree.specs.declarations.Syntax.{Declaration}
 use Rattle.tsa_tree.specs.tokens.Signs.{Aliases, sign_at, prefix, prefix_of}
-use Rattle.tsa_tree.specs.Rows.{Sort, an_expression, a_simple, a_for_init, a_statement, some_statements, Call, expression, operand, simple, for_init, statement, statements, rank, mark, Kind, a_semicolon, a_not, a_flip, an_operator, sees, is_keyword, Row, prefix_row, operand_row, simple_row, statement_row, rule}
+use Rattle.tsa_tree.specs.Rows.{Sort, an_expression, a_simple, a_for_init, a_statement, some_statements, Call, expression, operand, simple}
+use Rattle.tsa_tree.specs.Rows.{for_init, statement, statements, rank, mark, Kind, a_semicolon, a_not, a_flip, an_operator, sees}
+use Rattle.tsa_tree.specs.Rows.{is_keyword, Row, prefix_row, operand_row, simple_row, statement_row, rule}
 use Rattle.tsa_grammar.proofs.Good as g
-use Rattle.tsa_tree.proofs.RowFacts.{begins_operand, begins_type, begins_statement, begins_simple, begins_inner, is_prefix, First, Ends, Moves, EndsVariables, EndsLocals, Start, Good}
+use Rattle.tsa_tree.proofs.RowFacts.{begins_operand, begins_type, begins_statement, begins_simple, begins_inner, is_prefix, First, Ends}
+use Rattle.tsa_tree.proofs.RowFacts.{Moves, EndsVariables, EndsLocals, Start, Good}
 use Rattle.tsa_tree.proofs.declarations.Facts.{semicolon_plain, semicolon_no_comma, type_no_brace}
 use Rattle.tsa_tree.proofs.declarations.Meet.{settled_declarator}
 use Rattle.tsa_tree.proofs.declarations.DeclaratorsMeet.{local_over}
-use Rattle.tsa_tree.proofs.statements.Facts.{simple_no_semicolon, type_no_semicolon, simple_no_type, statement_no_type, statement_no_brace, inner_no_else, brace_inner, type_inner, statement_inner}
+use Rattle.tsa_tree.proofs.statements.Facts.{simple_no_semicolon, type_no_semicolon, simple_no_type, statement_no_type, statement_no_brace}
+use Rattle.tsa_tree.proofs.statements.Facts.{inner_no_else, brace_inner, type_inner, statement_inner}
 use Rattle.tsa_tree.proofs.statements.Meet.{simple_over}
 
 module _ (tokens : List Lexeme) where

@@ -8,10 +8,16 @@ use Rattle.tsa_tree.specs.declared.sign.Sign.{Sign}
 use Rattle.tsa_tree.specs.declared.sign.Sign.TheVariants as sign
 use Rattle.tsa_tree.specs.expressions.Syntax.{Expression}
 use Rattle.tsa_tree.specs.tokens.Signs.{Aliases, sign_at, span_over, identifier_at}
-use Rattle.tsa_tree.specs.statements.Spelling.{IsOptional, no_expression, an_expression, IsTest, of_test, IsForInit, of_no_init, of_simple_init, of_local_init, IsForStep, of_no_step, of_step, IsStatement, of_block, of_empty, of_simple, of_if, of_if_else, of_while, of_do, of_for, of_switch, of_case, of_default, of_label, of_break, of_continue, of_goto, of_return, IsBody, of_body, IsStatements, no_statement, of_locals_first, of_statement_first}
+use Rattle.tsa_tree.specs.statements.Spelling.{IsOptional, no_expression, an_expression, IsTest, of_test, IsForInit, of_no_init}
+use Rattle.tsa_tree.specs.statements.Spelling.{of_simple_init, of_local_init, IsForStep, of_no_step, of_step, IsStatement, of_block}
+use Rattle.tsa_tree.specs.statements.Spelling.{of_empty, of_simple, of_if, of_if_else, of_while, of_do, of_for, of_switch, of_case}
+use Rattle.tsa_tree.specs.statements.Spelling.{of_default, of_label, of_break, of_continue, of_goto, of_return, IsBody, of_body}
+use Rattle.tsa_tree.specs.statements.Spelling.{IsStatements, no_statement, of_locals_first, of_statement_first}
 use Rattle.tsa_tree.specs.statements.Syntax.{Simple, ForInit, Statement, Statements, ends_short}
 use Rattle.tsa_tree.specs.statements.Syntax as plain
-use Rattle.tsa_tree.specs.Rows.{Sort, a_for_init, a_statement, some_statements, Node, Call, for_init, statement, statements, a_colon, a_semicolon, a_keyword, sees, is_keyword, keyword_number, Row, body, test, value_or_none, if_end, for_end, simple_statement, statement_row, rule}
+use Rattle.tsa_tree.specs.Rows.{Sort, a_for_init, a_statement, some_statements, Node, Call, for_init, statement, statements, a_colon}
+use Rattle.tsa_tree.specs.Rows.{a_semicolon, a_keyword, sees, is_keyword, keyword_number, Row, body, test, value_or_none, if_end, for_end}
+use Rattle.tsa_tree.specs.Rows.{simple_statement, statement_row, rule}
 use Rattle.tsa_tree.proofs.tokens.Facts.{is_plain}
 use Rattle.tsa_tree.proofs.RowFacts.{begins_simple}
 use Rattle.tsa_tree.proofs.tokens.ProductionSigns.{seen}

@@ -1,5 +1,6 @@
 -- The rows of statements meet what their reader needs.
-use Rattle.std.proofs.Common.{ℕ, ◌+◌, ◌<◌, ◌≡◌, ◌∙◌, ap, sym, refl, Bool, true, false, not, Option, Some, None, List, arith, inl, inr, nat_eq}
+use Rattle.std.proofs.Common.{ℕ, ◌+◌, ◌<◌, ◌≡◌, ◌∙◌, ap, sym, refl, Bool, true, false, not, Option, Some, None, List, arith, inl, inr}
+use Rattle.std.proofs.Common.{nat_eq}
 use Rattle.std.proofs.lemmas.Bool.{le-leb, leb-false}
 use Rattle.tsa_base.specs.Tokens.{Lexeme}
 use Rattle.tsa_tree.specs.declared.expr.BinaryOp.{BinaryOp}
@@ -8,14 +9,20 @@ use Rattle.tsa_tree.specs.declared.sign.Sign.{Sign}
 use Rattle.tsa_tree.specs.declared.sign.Sign.TheVariants as sign
 use Rattle.tsa_tree.specs.expressions.Syntax.{Expression}
 use Rattle.tsa_tree.specs.tokens.Signs.{Aliases, sign_at, span_over, identifier_at, operator, level, assigns}
-use Rattle.tsa_tree.specs.statements.Syntax.{evaluation, Ending, by_expression, by_operand, by_step, ForInit, Statement, if_else, while_loop, do_loop, for_loop, switch, case, otherwise, label, return, ends_short}
-use Rattle.tsa_tree.specs.Rows.{a_simple, a_statement, simple, statement, a_semicolon, a_colon, a_keyword, rank, mark, sees, is_keyword, Row, tightest, climb_on, simple_behind, simple_row, body, test, value_or_none, if_end, for_end, simple_statement, statement_row, rule}
+use Rattle.tsa_tree.specs.statements.Syntax.{evaluation, Ending, by_expression, by_operand, by_step, ForInit, Statement, if_else}
+use Rattle.tsa_tree.specs.statements.Syntax.{while_loop, do_loop, for_loop, switch, case, otherwise, label, return, ends_short}
+use Rattle.tsa_tree.specs.Rows.{a_simple, a_statement, simple, statement, a_semicolon, a_colon, a_keyword, rank, mark, sees, is_keyword}
+use Rattle.tsa_tree.specs.Rows.{Row, tightest, climb_on, simple_behind, simple_row, body, test, value_or_none, if_end, for_end}
+use Rattle.tsa_tree.specs.Rows.{simple_statement, statement_row, rule}
 use Rattle.tsa_grammar.specs.Form.{done, token}
 use Rattle.tsa_grammar.proofs.Good as g
 use Rattle.tsa_tree.proofs.tokens.Facts.{is_plain, operator_no_postfix, operator_no_open, close_plain, level_low}
-use Rattle.tsa_tree.proofs.RowFacts.{begins_statement, begins_simple, Ended, First, Ends, Moves, EndsSimple, EndsStatement, Next, Start, Good, never, ended}
+use Rattle.tsa_tree.proofs.RowFacts.{begins_statement, begins_simple, Ended, First, Ends, Moves, EndsSimple, EndsStatement, Next, Start}
+use Rattle.tsa_tree.proofs.RowFacts.{Good, never, ended}
 use Rattle.tsa_tree.proofs.declarations.Facts.{semicolon_plain, not_true, not_false}
-use Rattle.tsa_tree.proofs.statements.Facts.{colon_plain, step_no_postfix, step_no_open, assignment_no_postfix, assignment_no_open, step_begins, operand_simple, simple_statement_begins, operand_no_semicolon, simple_no_close, while_no_else}
+use Rattle.tsa_tree.proofs.statements.Facts.{colon_plain, step_no_postfix, step_no_open, assignment_no_postfix, assignment_no_open}
+use Rattle.tsa_tree.proofs.statements.Facts.{step_begins, operand_simple, simple_statement_begins, operand_no_semicolon, simple_no_close}
+use Rattle.tsa_tree.proofs.statements.Facts.{while_no_else}
 
 module _ (tokens : List Lexeme) where
   -- What ends a simple statement is over before a token that goes on with no expression.

@@ -6,8 +6,15 @@ use Rattle.tsa_tree.specs.declarations.Syntax.{Declaration}
 use Rattle.tsa_tree.specs.expressions.Syntax.{Identifier, Expression}
 use Rattle.tsa_tree.specs.tokens.Signs.{Aliases}
 use Rattle.tsa_tree.specs.statements.Syntax.{Simple, evaluation, assignment, spanning, ForInit, Statement, Statements, locals_before}
-use Rattle.tsa_tree.specs.statements.Spelling.{IsSimple, of_evaluation, of_assignment, of_step_behind, of_step_before, IsOptional, no_expression, an_expression, IsTest, of_test, IsForInit, of_no_init, of_simple_init, of_local_init, IsForStep, of_no_step, of_step, IsStatement, of_block, of_empty, of_simple, of_if, of_if_else, of_while, of_do, of_for, of_switch, of_case, of_default, of_label, of_break, of_continue, of_goto, of_return, IsBody, of_body, IsStatements, no_statement, of_locals_first, of_statement_first}
-use Rattle.tsa_tree.specs.units.Names.{names_in_expression, names_in_optional, base_in, names_in_declaration, names_in_declarations, names_in_simple, names_in_for_init, names_in_for_step, base_in_statement, names_in_statement, names_in_statements}
+use Rattle.tsa_tree.specs.statements.Spelling.{IsSimple, of_evaluation, of_assignment, of_step_behind, of_step_before, IsOptional}
+use Rattle.tsa_tree.specs.statements.Spelling.{no_expression, an_expression, IsTest, of_test, IsForInit, of_no_init, of_simple_init}
+use Rattle.tsa_tree.specs.statements.Spelling.{of_local_init, IsForStep, of_no_step, of_step, IsStatement, of_block, of_empty, of_simple}
+use Rattle.tsa_tree.specs.statements.Spelling.{of_if, of_if_else, of_while, of_do, of_for, of_switch, of_case, of_default, of_label}
+use Rattle.tsa_tree.specs.statements.Spelling.{of_break, of_continue, of_goto, of_return, IsBody, of_body, IsStatements, no_statement}
+use Rattle.tsa_tree.specs.statements.Spelling.{of_locals_first, of_statement_first}
+use Rattle.tsa_tree.specs.units.Names.{names_in_expression, names_in_optional, base_in, names_in_declaration, names_in_declarations}
+use Rattle.tsa_tree.specs.units.Names.{names_in_simple, names_in_for_init, names_in_for_step, base_in_statement, names_in_statement}
+use Rattle.tsa_tree.specs.units.Names.{names_in_statements}
 use Rattle.tsa_tree.proofs.declarations.NamesRise.{last_base, rises-local, rises-locals}
 use Rattle.tsa_tree.proofs.expressions.NamesRise.{rises-expression, rises-unary}
 use Rattle.tsa_tree.proofs.tokens.Rising.{Rises, no_name, name_at, rises-within, rises-then, rises-here, rises-last}

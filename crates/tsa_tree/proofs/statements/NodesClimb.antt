@@ -1,16 +1,24 @@
 -- The nodes of statements stand in the order of the text.
-use Rattle.std.proofs.Common.{ℕ, ◌+◌, ◌<◌, ◌≤◌, ◌≡◌, ◌∙◌, ap, sym, refl, subst, List, [], ◌∷◌, ◌++◌, length, Bool, Option, append_assoc, arith}
+use Rattle.std.proofs.Common.{ℕ, ◌+◌, ◌<◌, ◌≤◌, ◌≡◌, ◌∙◌, ap, sym, refl, subst, List, [], ◌∷◌, ◌++◌, length, Bool, Option, append_assoc}
+use Rattle.std.proofs.Common.{arith}
 use Rattle.tsa_base.specs.Tokens.{Lexeme}
 use Rattle.tsa_tree.specs.declarations.Syntax.{Declaration}
 use Rattle.tsa_tree.specs.expressions.Syntax.{Expression}
 use Rattle.tsa_tree.specs.tokens.Signs.{Aliases, span_over}
 use Rattle.tsa_tree.specs.statements.Syntax.{Simple, spanning, ForInit, Statement, Statements, locals_before}
-use Rattle.tsa_tree.specs.statements.Spelling.{IsSimple, of_evaluation, of_assignment, of_step_behind, of_step_before, IsOptional, no_expression, an_expression, IsTest, of_test, IsForInit, of_no_init, of_simple_init, of_local_init, IsForStep, of_no_step, of_step, IsStatement, of_block, of_empty, of_simple, of_if, of_if_else, of_while, of_do, of_for, of_switch, of_case, of_default, of_label, of_break, of_continue, of_goto, of_return, IsBody, of_body, IsStatements, no_statement, of_locals_first, of_statement_first}
-use Rattle.tsa_tree.specs.units.Order.{places_in_expression, places_in_optional, places_in_declaration, places_in_declarations, places_in_simple, places_in_for_init, places_in_for_step, places_in_statement, places_in_statements}
+use Rattle.tsa_tree.specs.statements.Spelling.{IsSimple, of_evaluation, of_assignment, of_step_behind, of_step_before, IsOptional}
+use Rattle.tsa_tree.specs.statements.Spelling.{no_expression, an_expression, IsTest, of_test, IsForInit, of_no_init, of_simple_init}
+use Rattle.tsa_tree.specs.statements.Spelling.{of_local_init, IsForStep, of_no_step, of_step, IsStatement, of_block, of_empty, of_simple}
+use Rattle.tsa_tree.specs.statements.Spelling.{of_if, of_if_else, of_while, of_do, of_for, of_switch, of_case, of_default, of_label}
+use Rattle.tsa_tree.specs.statements.Spelling.{of_break, of_continue, of_goto, of_return, IsBody, of_body, IsStatements, no_statement}
+use Rattle.tsa_tree.specs.statements.Spelling.{of_locals_first, of_statement_first}
+use Rattle.tsa_tree.specs.units.Order.{places_in_expression, places_in_optional, places_in_declaration, places_in_declarations}
+use Rattle.tsa_tree.specs.units.Order.{places_in_simple, places_in_for_init, places_in_for_step, places_in_statement, places_in_statements}
 use Rattle.tsa_tree.proofs.declarations.NodesClimb.{climbs-local, climbs-locals}
 use Rattle.tsa_tree.proofs.expressions.TokenCounts.{ahead-expression, ahead-unary}
 use Rattle.tsa_tree.proofs.expressions.NodesClimb.{climbs-expression, climbs-unary}
-use Rattle.tsa_tree.proofs.tokens.Climbing.{Climbs, no_place, place_at, climbs-ends, climbs-within, climbs-then, climbs-over, climbs-alone, climbs-operands, climbs-step}
+use Rattle.tsa_tree.proofs.tokens.Climbing.{Climbs, no_place, place_at, climbs-ends, climbs-within, climbs-then, climbs-over, climbs-alone}
+use Rattle.tsa_tree.proofs.tokens.Climbing.{climbs-operands, climbs-step}
 use Rattle.tsa_tree.proofs.tokens.Places.{AreInOrder}
 
 places-locals : (xs : List Declaration) (ys : Statements) → places_in_statements (locals_before xs ys) ≡ places_in_declarations xs ++ places_in_statements ys

@@ -10,9 +10,17 @@ use Rattle.tsa_tree.specs.declared.sign.Sign.TheVariants as sign
 use Rattle.tsa_tree.specs.expressions.Syntax.{Expression}
 use Rattle.tsa_tree.specs.tokens.Signs.{Aliases, sign_at, span_over, identifier_at, operator, assigns}
 use Rattle.tsa_tree.specs.expressions.Spelling.{IsExpression}
-use Rattle.tsa_tree.specs.statements.Spelling.{IsSimple, of_evaluation, of_assignment, of_step_behind, of_step_before, IsOptional, no_expression, an_expression, IsTest, of_test, IsForInit, of_no_init, of_simple_init, of_local_init, of_no_step, of_step, IsStatement, of_block, of_empty, of_simple, of_if, of_if_else, of_while, of_do, of_for, of_switch, of_case, of_default, of_label, of_break, of_continue, of_goto, of_return, IsBody, of_body, no_statement, of_locals_first, of_statement_first}
-use Rattle.tsa_tree.specs.statements.Syntax.{evaluation, by_expression, ForInit, Statement, block, if_else, while_loop, do_loop, for_loop, switch, case, otherwise, label, return, ends_short}
-use Rattle.tsa_tree.specs.Rows.{Sort, a_simple, a_for_init, a_statement, some_statements, Node, operand, simple, for_init, statement, statements, a_semicolon, a_keyword, sees, Row, climb, climb_on, tightest, simple_behind, simple_row, body, test, value_or_none, if_end, for_end, simple_statement, statement_row, rule}
+use Rattle.tsa_tree.specs.statements.Spelling.{IsSimple, of_evaluation, of_assignment, of_step_behind, of_step_before, IsOptional}
+use Rattle.tsa_tree.specs.statements.Spelling.{no_expression, an_expression, IsTest, of_test, IsForInit, of_no_init, of_simple_init}
+use Rattle.tsa_tree.specs.statements.Spelling.{of_local_init, of_no_step, of_step, IsStatement, of_block, of_empty, of_simple, of_if}
+use Rattle.tsa_tree.specs.statements.Spelling.{of_if_else, of_while, of_do, of_for, of_switch, of_case, of_default, of_label, of_break}
+use Rattle.tsa_tree.specs.statements.Spelling.{of_continue, of_goto, of_return, IsBody, of_body, no_statement, of_locals_first}
+use Rattle.tsa_tree.specs.statements.Spelling.{of_statement_first}
+use Rattle.tsa_tree.specs.statements.Syntax.{evaluation, by_expression, ForInit, Statement, block, if_else, while_loop, do_loop, for_loop}
+use Rattle.tsa_tree.specs.statements.Syntax.{switch, case, otherwise, label, return, ends_short}
+use Rattle.tsa_tree.specs.Rows.{Sort, a_simple, a_for_init, a_statement, some_statements, Node, operand, simple, for_init, statement}
+use Rattle.tsa_tree.specs.Rows.{statements, a_semicolon, a_keyword, sees, Row, climb, climb_on, tightest, simple_behind, simple_row, body}
+use Rattle.tsa_tree.specs.Rows.{test, value_or_none, if_end, for_end, simple_statement, statement_row, rule}
 use Rattle.tsa_tree.specs.Rows as rows
 use Rattle.tsa_tree.proofs.tokens.ProductionSigns.{shows_name, shows_open, shows_close, shows_close_brace}
 use Rattle.tsa_tree.proofs.declarations.Signs.{shows_semicolon, shows_colon, shows_keyword}

@@ -7,10 +7,12 @@ use Rattle.tsa_tree.specs.declared.sign.Sign.{Sign}
 use Rattle.tsa_tree.specs.declared.sign.Sign.TheVariants as sign
 use Rattle.tsa_tree.specs.expressions.Syntax.{Expression}
 use Rattle.tsa_tree.specs.tokens.Signs.{Aliases, sign_at, span_over, operator, prefix, access, assigns}
-use Rattle.tsa_tree.specs.expressions.Spelling.{IsExpression, of_unary, of_binary, IsUnary, of_postfix, of_prefix, IsPostfix, of_primary, of_field, of_index, IsPrimary, of_number, of_null, of_name, of_call, of_parentheses}
+use Rattle.tsa_tree.specs.expressions.Spelling.{IsExpression, of_unary, of_binary, IsUnary, of_postfix, of_prefix, IsPostfix, of_primary}
+use Rattle.tsa_tree.specs.expressions.Spelling.{of_field, of_index, IsPrimary, of_number, of_null, of_name, of_call, of_parentheses}
 use Rattle.tsa_tree.specs.statements.Spelling.{one_at, IsSimple, of_evaluation, of_assignment, of_step_behind, of_step_before}
 use Rattle.tsa_tree.specs.statements.Syntax.{Simple, evaluation, assignment, SimplePart, Ending, by_expression, by_operand, by_step}
-use Rattle.tsa_tree.specs.Rows.{Sort, an_expression, a_simple, Node, Call, expression, operand, simple, a_colon, an_assignment, is_assignment, sees, Row, tightest, climb, climb_on, simple_behind, simple_row, rule}
+use Rattle.tsa_tree.specs.Rows.{Sort, an_expression, a_simple, Node, Call, expression, operand, simple, a_colon, an_assignment}
+use Rattle.tsa_tree.specs.Rows.{is_assignment, sees, Row, tightest, climb, climb_on, simple_behind, simple_row, rule}
 use Rattle.tsa_tree.proofs.tokens.Facts.{is_plain}
 use Rattle.tsa_tree.proofs.RowFacts.{begins_operand, begins_simple, is_prefix}
 use Rattle.tsa_tree.proofs.tokens.ProductionSigns.{seen}

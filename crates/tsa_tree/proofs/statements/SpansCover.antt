@@ -6,8 +6,14 @@ use Rattle.tsa_tree.specs.declarations.Syntax.{Declaration}
 use Rattle.tsa_tree.specs.expressions.Syntax.{Expression}
 use Rattle.tsa_tree.specs.tokens.Signs.{Aliases, span_over}
 use Rattle.tsa_tree.specs.statements.Syntax.{Simple, spanning, ForInit, Statement, Statements, locals_before}
-use Rattle.tsa_tree.specs.statements.Spelling.{IsSimple, of_evaluation, of_assignment, of_step_behind, of_step_before, IsOptional, no_expression, an_expression, IsTest, of_test, IsForInit, of_no_init, of_simple_init, of_local_init, IsForStep, of_no_step, of_step, IsStatement, of_block, of_empty, of_simple, of_if, of_if_else, of_while, of_do, of_for, of_switch, of_case, of_default, of_label, of_break, of_continue, of_goto, of_return, IsBody, of_body, IsStatements, no_statement, of_locals_first, of_statement_first}
-use Rattle.tsa_tree.specs.units.Spans.{spans_in_expression, spans_in_optional, spans_in_declaration, spans_in_declarations, spans_in_simple, spans_in_for_init, spans_in_for_step, spans_in_statement, spans_in_statements}
+use Rattle.tsa_tree.specs.statements.Spelling.{IsSimple, of_evaluation, of_assignment, of_step_behind, of_step_before, IsOptional}
+use Rattle.tsa_tree.specs.statements.Spelling.{no_expression, an_expression, IsTest, of_test, IsForInit, of_no_init, of_simple_init}
+use Rattle.tsa_tree.specs.statements.Spelling.{of_local_init, IsForStep, of_no_step, of_step, IsStatement, of_block, of_empty, of_simple}
+use Rattle.tsa_tree.specs.statements.Spelling.{of_if, of_if_else, of_while, of_do, of_for, of_switch, of_case, of_default, of_label}
+use Rattle.tsa_tree.specs.statements.Spelling.{of_break, of_continue, of_goto, of_return, IsBody, of_body, IsStatements, no_statement}
+use Rattle.tsa_tree.specs.statements.Spelling.{of_locals_first, of_statement_first}
+use Rattle.tsa_tree.specs.units.Spans.{spans_in_expression, spans_in_optional, spans_in_declaration, spans_in_declarations, spans_in_simple}
+use Rattle.tsa_tree.specs.units.Spans.{spans_in_for_init, spans_in_for_step, spans_in_statement, spans_in_statements}
 use Rattle.tsa_tree.proofs.declarations.SpansCover.{cover-local, cover-locals}
 use Rattle.tsa_tree.proofs.expressions.TokenCounts.{ahead-expression, ahead-unary}
 use Rattle.tsa_tree.proofs.expressions.SpansCover.{cover-expression, cover-unary}

@@ -1,5 +1,6 @@
 -- What the tokens of a text show as names are names, and what they show as numbers fits its type.
-use Rattle.std.proofs.Common.{ℕ, zero, suc, ◌^◌, ◌≡◌, ◌≢◌, ◌∙◌, ap, sym, subst, refl, arith, List, [], ◌∷◌, ◌++◌, Bool, true, false, ◌&&◌, ◌||◌, not, Some, None, Ok, slice_get, length, nat_lt, nat_le, ◌==◌, if◌then◌else◌}
+use Rattle.std.proofs.Common.{ℕ, zero, suc, ◌^◌, ◌≡◌, ◌≢◌, ◌∙◌, ap, sym, subst, refl, arith, List, [], ◌∷◌, ◌++◌, Bool, true, false, ◌&&◌}
+use Rattle.std.proofs.Common.{◌||◌, not, Some, None, Ok, slice_get, length, nat_lt, nat_le, ◌==◌, if◌then◌else◌}
 use Rattle.std.proofs.lemmas.Bool.{and_from, ltb-true, lt-ltb, leb-false}
 use Rattle.std.specs.List.{list_all, list_any, filter_map}
 use Rattle.std.specs.Str.{bytes_eq}
@@ -17,7 +18,9 @@ use Rattle.tsa_base.proofs.TokenPlaces.{texts_fall_into_pieces}
 use Rattle.tsa_tree.specs.declared.sign.Sign.{Sign}
 use Rattle.tsa_tree.specs.declared.sign.Sign.TheVariants as sign
 use Rattle.tsa_tree.specs.expressions.Sound.{is_name, is_value}
-use Rattle.tsa_tree.specs.tokens.Signs.{Aliases, punctuator_signs, punctuator_sign, word_signs, word_sign, listed, sign_or, sign_of, sign_in, sign_at, identifier_in, identifier_at, value_of, unsigned_of, kind_in, value_at, unsigned_at}
+use Rattle.tsa_tree.specs.tokens.Signs.{Aliases, punctuator_signs, punctuator_sign, word_signs, word_sign, listed, sign_or, sign_of}
+use Rattle.tsa_tree.specs.tokens.Signs.{sign_in, sign_at, identifier_in, identifier_at, value_of, unsigned_of, kind_in, value_at}
+use Rattle.tsa_tree.specs.tokens.Signs.{unsigned_at}
 
 -- its bytes are a token's, of its kind
 abbrev pub IsTokenOfKind : Lexeme → Type 0

@@ -1,5 +1,6 @@
 -- What the sign of a token tells of its bytes: a tag, the name of a type, a text; and with what operators tokens assign.
-use Rattle.std.proofs.Common.{ℕ, zero, suc, ◌-◌, ◌≡◌, ◌∙◌, ap, sym, refl, arith, List, [], ◌∷◌, Bool, true, false, ◌&&◌, Some, None, slice_get, length, take, ◌==◌, if◌then◌else◌}
+use Rattle.std.proofs.Common.{ℕ, zero, suc, ◌-◌, ◌≡◌, ◌∙◌, ap, sym, refl, arith, List, [], ◌∷◌, Bool, true, false, ◌&&◌, Some, None}
+use Rattle.std.proofs.Common.{slice_get, length, take, ◌==◌, if◌then◌else◌}
 use Rattle.std.proofs.lemmas.Bool.{and_from}
 use Rattle.std.proofs.lemmas.Bool.Decides.{nat_tests}
 use Rattle.std.specs.List.{list_all, list_any}
@@ -15,7 +16,8 @@ use Rattle.tsa_tree.specs.declared.expr.BinaryOp.{BinaryOp}
 use Rattle.tsa_tree.specs.declared.sign.Sign.{Sign}
 use Rattle.tsa_tree.specs.declared.sign.Sign.TheVariants as sign
 use Rattle.tsa_tree.specs.attributes.Syntax.{unquoted}
-use Rattle.tsa_tree.specs.tokens.Signs.{Aliases, punctuator_signs, punctuator_sign, word_signs, word_sign, listed, sign_or, sign_of, sign_in, sign_at, identifier_in, identifier_at, is_tag, assigns}
+use Rattle.tsa_tree.specs.tokens.Signs.{Aliases, punctuator_signs, punctuator_sign, word_signs, word_sign, listed, sign_or, sign_of}
+use Rattle.tsa_tree.specs.tokens.Signs.{sign_in, sign_at, identifier_in, identifier_at, is_tag, assigns}
 use Rattle.tsa_tree.specs.expressions.Sound.{is_tag_name, is_alias_name}
 use Rattle.tsa_tree.specs.statements.Sound.{is_assigning}
 use Rattle.tsa_tree.proofs.tokens.NamesAndNumbers.{AreTokensOfKinds, at_place, word_of_token, number_numeric, is_numeric}

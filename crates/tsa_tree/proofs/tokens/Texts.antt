@@ -2,7 +2,8 @@
 use Rattle.std.proofs.Common.{◌≡◌, ℕ, zero, suc, ◌+◌, ◌-◌, ◌≤◌, List, [], ◌∷◌, length, take, Ok, Err, Result, refl, subst, arith}
 use Rattle.tsa_base.specs.declared.limits.TheConstants.{INPUT_LIMIT}
 use Rattle.tsa_base.specs.declared.token.LexCode.{LexCode}
-use Rattle.tsa_base.specs.Tokens.{PieceKind, blank, comment, skipped_line, token, Piece, BadByte, Lexeme, pieces_at, tokens_of, tokens_among, front_of, opens_line, begun}
+use Rattle.tsa_base.specs.Tokens.{PieceKind, blank, comment, skipped_line, token, Piece, BadByte, Lexeme, pieces_at, tokens_of}
+use Rattle.tsa_base.specs.Tokens.{tokens_among, front_of, opens_line, begun}
 use Rattle.tsa_tree.specs.tokens.Signs.{span_at}
 use Rattle.tsa_tree.specs.tokens.Texts.{AreOfText}
 

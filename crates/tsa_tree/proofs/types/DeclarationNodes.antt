@@ -1,9 +1,11 @@
 -- The nodes of types, attributes, items and initialisers beside their premises.
-use Rattle.std.proofs.Common.{◌≡◌, ℕ, suc, ℤ, pos, ◌+ℤ◌, Bool, true, false, not, ◌&&◌, ◌||◌, List, [], ◌∷◌, Option, Some, None, is_some, is_none, length, drop, slice_get, refl, sym, subst, if◌then◌else◌}
+use Rattle.std.proofs.Common.{◌≡◌, ℕ, suc, ℤ, pos, ◌+ℤ◌, Bool, true, false, not, ◌&&◌, ◌||◌, List, [], ◌∷◌, Option, Some, None, is_some}
+use Rattle.std.proofs.Common.{is_none, length, drop, slice_get, refl, sym, subst, if◌then◌else◌}
 use Rattle.tsa_base.specs.declared.token.Span.{Span}
 use Rattle.tsa_tree.specs.attributes.Syntax.{Attribute}
 use Rattle.tsa_tree.specs.declarations.Syntax as declared
-use Rattle.tsa_tree.specs.declarations.Syntax.{Base, DeclaredType, Initialiser, Initialisers, value, list, no_more, one_more, Declaration, Parameter, EnumConstant, Head}
+use Rattle.tsa_tree.specs.declarations.Syntax.{Base, DeclaredType, Initialiser, Initialisers, value, list, no_more, one_more, Declaration}
+use Rattle.tsa_tree.specs.declarations.Syntax.{Parameter, EnumConstant, Head}
 use Rattle.tsa_tree.specs.expressions.Syntax.{Identifier, Expression, Arguments, none, more}
 use Rattle.tsa_tree.specs.declared.kind.Declaring.TheVariants as declaring
 use Rattle.tsa_tree.specs.declared.kind.Resolved.TheVariants as written
@@ -12,20 +14,26 @@ use Rattle.tsa_tree.specs.declared.premise.Bearer.TheVariants as on
 use Rattle.tsa_tree.specs.declared.premise.TypeCode.TheVariants.{TY1, TY2, TY6, TY9}
 use Rattle.tsa_tree.specs.types.Attributes.{Bearer, stands_on, is_lock_type, lock_premises, attributes_premises, attributes_beside}
 use Rattle.tsa_tree.specs.types.Constants.{constant_of}
-use Rattle.tsa_tree.specs.types.DeclaredTypes.{Resolved, Declaring, of_struct, of_enum, of_alias, base_of, qualified, declared_as, resolve, thing_type, type_premise, unknown_tag, length_in, length_premises, typed_premises, declared_premises}
-use Rattle.tsa_tree.specs.types.Enums.{int_value, value_premises, enumerator_premises, enumerator_entry, enumerator_value, enum_premises, other_enum, behind_enumerators}
+use Rattle.tsa_tree.specs.types.DeclaredTypes.{Resolved, Declaring, of_struct, of_enum, of_alias, base_of, qualified, declared_as, resolve}
+use Rattle.tsa_tree.specs.types.DeclaredTypes.{thing_type, type_premise, unknown_tag, length_in, length_premises, typed_premises}
+use Rattle.tsa_tree.specs.types.DeclaredTypes.{declared_premises}
+use Rattle.tsa_tree.specs.types.Enums.{int_value, value_premises, enumerator_premises, enumerator_entry, enumerator_value, enum_premises}
+use Rattle.tsa_tree.specs.types.Enums.{other_enum, behind_enumerators}
 use Rattle.tsa_tree.specs.types.Expressions.{known_and}
 use Rattle.tsa_tree.specs.types.Operands.{goes_to}
 use Rattle.tsa_tree.specs.types.Fails.{fails, is_type_name}
 use Rattle.tsa_tree.specs.types.FirstFailing.{codes_in_order, failure_at}
 use Rattle.tsa_tree.specs.types.Globals.{with_global, bearer_of, global_init, inside_global, global_premises}
 use Rattle.tsa_tree.specs.types.Heads.{with_param, behind_head, inside, is_another, params_premises, head_premises}
-use Rattle.tsa_tree.specs.types.Initialisers.{cell_or_nothing, cell_premises, initialiser_premises, list_premises, is_constant_for, parts_of, or_no_parts, is_misfit}
+use Rattle.tsa_tree.specs.types.Initialisers.{cell_or_nothing, cell_premises, initialiser_premises, list_premises, is_constant_for}
+use Rattle.tsa_tree.specs.types.Initialisers.{parts_of, or_no_parts, is_misfit}
 use Rattle.tsa_tree.specs.types.Known as known
 use Rattle.tsa_tree.specs.types.Known.{Context, Entry, Meaning}
 use Rattle.tsa_tree.specs.types.Node as node
 use Rattle.tsa_tree.specs.types.Node.{Node, told_at}
-use Rattle.tsa_tree.specs.types.Nodes.{nodes_in_base, nodes_in_length, nodes_in_type, nodes_in_locks, nodes_in_attributes, nodes_in_members, nodes_in_struct, nodes_in_value, nodes_in_enumerators, nodes_in_cell, nodes_in_initialiser, nodes_in_initialisers, nodes_in_init, nodes_in_global, nodes_in_parameters, nodes_in_head}
+use Rattle.tsa_tree.specs.types.Nodes.{nodes_in_base, nodes_in_length, nodes_in_type, nodes_in_locks, nodes_in_attributes, nodes_in_members}
+use Rattle.tsa_tree.specs.types.Nodes.{nodes_in_struct, nodes_in_value, nodes_in_enumerators, nodes_in_cell, nodes_in_initialiser}
+use Rattle.tsa_tree.specs.types.Nodes.{nodes_in_initialisers, nodes_in_init, nodes_in_global, nodes_in_parameters, nodes_in_head}
 use Rattle.tsa_tree.specs.types.Premises.{premise, or_else, first}
 use Rattle.tsa_tree.specs.types.Scopes.{Scope, Tag, Members, found, context_of, with_name, with_owned, is_taken, is_named_taken, tag_in}
 use Rattle.tsa_tree.specs.types.Structs.{with_member, first_place, other_struct, members_premises, inside_struct, struct_premises}

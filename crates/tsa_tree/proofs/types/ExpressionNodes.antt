@@ -1,11 +1,14 @@
 -- The nodes of expressions beside their premises; and an expression that has a type has no failing premise.
-use Rattle.std.proofs.Common.{◌≡◌, ◌∙◌, Bool, true, false, not, ◌&&◌, ◌||◌, List, [], ◌∷◌, ◌++◌, Option, Some, None, is_some, is_none, option_map, option_and_then, refl, sym, ap, if◌then◌else◌}
+use Rattle.std.proofs.Common.{◌≡◌, ◌∙◌, Bool, true, false, not, ◌&&◌, ◌||◌, List, [], ◌∷◌, ◌++◌, Option, Some, None, is_some, is_none}
+use Rattle.std.proofs.Common.{option_map, option_and_then, refl, sym, ap, if◌then◌else◌}
 use Rattle.tsa_base.specs.declared.token.Span.{Span}
-use Rattle.tsa_tree.specs.expressions.Syntax.{Identifier, Expression, Arguments, number, null, named, call, unary, binary, field, index, none, more}
+use Rattle.tsa_tree.specs.expressions.Syntax.{Identifier, Expression, Arguments, number, null, named, call, unary, binary, field, index}
+use Rattle.tsa_tree.specs.expressions.Syntax.{none, more}
 use Rattle.tsa_tree.specs.points.Syntax.{expression_span}
 use Rattle.tsa_tree.specs.declared.premise.TypeCode.{TypeCode}
 use Rattle.tsa_tree.specs.declared.premise.TypeCode.TheVariants.{TY1, TY3, TY4}
-use Rattle.tsa_tree.specs.types.Expressions.{type_of, types_of, premises_of, premises_of_all, unknown, unless, both, all_typed, breaks_call, miscounts, known_and, owner, member_of, member_type}
+use Rattle.tsa_tree.specs.types.Expressions.{type_of, types_of, premises_of, premises_of_all, unknown, unless, both, all_typed, breaks_call}
+use Rattle.tsa_tree.specs.types.Expressions.{miscounts, known_and, owner, member_of, member_type}
 use Rattle.tsa_tree.specs.types.Fails.{fails}
 use Rattle.tsa_tree.specs.types.FirstFailing.{codes_in_order, failure_at, first_failing_of}
 use Rattle.tsa_tree.specs.types.Known.{Context, Entry}
@@ -193,8 +196,8 @@ mutual
   arguments_agree c none = no_nodes
   arguments_agree c (more e rest) = joined (expression_agrees c e) (arguments_agree c rest)
 
--- What a rule of a larger construct asks of an expression may be told before the expression's own nodes, or behind its premises: where the rule
--- fails the expression has a type, and then none of its premises fails.
+-- What a rule of a larger construct asks of an expression may be told before the expression's own nodes, or behind its premises: where the
+-- rule fails the expression has a type, and then none of its premises fails.
 asked_told : (p : Premise) (o : Option Failure) → (p.fails ≡ true → o ≡ None) → or_else (or_else (failure_of p) None) o ≡ or_else o (or_else (failure_of p) None)
 asked_told p o h = by_test p.fails h
   where

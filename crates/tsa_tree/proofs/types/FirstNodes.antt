@@ -1,11 +1,13 @@
 -- The first failing node is first, and the code that is told of it the smallest.
-use Rattle.std.proofs.Common.{◌≡◌, ℕ, suc, pred, nat_lt, Bool, true, false, List, [], ◌∷◌, Option, Some, None, slice_get, refl, sym, ap, subst, if◌then◌else◌}
+use Rattle.std.proofs.Common.{◌≡◌, ℕ, suc, pred, nat_lt, Bool, true, false, List, [], ◌∷◌, Option, Some, None, slice_get, refl, sym, ap}
+use Rattle.std.proofs.Common.{subst, if◌then◌else◌}
 use Rattle.std.proofs.lemmas.Bool.Decides.{nat_tests}
 use native.Mathlib.Omega.{arith}
 use Rattle.tsa_tree.specs.declared.premise.TypeCode.{TypeCode}
 use Rattle.tsa_tree.specs.declared.premise.TypeCode.TheVariants.{TY1, TY2, TY3, TY4, TY5, TY6, TY7, TY8, TY9}
 use Rattle.tsa_tree.specs.types.Fails.{fails}
-use Rattle.tsa_tree.specs.types.FirstFailing.{codes_in_order, failure_by, failure_at, first_failing_of, Keeps, number_of_code, Tells, FirstFailingIsFirst}
+use Rattle.tsa_tree.specs.types.FirstFailing.{codes_in_order, failure_by, failure_at, first_failing_of, Keeps, number_of_code, Tells}
+use Rattle.tsa_tree.specs.types.FirstFailing.{FirstFailingIsFirst}
 use Rattle.tsa_tree.specs.types.Node.{Node, told_at}
 use Rattle.tsa_tree.specs.types.Nodes.{nodes}
 use Rattle.tsa_tree.specs.types.Premises.{Failure, or_else}

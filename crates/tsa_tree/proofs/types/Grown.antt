@@ -5,7 +5,9 @@ use Rattle.std.proofs.Math.Nat.{add_assoc}
 use Rattle.std.proofs.Math.Seq.{take-append_seam}
 use Rattle.tsa_tree.specs.declarations.Syntax.{Declaration}
 use Rattle.tsa_tree.specs.declared.meaning.Entry.{Entry}
-use Rattle.tsa_tree.specs.statements.Syntax.{ForInit, no_init, simple_init, local_init, Statement, block, empty, local, simple, if_alone, if_else, while_loop, do_loop, for_loop, switch, case, otherwise, label, break, continue, goto, return, Statements, none, more}
+use Rattle.tsa_tree.specs.statements.Syntax.{ForInit, no_init, simple_init, local_init, Statement, block, empty, local, simple, if_alone}
+use Rattle.tsa_tree.specs.statements.Syntax.{if_else, while_loop, do_loop, for_loop, switch, case, otherwise, label, break, continue, goto}
+use Rattle.tsa_tree.specs.statements.Syntax.{return, Statements, none, more}
 use Rattle.tsa_tree.specs.types.Locals.{local_entry, unless_taken, behind_local}
 use Rattle.tsa_tree.specs.types.Scopes.{Scope, with_names, is_taken, further}
 use Rattle.tsa_tree.specs.types.Statements.{behind_init, behind, behind_all}

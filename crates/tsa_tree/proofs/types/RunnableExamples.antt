@@ -1,9 +1,12 @@
 -- The units that run, worked out.
 use Rattle.std.proofs.Common.{refl}
-use Rattle.tsa_base.specs.Tokens.{punctuators, is_punctuator, is_token, longest_up_to, kind_of, block_end, opens_line, line_word, is_skipped, front_of, pieces_at}
+use Rattle.tsa_base.specs.Tokens.{punctuators, is_punctuator, is_token, longest_up_to, kind_of, block_end, opens_line, line_word}
+use Rattle.tsa_base.specs.Tokens.{is_skipped, front_of, pieces_at}
 use Rattle.tsa_base.specs.Numbers.{number_of}
 use Rattle.tsa_base.specs.Words.{keywords, macro_words, reserved, is_reserved}
-use Rattle.tsa_tree.specs.tokens.Signs.{meaning_at, meaning_of, attribute_names, bare_name, is_word_at, punctuator_signs, word_signs, word_sign, punctuator_sign, sign_of, sign_at, span_at, span_over, identifier_at, value_at, unsigned_at}
+use Rattle.tsa_tree.specs.tokens.Signs.{meaning_at, meaning_of, attribute_names, bare_name, is_word_at, punctuator_signs, word_signs}
+use Rattle.tsa_tree.specs.tokens.Signs.{word_sign, punctuator_sign, sign_of, sign_at, span_at, span_over, identifier_at, value_at}
+use Rattle.tsa_tree.specs.tokens.Signs.{unsigned_at}
 use Rattle.tsa_tree.specs.Reads.{read}
 use Rattle.tsa_tree.specs.units.Answers.{read_unit}
 use Rattle.tsa_grammar.specs.Reading.{then, choose, measure, run_in, run}
@@ -11,8 +14,10 @@ use Rattle.tsa_tree.specs.attributes.Syntax.{try_value}
 use Rattle.tsa_tree.specs.types.Expressions.{type_of, types_of, premises_of, premises_of_all}
 use Rattle.tsa_tree.specs.types.Premises.{first}
 use Rattle.tsa_tree.specs.types.Constants.{constant_of}
-use Rattle.tsa_tree.specs.types.Statements.{statement_premises, statements_premises, behind, behind_all, case_premises, default_premises, label_premises, goto_premises, break_premises, continue_premises, for_premises}
-use Rattle.tsa_tree.specs.types.Targets.{labels_behind, labels_behind_all, cases_behind, cases_behind_all, default_in, default_in_all, declared_in, declared_in_all}
+use Rattle.tsa_tree.specs.types.Statements.{statement_premises, statements_premises, behind, behind_all, case_premises, default_premises}
+use Rattle.tsa_tree.specs.types.Statements.{label_premises, goto_premises, break_premises, continue_premises, for_premises}
+use Rattle.tsa_tree.specs.types.Targets.{labels_behind, labels_behind_all, cases_behind, cases_behind_all, default_in, default_in_all}
+use Rattle.tsa_tree.specs.types.Targets.{declared_in, declared_in_all}
 use Rattle.tsa_tree.specs.types.DeclaredTypes.{typed_premises, declared_premises}
 use Rattle.tsa_tree.specs.types.Units.{items_premises, body_premises, tags_behind, locks_of}
 use Rattle.tsa_tree.specs.types.Globals.{inside_global}

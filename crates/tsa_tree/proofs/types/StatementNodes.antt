@@ -4,7 +4,9 @@ use Rattle.tsa_base.specs.declared.token.Span.{Span}
 use Rattle.tsa_tree.specs.declarations.Syntax.{Declaration, Initialiser, Initialisers, value, list, no_more, one_more}
 use Rattle.tsa_tree.specs.expressions.Syntax.{Expression}
 use Rattle.tsa_tree.specs.points.Syntax.{expression_span}
-use Rattle.tsa_tree.specs.statements.Syntax.{Simple, evaluation, assignment, ForInit, no_init, simple_init, local_init, Statement, block, empty, local, simple, if_alone, if_else, while_loop, do_loop, for_loop, switch, case, otherwise, label, break, continue, goto, return, Statements, none, more}
+use Rattle.tsa_tree.specs.statements.Syntax.{Simple, evaluation, assignment, ForInit, no_init, simple_init, local_init, Statement, block}
+use Rattle.tsa_tree.specs.statements.Syntax.{empty, local, simple, if_alone, if_else, while_loop, do_loop, for_loop, switch, case}
+use Rattle.tsa_tree.specs.statements.Syntax.{otherwise, label, break, continue, goto, return, Statements, none, more}
 use Rattle.tsa_tree.specs.declared.kind.Declaring.TheVariants as declaring
 use Rattle.tsa_tree.specs.declared.premise.Bearer.TheVariants as on
 use Rattle.tsa_tree.specs.declared.premise.TypeCode.TheVariants.{TY2, TY3, TY5, TY7, TY8, TY9}
@@ -18,12 +20,18 @@ use Rattle.tsa_tree.specs.types.Locals.{has_type, init_breaks, names_in_init, na
 use Rattle.tsa_tree.specs.types.Node as node
 use Rattle.tsa_tree.specs.types.Node.{told_at}
 use Rattle.tsa_tree.specs.types.Nodes as nodes
-use Rattle.tsa_tree.specs.types.Nodes.{nodes_in, nodes_in_local_init, nodes_in_local_inits, nodes_in_given_init, nodes_in_local, nodes_in_simple, nodes_in_given, nodes_in_for_init, nodes_in_step, nodes_in_for, nodes_in_statement, nodes_in_statements}
+use Rattle.tsa_tree.specs.types.Nodes.{nodes_in, nodes_in_local_init, nodes_in_local_inits, nodes_in_given_init, nodes_in_local}
+use Rattle.tsa_tree.specs.types.Nodes.{nodes_in_simple, nodes_in_given, nodes_in_for_init, nodes_in_step, nodes_in_for, nodes_in_statement}
+use Rattle.tsa_tree.specs.types.Nodes.{nodes_in_statements}
 use Rattle.tsa_tree.specs.types.Operands.{lacks, is_scalar, is_integer}
 use Rattle.tsa_tree.specs.types.Premises.{Failure, premise, failure_of, or_else, first}
 use Rattle.tsa_tree.specs.types.Scopes.{Scope, context_of, is_taken, further}
-use Rattle.tsa_tree.specs.types.Simple.{assignment_breaks, assignment_premises, is_written_to, written_type, tested_premises, return_breaks, parts_of, return_premises}
-use Rattle.tsa_tree.specs.types.Statements.{Around, in_a_loop, in_a_switch, simple_premises, init_premises, behind_init, for_test, test_premises, step_premises, is_again, unless_again, is_case_again, case_premises, default_premises, label_premises, goto_premises, break_premises, continue_premises, for_premises, statement_premises, statements_premises, behind}
+use Rattle.tsa_tree.specs.types.Simple.{assignment_breaks, assignment_premises, is_written_to, written_type, tested_premises, return_breaks}
+use Rattle.tsa_tree.specs.types.Simple.{parts_of, return_premises}
+use Rattle.tsa_tree.specs.types.Statements.{Around, in_a_loop, in_a_switch, simple_premises, init_premises, behind_init, for_test}
+use Rattle.tsa_tree.specs.types.Statements.{test_premises, step_premises, is_again, unless_again, is_case_again, case_premises}
+use Rattle.tsa_tree.specs.types.Statements.{default_premises, label_premises, goto_premises, break_premises, continue_premises}
+use Rattle.tsa_tree.specs.types.Statements.{for_premises, statement_premises, statements_premises, behind}
 use Rattle.tsa_tree.specs.types.Targets.{declared_in}
 use Rattle.tsa_tree.proofs.types.NodeLists.{Agree, no_nodes, joined, with_node, a_node, regrouped}
 use Rattle.tsa_tree.proofs.types.ExpressionNodes.{asked_if, asked_unless, expression_agrees}

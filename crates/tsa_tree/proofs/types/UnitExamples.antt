@@ -4,7 +4,8 @@ use mathlib.Core.Path.{fun_ext}
 use Rattle.tsa_tree.specs.types.FirstFailing.{first_failing}
 use Rattle.tsa_tree.specs.types.PlaceExamples.{PlacesAreTold}
 use Rattle.tsa_tree.specs.types.Texts.{told_in}
-use Rattle.tsa_tree.specs.types.UnitExamples.{UnknownNames, DeclaredTwice, WrongTypes, WrongCounts, NotAssignable, OutOfPlace, WithoutTarget, WrongReturns, NotConstant, TypedTexts, TextsAreTold, UnitsAreTyped}
+use Rattle.tsa_tree.specs.types.UnitExamples.{UnknownNames, DeclaredTwice, WrongTypes, WrongCounts, NotAssignable, OutOfPlace}
+use Rattle.tsa_tree.specs.types.UnitExamples.{WithoutTarget, WrongReturns, NotConstant, TypedTexts, TextsAreTold, UnitsAreTyped}
 use Rattle.tsa_tree.specs.types.Units.{refusal_of_types}
 use Rattle.tsa_tree.proofs.types.TextValues.{computed}
 use Rattle.tsa_tree.proofs.types.PlaceExamples.{places_are_told}

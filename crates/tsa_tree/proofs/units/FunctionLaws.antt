@@ -1,5 +1,6 @@
 -- The functions of a unit by number.
-use Rattle.std.proofs.Common.{ℕ, ◌+◌, ◌-◌, ◌≡◌, ◌∙◌, ◌<◌, ◌≤◌, true, false, Some, None, ap, sym, refl, List, [], ◌∷◌, ◌++◌, length, get_or, take, drop, slice_get, if◌then◌else◌, arith}
+use Rattle.std.proofs.Common.{ℕ, ◌+◌, ◌-◌, ◌≡◌, ◌∙◌, ◌<◌, ◌≤◌, true, false, Some, None, ap, sym, refl, List, [], ◌∷◌, ◌++◌, length, get_or}
+use Rattle.std.proofs.Common.{take, drop, slice_get, if◌then◌else◌, arith}
 use Rattle.std.proofs.lemmas.List.{drop_more, drop_all, take_more}
 use Rattle.std.proofs.lemmas.Option.{slice_get_past}
 use native.Mathlib.Numerals.{unary_clauses}

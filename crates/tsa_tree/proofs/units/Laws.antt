@@ -1,12 +1,14 @@
 -- The laws of the grammar of whole units.
-use Rattle.std.proofs.Common.{ℕ, ◌<◌, ◌≤◌, ◌≡◌, ◌∙◌, sym, subst, refl, List, [], ◌++◌, Bool, true, false, Option, Some, None, Ok, Err, length, arith, ◌⊎◌, inl, inr}
+use Rattle.std.proofs.Common.{ℕ, ◌<◌, ◌≤◌, ◌≡◌, ◌∙◌, sym, subst, refl, List, [], ◌++◌, Bool, true, false, Option, Some, None, Ok, Err}
+use Rattle.std.proofs.Common.{length, arith, ◌⊎◌, inl, inr}
 use Rattle.std.proofs.lemmas.Bool.{leb-true, le-leb, cases_lt}
 use Rattle.tsa_base.specs.Tokens.{Lexeme}
 use Rattle.tsa_tree.specs.expressions.Answers.{below_limit}
 use Rattle.tsa_tree.specs.Rows.{Sort, some_items, Node, Call, items, is_past, sees, Row, rule}
 use Rattle.tsa_tree.specs.Reads.{read}
 use Rattle.tsa_tree.specs.tokens.Signs.{Aliases}
-use Rattle.tsa_tree.specs.units.Answers.{Spells, Spelled, Begun, Refused, IsAnswer, read_unit, SpellTheSame, OneUnit, PiecesBegin, IsNoUnit, RefusedIsNoUnit, AnAnswer, OneAnswer}
+use Rattle.tsa_tree.specs.units.Answers.{Spells, Spelled, Begun, Refused, IsAnswer, read_unit, SpellTheSame, OneUnit, PiecesBegin, IsNoUnit}
+use Rattle.tsa_tree.specs.units.Answers.{RefusedIsNoUnit, AnAnswer, OneAnswer}
 use Rattle.tsa_tree.specs.units.Syntax.{UnitItem, names_of}
 use Rattle.tsa_tree.specs.units.Spelling.{IsItems, no_items, of_items}
 use Rattle.tsa_tree.proofs.declarations.ItemsToRows.{items_rows}
@@ -21,7 +23,9 @@ use Rattle.tsa_tree.proofs.units.Meet.{begun_inside}
 use Rattle.tsa_grammar.proofs.Cases.{on_choose}
 use Rattle.tsa_grammar.specs.Exact as exact
 use Rattle.tsa_grammar.specs.Spelling as forms
-use Rattle.tsa_grammar.specs.Spelling.{by_rule, goes_done, goes_token, goes_part, goes_bar, goes_limit, goes_only, goes_left, goes_right, begins_rule, starts_here, starts_barred, starts_bar, starts_token, starts_in, starts_over, starts_limit, starts_only, starts_left, starts_right}
+use Rattle.tsa_grammar.specs.Spelling.{by_rule, goes_done, goes_token, goes_part, goes_bar, goes_limit, goes_only, goes_left, goes_right}
+use Rattle.tsa_grammar.specs.Spelling.{begins_rule, starts_here, starts_barred, starts_bar, starts_token, starts_in, starts_over}
+use Rattle.tsa_grammar.specs.Spelling.{starts_limit, starts_only, starts_left, starts_right}
 use Rattle.tsa_grammar.specs.Reading.{Code, syntax, deep, barred, Refusal, refuse, Outcome, all}
 
 module _ (tokens : List Lexeme) (fits : ℕ → Bool) where

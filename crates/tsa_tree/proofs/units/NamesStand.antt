@@ -1,12 +1,16 @@
 -- The names in the items of a unit stand at different places.
-use Rattle.std.proofs.Common.{ℕ, ◌≤◌, ◌≡◌, ◌∙◌, ap, sym, refl, subst, List, [], ◌∷◌, ◌++◌, map, length, Bool, Option, None, append_assoc, arith}
+use Rattle.std.proofs.Common.{ℕ, ◌≤◌, ◌≡◌, ◌∙◌, ap, sym, refl, subst, List, [], ◌∷◌, ◌++◌, map, length, Bool, Option, None, append_assoc}
+use Rattle.std.proofs.Common.{arith}
 use Rattle.tsa_base.specs.Tokens.{Lexeme}
 use Rattle.tsa_tree.specs.attributes.Syntax.{Attribute}
 use Rattle.tsa_tree.specs.declarations.Syntax.{Declaration, StructBody}
-use Rattle.tsa_tree.specs.declarations.ItemSpelling.{IsStructBody, of_struct_body, IsItem, of_structure, of_tag_alone, of_structure_alias, of_enumeration, of_enumeration_alias, of_alias_item, of_globals, of_function, of_body_item}
+use Rattle.tsa_tree.specs.declarations.ItemSpelling.{IsStructBody, of_struct_body, IsItem, of_structure, of_tag_alone, of_structure_alias}
+use Rattle.tsa_tree.specs.declarations.ItemSpelling.{of_enumeration, of_enumeration_alias, of_alias_item, of_globals, of_function}
+use Rattle.tsa_tree.specs.declarations.ItemSpelling.{of_body_item}
 use Rattle.tsa_tree.specs.expressions.Syntax.{Identifier}
 use Rattle.tsa_tree.specs.tokens.Signs.{Aliases}
-use Rattle.tsa_tree.specs.units.Names.{names_in_attributes, base_in, names_in_declaration, names_in_declarations, names_in_items, NamesStandApart}
+use Rattle.tsa_tree.specs.units.Names.{names_in_attributes, base_in, names_in_declaration, names_in_declarations, names_in_items}
+use Rattle.tsa_tree.specs.units.Names.{NamesStandApart}
 use Rattle.tsa_tree.specs.units.Spelling.{IsItems, no_items, of_items}
 use Rattle.tsa_tree.specs.units.Syntax.{UnitItem, global_item}
 use Rattle.tsa_tree.proofs.attributes.NamesRise.{rises-attributes, names-attributes}

@@ -3,9 +3,12 @@ use Rattle.std.proofs.Common.{ℕ, ◌+◌, ◌<◌, ◌≤◌, ◌≡◌, ◌�
 use Rattle.tsa_base.specs.Tokens.{Lexeme}
 use Rattle.tsa_tree.specs.attributes.Syntax.{Attribute}
 use Rattle.tsa_tree.specs.declarations.Syntax.{Declaration, StructBody}
-use Rattle.tsa_tree.specs.declarations.ItemSpelling.{IsStructBody, of_struct_body, IsItem, of_structure, of_tag_alone, of_structure_alias, of_enumeration, of_enumeration_alias, of_alias_item, of_globals, of_function, of_body_item}
+use Rattle.tsa_tree.specs.declarations.ItemSpelling.{IsStructBody, of_struct_body, IsItem, of_structure, of_tag_alone, of_structure_alias}
+use Rattle.tsa_tree.specs.declarations.ItemSpelling.{of_enumeration, of_enumeration_alias, of_alias_item, of_globals, of_function}
+use Rattle.tsa_tree.specs.declarations.ItemSpelling.{of_body_item}
 use Rattle.tsa_tree.specs.tokens.Signs.{Aliases, span_over}
-use Rattle.tsa_tree.specs.units.Order.{places_in_attributes, places_in_declaration, places_in_declarations, places_in_item, places_of_unit, RiseInStructures, NodesRise}
+use Rattle.tsa_tree.specs.units.Order.{places_in_attributes, places_in_declaration, places_in_declarations, places_in_item, places_of_unit}
+use Rattle.tsa_tree.specs.units.Order.{RiseInStructures, NodesRise}
 use Rattle.tsa_tree.specs.units.Spelling.{IsItems, no_items, of_items}
 use Rattle.tsa_tree.specs.units.Syntax.{UnitItem, global_item}
 use Rattle.tsa_tree.proofs.attributes.TokenCounts.{ahead-attributes}
@@ -14,7 +17,8 @@ use Rattle.tsa_tree.proofs.declarations.TokenCounts.{ahead-storage, ahead-specif
 use Rattle.tsa_tree.proofs.declarations.HeadsCover.{cover-tag}
 use Rattle.tsa_tree.proofs.declarations.NodesClimb.{climbs-declared, climbs-members, climbs-head, climbs-enum-body}
 use Rattle.tsa_tree.proofs.statements.NodesClimb.{climb-statements}
-use Rattle.tsa_tree.proofs.tokens.Climbing.{Climbs, no_place, place_at, climbs-ends, climbs-within, climbs-then, climbs-last, climbs-over, climbs-alone, climbs-rise}
+use Rattle.tsa_tree.proofs.tokens.Climbing.{Climbs, no_place, place_at, climbs-ends, climbs-within, climbs-then, climbs-last, climbs-over}
+use Rattle.tsa_tree.proofs.tokens.Climbing.{climbs-alone, climbs-rise}
 use Rattle.tsa_tree.proofs.tokens.Covering.{cover-ends}
 use Rattle.tsa_tree.proofs.tokens.Places.{AreInOrder, in_order}
 

@@ -3,7 +3,8 @@ use Rattle.std.proofs.Common.{ℕ, ◌≡◌, sym, subst, refl, List, [], ◌∷
 use Rattle.std.proofs.lemmas.List.{append_assoc, append-nil}
 use Rattle.tsa_base.specs.Tokens.{Lexeme, tokens_of}
 use Rattle.tsa_tree.specs.declarations.Syntax.{Declaration}
-use Rattle.tsa_tree.specs.declarations.ItemSpelling.{of_struct_body, IsItem, of_structure, of_tag_alone, of_structure_alias, of_enumeration, of_enumeration_alias, of_alias_item, of_globals, of_function, of_body_item}
+use Rattle.tsa_tree.specs.declarations.ItemSpelling.{of_struct_body, IsItem, of_structure, of_tag_alone, of_structure_alias, of_enumeration}
+use Rattle.tsa_tree.specs.declarations.ItemSpelling.{of_enumeration_alias, of_alias_item, of_globals, of_function, of_body_item}
 use Rattle.tsa_tree.specs.tokens.Signs.{Aliases, identifier_at}
 use Rattle.tsa_tree.specs.units.Syntax.{UnitItem, global_item, names_of_item, names_of}
 use Rattle.tsa_tree.specs.units.Answers.{Spells}

@@ -4,9 +4,12 @@ use Rattle.tsa_base.specs.declared.token.Span.{Span}
 use Rattle.tsa_base.specs.Tokens.{Lexeme}
 use Rattle.tsa_tree.specs.attributes.Syntax.{Attribute}
 use Rattle.tsa_tree.specs.declarations.Syntax.{Declaration, StructBody}
-use Rattle.tsa_tree.specs.declarations.ItemSpelling.{IsStructBody, of_struct_body, IsItem, of_structure, of_tag_alone, of_structure_alias, of_enumeration, of_enumeration_alias, of_alias_item, of_globals, of_function, of_body_item}
+use Rattle.tsa_tree.specs.declarations.ItemSpelling.{IsStructBody, of_struct_body, IsItem, of_structure, of_tag_alone, of_structure_alias}
+use Rattle.tsa_tree.specs.declarations.ItemSpelling.{of_enumeration, of_enumeration_alias, of_alias_item, of_globals, of_function}
+use Rattle.tsa_tree.specs.declarations.ItemSpelling.{of_body_item}
 use Rattle.tsa_tree.specs.tokens.Signs.{Aliases, span_over}
-use Rattle.tsa_tree.specs.units.Spans.{spans_in_attributes, spans_in_declaration, spans_in_declarations, spans_in_item, spans_of_unit, SpansLieInText}
+use Rattle.tsa_tree.specs.units.Spans.{spans_in_attributes, spans_in_declaration, spans_in_declarations, spans_in_item, spans_of_unit}
+use Rattle.tsa_tree.specs.units.Spans.{SpansLieInText}
 use Rattle.tsa_tree.specs.units.Spelling.{IsItems, no_items, of_items}
 use Rattle.tsa_tree.specs.units.Syntax.{UnitItem, global_item}
 use Rattle.tsa_tree.proofs.attributes.SpansCover.{joined, cover-attributes}
@@ -14,7 +17,8 @@ use Rattle.tsa_tree.proofs.declarations.TokenCounts.{ahead-storage, ahead-specif
 use Rattle.tsa_tree.proofs.declarations.HeadsCover.{cover-tag, cover-head, cover-enum-body}
 use Rattle.tsa_tree.proofs.declarations.SpansCover.{cover-specifier, cover-declarator, cover-declared, cover-members}
 use Rattle.tsa_tree.proofs.statements.SpansCover.{cover-statements}
-use Rattle.tsa_tree.proofs.tokens.Covering.{Cover, no_span, over, token_at, cover-ends, cover-none, cover-name, cover-within, cover-both, cover-then, cover-last, cover-lies}
+use Rattle.tsa_tree.proofs.tokens.Covering.{Cover, no_span, over, token_at, cover-ends, cover-none, cover-name, cover-within, cover-both}
+use Rattle.tsa_tree.proofs.tokens.Covering.{cover-then, cover-last, cover-lies}
 use Rattle.tsa_tree.proofs.tokens.Places.{in_order}
 
 spans-items : (xs ys : List UnitItem) → spans_of_unit (xs ++ ys) ≡ spans_of_unit xs ++ spans_of_unit ys

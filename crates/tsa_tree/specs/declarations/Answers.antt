@@ -6,7 +6,8 @@ use Rattle.tsa_tree.specs.declarations.Syntax.{Specified}
 use Rattle.tsa_tree.specs.units.Syntax.{UnitItem}
 use Rattle.tsa_tree.specs.declarations.Spelling.{IsSpecifier, IsLocals}
 use Rattle.tsa_tree.specs.declarations.ItemSpelling.{IsHead, IsItem}
-use Rattle.tsa_tree.specs.Rows.{Sort, a_specifier, some_declarations, a_head, some_items, Node, Call, specifier, locals, head, item, sees, rule}
+use Rattle.tsa_tree.specs.Rows.{Sort, a_specifier, some_declarations, a_head, some_items, Node, Call, specifier, locals, head, item, sees}
+use Rattle.tsa_tree.specs.Rows.{rule}
 use Rattle.tsa_tree.specs.Reads.{read}
 use Rattle.tsa_tree.specs.tokens.Signs.{Aliases}
 use Rattle.tsa_tree.specs.Verdicts as verdicts

@@ -1,7 +1,8 @@
 -- Declarations and items with all spans at 0: two are equal but for spans where their plain ones are equal.
 use Rattle.std.specs.Prelude.{map, option_map}
 use Rattle.tsa_tree.specs.attributes.Syntax.{plain_attribute}
-use Rattle.tsa_tree.specs.declarations.Syntax.{Base, structure, enumerated, alias, DeclaredType, Initialiser, value, list, Initialisers, no_more, one_more, Declaration, Parameter, EnumConstant, Head}
+use Rattle.tsa_tree.specs.declarations.Syntax.{Base, structure, enumerated, alias, DeclaredType, Initialiser, value, list, Initialisers}
+use Rattle.tsa_tree.specs.declarations.Syntax.{no_more, one_more, Declaration, Parameter, EnumConstant, Head}
 use Rattle.tsa_tree.specs.expressions.Syntax.{nowhere, plain_name, plain}
 
 abbrev pub plain_base : Base → Base

@@ -10,7 +10,8 @@ use Rattle.tsa_tree.specs.declared.item.Param.{Param}
 use Rattle.tsa_tree.specs.declared.item.FnTree.{FnTree}
 use Rattle.tsa_tree.specs.declared.item.Enumerator.{Enumerator}
 use Rattle.tsa_tree.specs.attributes.Syntax.{attr_shapes}
-use Rattle.tsa_tree.specs.declarations.Syntax.{Base, int, unsigned, void, structure, enumerated, alias, DeclaredType, Initialiser, value, list, Initialisers, no_more, one_more, Declaration, Parameter, EnumConstant, Head}
+use Rattle.tsa_tree.specs.declarations.Syntax.{Base, int, unsigned, void, structure, enumerated, alias, DeclaredType, Initialiser, value}
+use Rattle.tsa_tree.specs.declarations.Syntax.{list, Initialisers, no_more, one_more, Declaration, Parameter, EnumConstant, Head}
 use Rattle.tsa_tree.specs.expressions.Shapes.{name_shape, shape}
 
 abbrev pub base_shape : BaseType → Base

@@ -2,7 +2,8 @@
 use Rattle.std.specs.Prelude.{◌≡◌, List, [], ◌∷◌, Bool, true, false, ◌||◌, not, Some, None}
 use Rattle.std.specs.declared.option.Option.{Option}
 use Rattle.tsa_tree.specs.attributes.Sound.{SoundAttributes}
-use Rattle.tsa_tree.specs.declarations.Syntax.{Base, int, unsigned, void, structure, enumerated, alias, DeclaredType, Initialiser, value, list, Initialisers, no_more, one_more, Declaration, Parameter, EnumConstant, Head}
+use Rattle.tsa_tree.specs.declarations.Syntax.{Base, int, unsigned, void, structure, enumerated, alias, DeclaredType, Initialiser, value}
+use Rattle.tsa_tree.specs.declarations.Syntax.{list, Initialisers, no_more, one_more, Declaration, Parameter, EnumConstant, Head}
 use Rattle.tsa_tree.specs.expressions.Sound.{is_name, is_tag_name, is_alias_name, SoundExpression, SoundOptional}
 use Rattle.tsa_tree.specs.expressions.Syntax.{Identifier}
 use Rattle.tsa_tree.specs.tokens.Signs.{Aliases}

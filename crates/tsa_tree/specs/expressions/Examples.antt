@@ -7,7 +7,8 @@ use Rattle.tsa_base.specs.Tokens.{Lexeme, BadByte, tokens_of}
 use Rattle.tsa_tree.specs.declared.expr.UnaryOp.TheVariants as prefix_op
 use Rattle.tsa_tree.specs.declared.expr.BinaryOp.{BinaryOp}
 use Rattle.tsa_tree.specs.declared.expr.BinaryOp.TheVariants as op
-use Rattle.tsa_tree.specs.expressions.Syntax.{Identifier, Expression, number, null, named, call, unary, binary, field, index, none, more, nowhere, plain}
+use Rattle.tsa_tree.specs.expressions.Syntax.{Identifier, Expression, number, null, named, call, unary, binary, field, index, none, more}
+use Rattle.tsa_tree.specs.expressions.Syntax.{nowhere, plain}
 use Rattle.tsa_tree.specs.Rows as rows
 use Rattle.tsa_tree.specs.Rows.{expression, operand}
 use Rattle.tsa_tree.specs.Reads.{read}

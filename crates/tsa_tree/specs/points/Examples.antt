@@ -7,7 +7,8 @@ use Rattle.tsa_tree.specs.declarations.Examples.{alone, unset}
 use Rattle.tsa_tree.specs.declarations.Syntax.{int}
 use Rattle.tsa_tree.specs.expressions.Examples.{bytes}
 use Rattle.tsa_tree.specs.statements.Plain.{plain_statement}
-use Rattle.tsa_tree.specs.points.Syntax.{Deed, declares, evaluates, assigns, tests, switches, jumps, idles, returns, ends, points_of, points_of_body}
+use Rattle.tsa_tree.specs.points.Syntax.{Deed, declares, evaluates, assigns, tests, switches, jumps, idles, returns, ends, points_of}
+use Rattle.tsa_tree.specs.points.Syntax.{points_of_body}
 use Rattle.tsa_tree.specs.Reads.{read}
 use Rattle.tsa_tree.specs.Rows.{a_statement, statement}
 use Rattle.tsa_tree.specs.statements.Examples.{a, b}

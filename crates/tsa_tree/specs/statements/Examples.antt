@@ -14,7 +14,9 @@ use Rattle.tsa_tree.specs.expressions.Syntax as args
 use Rattle.tsa_tree.specs.statements.Plain.{plain_statement}
 use Rattle.tsa_tree.specs.Reads.{read}
 use Rattle.tsa_tree.specs.Rows.{a_statement, statement}
-use Rattle.tsa_tree.specs.statements.Syntax.{Simple, evaluation, assignment, no_init, simple_init, local_init, Statement, block, empty, local, simple, if_alone, if_else, while_loop, do_loop, for_loop, switch, case, otherwise, label, break, continue, goto, return, Statements, none, more}
+use Rattle.tsa_tree.specs.statements.Syntax.{Simple, evaluation, assignment, no_init, simple_init, local_init, Statement, block, empty}
+use Rattle.tsa_tree.specs.statements.Syntax.{local, simple, if_alone, if_else, while_loop, do_loop, for_loop, switch, case, otherwise}
+use Rattle.tsa_tree.specs.statements.Syntax.{label, break, continue, goto, return, Statements, none, more}
 use Rattle.tsa_grammar.specs.Reading.{syntax, deep, refuse, Outcome}
 
 abbrev spanless : Outcome Statement → Outcome Statement

@@ -2,7 +2,9 @@
 use Rattle.std.specs.Prelude.{option_map}
 use Rattle.tsa_tree.specs.expressions.Syntax.{plain, plain_name, nowhere}
 use Rattle.tsa_tree.specs.declarations.Plain.{plain_declaration}
-use Rattle.tsa_tree.specs.statements.Syntax.{Simple, evaluation, assignment, ForInit, no_init, simple_init, local_init, Statement, block, empty, local, simple, if_alone, if_else, while_loop, do_loop, for_loop, switch, case, otherwise, label, break, continue, goto, return, Statements, none, more}
+use Rattle.tsa_tree.specs.statements.Syntax.{Simple, evaluation, assignment, ForInit, no_init, simple_init, local_init, Statement, block}
+use Rattle.tsa_tree.specs.statements.Syntax.{empty, local, simple, if_alone, if_else, while_loop, do_loop, for_loop, switch, case}
+use Rattle.tsa_tree.specs.statements.Syntax.{otherwise, label, break, continue, goto, return, Statements, none, more}
 
 abbrev pub plain_simple : Simple → Simple
 plain_simple (evaluation tree span) = evaluation (plain tree) nowhere

@@ -4,17 +4,21 @@ use Rattle.std.specs.declared.option.Option.{Option}
 use Rattle.std.specs.Borrow.{Bor}
 use Rattle.tsa_base.specs.declared.token.Span.{Span}
 use Rattle.tsa_tree.specs.declared.stmt.StmtKind.{StmtKind, Held-StmtKind-If-2, None', Some', Row_of-Stmt, end_of-Stmt, more_of-Stmt}
-use Rattle.tsa_tree.specs.declared.stmt.StmtKind.TheVariants.{Block', Empty, Local, Eval, Assign, If', While', DoWhile', For', Switch', Case', Otherwise', Label', Break, Continue, Goto, Return}
+use Rattle.tsa_tree.specs.declared.stmt.StmtKind.TheVariants.{Block', Empty, Local, Eval, Assign, If', While', DoWhile', For', Switch'}
+use Rattle.tsa_tree.specs.declared.stmt.StmtKind.TheVariants.{Case', Otherwise', Label', Break, Continue, Goto, Return}
 use Rattle.tsa_tree.specs.declared.stmt.Stmt.{Stmt}
 use Rattle.tsa_tree.specs.declared.stmt.Point.{Point}
 use Rattle.tsa_tree.specs.declared.stmt.Action.{Action}
 use Rattle.tsa_tree.specs.declared.stmt.Action.TheVariants as action
 use Rattle.tsa_tree.specs.declared.stmt.Action.TheVariants.{Declare, Test, Switch, Jump, Idle, End}
 use Rattle.tsa_tree.specs.expressions.Syntax.{Expression}
-use Rattle.tsa_tree.specs.points.Syntax.{Deed, declares, evaluates, assigns, tests, switches, jumps, idles, returns, ends, PlacedDeed, points_of}
+use Rattle.tsa_tree.specs.points.Syntax.{Deed, declares, evaluates, assigns, tests, switches, jumps, idles, returns, ends, PlacedDeed}
+use Rattle.tsa_tree.specs.points.Syntax.{points_of}
 use Rattle.tsa_tree.specs.expressions.Shapes.{name_shape, shape}
 use Rattle.tsa_tree.specs.declarations.Shapes.{decl_shape}
-use Rattle.tsa_tree.specs.statements.Syntax.{Simple, evaluation, assignment, ForInit, no_init, simple_init, local_init, Statement, block, empty, local, simple, if_alone, if_else, while_loop, do_loop, for_loop, switch, case, otherwise, label, break, continue, goto, return, Statements, none, more}
+use Rattle.tsa_tree.specs.statements.Syntax.{Simple, evaluation, assignment, ForInit, no_init, simple_init, local_init, Statement, block}
+use Rattle.tsa_tree.specs.statements.Syntax.{empty, local, simple, if_alone, if_else, while_loop, do_loop, for_loop, switch, case}
+use Rattle.tsa_tree.specs.statements.Syntax.{otherwise, label, break, continue, goto, return, Statements, none, more}
 
 -- a statement that is the first or the third part of a `for`: neither has a `;` of its own
 abbrev pub init_of : StmtKind → Span → ForInit

@@ -46,8 +46,8 @@ fails TY1 (node.member_name c base arrow used) =
 fails TY1 (node.tag here used) = is_none (found here.tags used.text)
 fails TY1 (node.type_name here used) = not (known_and is_type_name (found here.names used.text))
 -- TY2: what is declared was declared before, or hides a name in scope (C11 6.7p3): a tag or a name of a type, an enumerator, a member, a
--- global, a parameter, a local; a function differs from its first declaration or has two bodies (C11 6.7p4, 6.9p3, p5); a label, the value of
--- a case or a default stands there twice (C11 6.8.1p3, 6.8.4.2p3).
+-- global, a parameter, a local; a function differs from its first declaration or has two bodies (C11 6.7p4, 6.9p3, p5); a label, the value
+-- of a case or a default stands there twice (C11 6.8.1p3, 6.8.4.2p3).
 fails TY2 (node.structure here tag alias span) = other_struct (length here.structs) (tag_in here tag) || is_named_taken alias here
 fails TY2 (node.member here before d) = is_some (found before d.name.text)
 fails TY2 (node.enumeration here tag alias values span) =
@@ -71,7 +71,8 @@ fails TY3 (node.assignment c left op right span) = assignment_breaks op (written
 -- .. a test is no scalar or a switch's value no integer (C11 6.8.4.1p1, 6.8.4.2p1, 6.8.5p2) ..
 fails TY3 (node.test c e span) = lacks is_scalar (type_of c e)
 fails TY3 (node.switch_value c e span) = lacks is_integer (type_of c e)
--- .. or what is declared has none of the types that it may have (C11 6.7.2 to 6.7.6), or a local's initialiser can't go to it (C11 6.7.9p11).
+-- .. or what is declared has none of the types that it may have (C11 6.7.2 to 6.7.6), or a local's initialiser can't go to it (C11
+-- 6.7.9p11).
 fails TY3 (node.member here before d) = is_refused here declaring.Thing (resolve here d.ctype)
 fails TY3 (node.alias here name t span) = is_refused here declaring.Type (resolve here t)
 fails TY3 (node.global here d) = is_refused here declaring.Thing (resolve here d.ctype)
@@ -86,8 +87,8 @@ fails TY5 (node.left_side c e) = lacks is_written_to (type_of c e)
 -- TY6: an attribute stands on another kind of thing, or an argument is no lock and no pointer to one.
 fails TY6 (node.attribute bearer a) = not (stands_on a.kind bearer)
 fails TY6 (node.lock here e) = known_and (λ t. not (is_lock_type here t)) (type_of (context_of here) e)
--- TY7: a `case` or a `default` stands in no switch, a `goto` has no label, a `break` no loop or switch round it, a `continue` no loop (C11 6.8.1p2,
--- 6.8.6).
+-- TY7: a `case` or a `default` stands in no switch, a `goto` has no label, a `break` no loop or switch round it, a `continue` no loop (C11
+-- 6.8.1p2, 6.8.6).
 fails TY7 (node.case a c key span) = not a.in_switch
 fails TY7 (node.default a span) = not a.in_switch
 fails TY7 (node.goto a name span) = not (is_some (found a.labels name.text))
@@ -95,8 +96,9 @@ fails TY7 (node.break a span) = not (a.in_loop || a.in_switch)
 fails TY7 (node.continue a span) = not a.in_loop
 -- TY8: a value is given in a `void` function, none in another, or one that can't go to the result (C11 6.8.6.4).
 fails TY8 (node.return c result given span) = return_breaks c result given
--- TY9: a length isn't constant or isn't 1 to 65,536 (C11 6.7.6.2), an enumerator isn't constant or leaves `int` (C11 6.7.2.2p2), the value of a
--- case isn't constant (C11 6.8.4.2p3), or a global's initialiser isn't constant, can't go to its cell or doesn't fit the shape (C11 6.7.9p2, p4, p11).
+-- TY9: a length isn't constant or isn't 1 to 65,536 (C11 6.7.6.2), an enumerator isn't constant or leaves `int` (C11 6.7.2.2p2), the value
+-- of a case isn't constant (C11 6.8.4.2p3), or a global's initialiser isn't constant, can't go to its cell or doesn't fit the shape (C11
+-- 6.7.9p2, p4, p11).
 fails TY9 (node.length c e) = known_and (λ t. not (is_some (length_in (constant_of c e)))) (type_of c e)
 fails TY9 (node.enumerator here count e) = counts_out e.value count
 fails TY9 (node.enumerator_value c e) = known_and (λ t. not (is_some (int_value (constant_of c e)))) (type_of c e)

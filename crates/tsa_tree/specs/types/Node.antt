@@ -45,7 +45,8 @@ pub data Node : Type 0 where
   -- Initialisers of the global of a number (C11 6.7.9): an expression for a cell, and a list for what has parts.
   cell : (c : Context) (own : ℕ) (thing : ThingType) (e : Expression) → Node
   list : (here : Scope) (thing : Option ThingType) (items : Initialisers) (span : Span) → Node
-  -- Statements (C11 6.8): an assignment and its left side, the test of an `if` or of a loop, the value of a `switch`, and jumps with where they go.
+  -- Statements (C11 6.8): an assignment and its left side, the test of an `if` or of a loop, the value of a `switch`, and jumps with where
+  -- they go.
   assignment : (c : Context) (left : Expression) (op : Option BinaryOp) (right : Expression) (span : Span) → Node
   left_side : (c : Context) (e : Expression) → Node
   test : (c : Context) (e : Expression) (span : Span) → Node
@@ -59,8 +60,8 @@ pub data Node : Type 0 where
   continue : (around : Around) (span : Span) → Node
   return : (c : Context) (result : ThingType) (given : Option Expression) (span : Span) → Node
 
--- Where a node is told: a declaration at its declarator, a function and an enumerator at their names, the others where they are written. A test or
--- the value of a `switch` is told at its statement.
+-- Where a node is told: a declaration at its declarator, a function and an enumerator at their names, the others where they are written. A
+-- test or the value of a `switch` is told at its statement.
 unfoldable pub told_at : Node → Span
 told_at (name c used) = used.span
 told_at (call c callee args span) = span

@@ -4,10 +4,13 @@ use Rattle.std.specs.Prelude.{ℕ, suc, ℤ, pos, ◌+ℤ◌, Bool, true, false,
 use Rattle.tsa_base.specs.declared.token.Span.{Span}
 use Rattle.tsa_tree.specs.attributes.Syntax.{Attribute}
 use Rattle.tsa_tree.specs.declarations.Syntax as declared
-use Rattle.tsa_tree.specs.declarations.Syntax.{Base, DeclaredType, Initialiser, Initialisers, value, list, no_more, one_more, Declaration, Parameter, EnumConstant, Head}
+use Rattle.tsa_tree.specs.declarations.Syntax.{Base, DeclaredType, Initialiser, Initialisers, value, list, no_more, one_more, Declaration}
+use Rattle.tsa_tree.specs.declarations.Syntax.{Parameter, EnumConstant, Head}
 use Rattle.tsa_tree.specs.expressions.Syntax as args
 use Rattle.tsa_tree.specs.expressions.Syntax.{Identifier, Expression, Arguments, number, null, named, call, unary, binary, field, index}
-use Rattle.tsa_tree.specs.statements.Syntax.{Simple, evaluation, assignment, ForInit, no_init, simple_init, local_init, Statement, block, empty, local, simple, if_alone, if_else, while_loop, do_loop, for_loop, switch, case, otherwise, label, break, continue, goto, return, Statements, none, more}
+use Rattle.tsa_tree.specs.statements.Syntax.{Simple, evaluation, assignment, ForInit, no_init, simple_init, local_init, Statement, block}
+use Rattle.tsa_tree.specs.statements.Syntax.{empty, local, simple, if_alone, if_else, while_loop, do_loop, for_loop, switch, case}
+use Rattle.tsa_tree.specs.statements.Syntax.{otherwise, label, break, continue, goto, return, Statements, none, more}
 use Rattle.tsa_tree.specs.units.Syntax.{UnitItem, structure_item, alias_item, enumeration_item, global_item, function_item, body_item}
 use Rattle.tsa_tree.specs.declared.premise.Bearer.TheVariants as on
 use Rattle.tsa_tree.specs.types.Attributes.{Bearer, attributes_beside}
@@ -95,7 +98,8 @@ nodes_in_enumerators here count (e ∷ rest) =
     (node.enumerator here count e ∷ nodes_in_value (context_of here) e.value)
     ++ nodes_in_enumerators (with_name e.name.text (enumerator_entry (enumerator_value here e count)) here) (enumerator_value here e count +ℤ pos 1) rest
 
--- An expression that initialises a cell, in the initialiser of the global of a number; of what is beyond the parts of a thing, its own nodes alone.
+-- An expression that initialises a cell, in the initialiser of the global of a number; of what is beyond the parts of a thing, its own
+-- nodes alone.
 abbrev pub nodes_in_cell : Context → ℕ → Option ThingType → Expression → List Node
 nodes_in_cell c own None e = nodes_in c e
 nodes_in_cell c own (Some thing) e = node.cell c own thing e ∷ nodes_in c e
@@ -170,8 +174,8 @@ abbrev pub nodes_in_given : Context → Option Expression → List Node
 nodes_in_given c None = []
 nodes_in_given c (Some e) = nodes_in c e
 
--- The test of a `for`, which is told at the statement, before its parts. Where its local is declared again it isn't said which of the two the
--- test means, and there is no such node.
+-- The test of a `for`, which is told at the statement, before its parts. Where its local is declared again it isn't said which of the two
+-- the test means, and there is no such node.
 abbrev pub for_test : Bool → Context → Option Expression → Span → List Node
 for_test again c None span = []
 for_test true c (Some e) span = []
@@ -195,7 +199,8 @@ nodes_in_for here init test step span =
     ++ (nodes_in_for_init here init
     ++ (nodes_in_given (context_of (behind_init here init)) test ++ nodes_in_step (context_of (behind_init here init)) step))
 
--- The nodes of a statement, with what is round it (C11 6.8): a `break` inside a loop or a switch goes behind it, and a `case` belongs to the switch.
+-- The nodes of a statement, with what is round it (C11 6.8): a `break` inside a loop or a switch goes behind it, and a `case` belongs to
+-- the switch.
 unfoldable mutual
   pub nodes_in_statement : Around → Scope → Statement → List Node
   nodes_in_statement a here (block items span) = nodes_in_statements a here items

@@ -7,7 +7,8 @@ use Rattle.tsa_tree.specs.expressions.Sound.{is_name, is_tag_name}
 use Rattle.tsa_tree.specs.expressions.Syntax.{Identifier}
 use Rattle.tsa_tree.specs.statements.Sound.{SoundStatements}
 use Rattle.tsa_tree.specs.tokens.Signs.{Aliases}
-use Rattle.tsa_tree.specs.units.Syntax.{UnitItem, structure_item, alias_item, enumeration_item, global_item, function_item, body_item, names_of_item}
+use Rattle.tsa_tree.specs.units.Syntax.{UnitItem, structure_item, alias_item, enumeration_item, global_item, function_item, body_item}
+use Rattle.tsa_tree.specs.units.Syntax.{names_of_item}
 
 abbrev pub SoundTag : Option Identifier → Type 0
 SoundTag None = Unit {0}

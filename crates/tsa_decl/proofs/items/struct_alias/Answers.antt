@@ -2,7 +2,8 @@ use Rattle.std.proofs.Common.{◌∙◌, sym, ap, rules}
 use Rattle.tsa_tree.specs.Rows.{is_attribute_sign}
 use Rattle.tsa_expr.proofs.Answering.{gives_same}
 use Rattle.tsa_decl.proofs.BodyLaws.{gives_failed}
-use Rattle.tsa_decl.proofs.TagLaws.{fresh_fails, fresh_goes, struct_alias_unmarked, struct_alias_unopened, struct_alias_named, struct_alias_marked, struct_alias_bodied}
+use Rattle.tsa_decl.proofs.TagLaws.{fresh_fails, fresh_goes, struct_alias_unmarked, struct_alias_unopened, struct_alias_named}
+use Rattle.tsa_decl.proofs.TagLaws.{struct_alias_marked, struct_alias_bodied}
 use Rattle.tsa_decl.proofs.items.struct_alias.Goals as goal
 
 pub returns-in_err-attrs-clause-gives : goal.returns-in_err-attrs-clause-gives

@@ -1,10 +1,13 @@
-use Rattle.std.proofs.Common.{◌∙◌, ◌≡◌, ◌<◌, ℕ, ap, arith, inl, inr, length, length-set, get_or-set_same, get_or-set_other, subst, sym, true≢false}
+use Rattle.std.proofs.Common.{◌∙◌, ◌≡◌, ◌<◌, ℕ, ap, arith, inl, inr, length, length-set, get_or-set_same, get_or-set_other, subst, sym}
+use Rattle.std.proofs.Common.{true≢false}
 use Rattle.tsa_flow_solver.specs.Passing.{IsPassed, IsPending, Passes, passes, stays}
 use Rattle.tsa_flow_solver.specs.Rows.{no_statuses, set_at}
 use Rattle.tsa_flow_solver.proofs.Pending.{done_on, rest_on}
 use Rattle.tsa_flow_solver.proofs.Still.{is_among, not_among}
 use Rattle.tsa_flow_solver.proofs.passing.pass_pending.Goals as goal
-use Rattle.tsa_flow_solver.proofs.passing.pass_pending.Goals.{then-is_pending+then-not-is_among, else-is_pending, else-is_pending-via-then-is_pending+else-not-is_among, else-is_pending-via-else-is_pending}
+use Rattle.tsa_flow_solver.proofs.passing.pass_pending.Goals.{then-is_pending+then-not-is_among, else-is_pending}
+use Rattle.tsa_flow_solver.proofs.passing.pass_pending.Goals.{else-is_pending-via-then-is_pending+else-not-is_among}
+use Rattle.tsa_flow_solver.proofs.passing.pass_pending.Goals.{else-is_pending-via-else-is_pending}
 
 pub lanes-preserved : goal.lanes-preserved
 lanes-preserved g c = record {

@@ -1,6 +1,7 @@
 use Rattle.std.proofs.Common.{ap, arith, length, subst, sym}
 use Rattle.tsa_graph.specs.Placing.{AreSmall}
-use Rattle.tsa_graph.proofs.InARow.{are_blocks, are_formed, are_small, blocks_by, blocks_inside, exits_by, froms_by, froms_inside, placed_by}
+use Rattle.tsa_graph.proofs.InARow.{are_blocks, are_formed, are_small, blocks_by, blocks_inside, exits_by, froms_by, froms_inside}
+use Rattle.tsa_graph.proofs.InARow.{placed_by}
 use Rattle.tsa_graph.proofs.rows.blocks_of.Goals as goal
 
 pub places_of-requires : goal.places_of-requires

@@ -1,4 +1,5 @@
-use Rattle.tsa_place_model.proofs.Leading.{places_are_led_to, what_is_led_to_bears, members_have_places, elements_have_places, places_have_one_way}
+use Rattle.tsa_place_model.proofs.Leading.{places_are_led_to, what_is_led_to_bears, members_have_places, elements_have_places}
+use Rattle.tsa_place_model.proofs.Leading.{places_have_one_way}
 use Rattle.tsa_place_model.proofs.TextsTell.{texts_tell}
 use Rattle.tsa_place_model.proofs.leading_laws.places_have_one_way_and_text.Goals as goal
 

@@ -3,7 +3,8 @@ use Rattle.std.proofs.lemmas.List.{append_assoc, append-nil, drop_all}
 use Rattle.tsa_tree.specs.expressions.Syntax.{height}
 use Rattle.tsa_tree.specs.expressions.Shapes.{shape, shapes}
 use Rattle.tsa_tree.proofs.expressions.Trees.{call_at}
-use Rattle.tsa_print.proofs.WrittenParts.{written_call, written_unary, written_binary, written_field, written_index, written_arguments, listed}
+use Rattle.tsa_print.proofs.WrittenParts.{written_call, written_unary, written_binary, written_field, written_index, written_arguments}
+use Rattle.tsa_print.proofs.WrittenParts.{listed}
 use Rattle.tsa_print.proofs.print.+printing.Goals as goal
 
 pub write_arguments-returns : goal.write_arguments-returns

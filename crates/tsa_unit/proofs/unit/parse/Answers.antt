@@ -1,4 +1,5 @@
-use Rattle.tsa_unit.proofs.ParsedLaws.{parsed_is, all_well_read, all_found, few, broken, refused_out, refused_lacking, too_deep, no_unit, too_many, too_long, no_other}
+use Rattle.tsa_unit.proofs.ParsedLaws.{parsed_is, all_well_read, all_found, few, broken, refused_out, refused_lacking, too_deep, no_unit}
+use Rattle.tsa_unit.proofs.ParsedLaws.{too_many, too_long, no_other}
 use Rattle.tsa_tree.specs.tokens.Signs.{lexemes}
 use Rattle.tsa_tree.proofs.tokens.Texts.{text_near}
 use Rattle.tsa_unit.proofs.Texts.{text_room}

@@ -5,7 +5,8 @@ use Rattle.tsa_rules.specs.Points.{points_of}
 use Rattle.tsa_rules_view.specs.declared.content.RuleView.{RuleView}
 use Rattle.tsa_warn_function.proofs.Notes.{of_mark, of_none, some_there}
 use Rattle.tsa_warn_function.proofs.marks.note_mark.Goals as goal
-use Rattle.tsa_warn_function.proofs.marks.note_mark.Goals.{else-entry-rows-via-then-entry-rows+else-entry-caps, else-entry-rows-via-else-entry-rows}
+use Rattle.tsa_warn_function.proofs.marks.note_mark.Goals.{else-entry-rows-via-then-entry-rows+else-entry-caps}
+use Rattle.tsa_warn_function.proofs.marks.note_mark.Goals.{else-entry-rows-via-else-entry-rows}
 
 pub returns-then-entry-caps : goal.returns-then-entry-caps
 returns-then-entry-caps c = on_ok_weaker c.note_rules.result

@@ -1,4 +1,5 @@
-use Rattle.std.proofs.Common.{◌∙◌, ◌++◌, ◌∷◌, ◌<◌, ◌≤◌, ◌≡◌, [], OnOk, arith, length, map, refl, slice_index_or, slice_set, sym, ap, subst, vec_len}
+use Rattle.std.proofs.Common.{◌∙◌, ◌++◌, ◌∷◌, ◌<◌, ◌≤◌, ◌≡◌, [], OnOk, arith, length, map, refl, slice_index_or, slice_set, sym, ap, subst}
+use Rattle.std.proofs.Common.{vec_len}
 use Rattle.std.proofs.Math.Decide.{dec_lt}
 use Rattle.std.proofs.lemmas.List.{length-map, set_past}
 use Rattle.std.proofs.lemmas.Result.{on_ok_weaker}

@@ -12,7 +12,8 @@ use Rattle.tsa_tree.specs.types.Premises.{first}
 use Rattle.tsa_tree.specs.types.Scopes.{context_of}
 use Rattle.tsa_tree.specs.types.Statements.{statement_premises, behind}
 use Rattle.tsa_tree.specs.types.Targets.{declared_in}
-use Rattle.tsa_types_statements.proofs.StatementLaws.{block_wrong, block_behind, do_stops, do_goes, for_goes, statements_end, behind_end, statements_stop, statements_next, behind_next}
+use Rattle.tsa_types_statements.proofs.StatementLaws.{block_wrong, block_behind, do_stops, do_goes, for_goes, statements_end, behind_end}
+use Rattle.tsa_types_statements.proofs.StatementLaws.{statements_stop, statements_next, behind_next}
 use Rattle.tsa_tree.proofs.statements.Trees.{tall, talls, shape_of, block_at}
 use Rattle.tsa_types_statements.proofs.walk.Walk.+stating.Goals as goal
 use Rattle.tsa_base.proofs.Numbers.{plus_one}
