@@ -5,7 +5,10 @@ use std::alloc::Global;
 use std::io;
 use std::io::{Read, Write};
 use std::test::Fail;
-use tsa_base::{HonestSink, HonestSource, LineStarts, MemorySink, MemorySource, PushTrouble, ReadTrouble, ReaderSource, Sink, WriterSink, read_all, write_all};
+use tsa_base::{
+    HonestSink, HonestSource, LineStarts, MemorySink, MemorySource, PushTrouble, ReadTrouble,
+    ReaderSource, Sink, WriterSink, read_all, write_all,
+};
 use tsa_tool::tool;
 
 // The five lines and a body that takes the lock, writes the number, and gives the lock back: 199 bytes.

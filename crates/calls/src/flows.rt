@@ -10,13 +10,13 @@ use std::alloc::Global;
 use std::test::Fail;
 use tsa_base::NoMemory;
 use tsa_flow_function::{FunctionFlow, flow_of};
-use tsa_rules_table::Numbers;
 use tsa_path::{Named, PathTable};
 use tsa_place::Places;
 use tsa_profile::Fit;
 use tsa_rules::Statuses;
-use tsa_warn_text::PathTexts;
+use tsa_rules_table::Numbers;
 use tsa_warn_function::{RuleFailure, warnings_of};
+use tsa_warn_text::PathTexts;
 
 // What the unit's functions see of it.
 const NAMES: Caller = Caller {

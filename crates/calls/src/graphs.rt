@@ -5,14 +5,14 @@ use crate::units::{Row, Shown, others};
 use std::alloc::Global;
 use std::test::Fail;
 use tsa_base::NoMemory;
-use tsa_graph::{GraphBlock, Edge, Graph, graph_of_body};
+use tsa_graph::{Edge, Graph, GraphBlock, graph_of_body};
 use tsa_graph_edges::Outcome;
-use tsa_warn_text::body_names;
 use tsa_path::Named;
-use tsa_types_scope::{Scope, outset};
 use tsa_tree::Parsed;
 use tsa_tree::item::FnTree;
 use tsa_tree::kind::Kind;
+use tsa_types_scope::{Scope, outset};
+use tsa_warn_text::body_names;
 
 // How a point is left, by a letter.
 fn put_outcome(out: &mut Vec<u8>, outcome: Outcome) -> Result<(), Fail> {

@@ -2,8 +2,8 @@
 
 use crate::texts::put;
 use std::test::Fail;
-use tsa_warn_text::{Held, Subject, push_held, push_warning};
 use tsa_rules::{Statuses, rule_of};
+use tsa_warn_text::{Held, Subject, push_held, push_warning};
 
 // What the rule of a number says of a lock `m 'a'` in a function `f`.
 fn put_rule(out: &mut Vec<u8>, number: u32) -> Result<(), Fail> {

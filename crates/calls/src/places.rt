@@ -6,8 +6,8 @@ use crate::units::{Row, Shown, others};
 use std::alloc::Global;
 use std::test::Fail;
 use tsa_base::Value;
-use tsa_place_model::{Guard, PlaceKind};
 use tsa_place::Places;
+use tsa_place_model::{Guard, PlaceKind};
 
 // A word, where something is so.
 fn put_if(out: &mut Vec<u8>, so: bool, word: &[u8]) -> Result<(), Fail> {

@@ -58,8 +58,7 @@ pub fn read_groups<'a>(
     depth: u32,
 ) -> Result<(&'a [Attr<'a>], u32), SyntaxRefusal>
     requires within { at ≤ length reader.tokens.now }
-    ensures gives { Gives (λ found. (attr_shapes found.0.now, found.1)) result (read_any (input reader.entry) (named reader.entry) depth at)
-        }
+    ensures gives { Gives (λ found. (attr_shapes found.0.now, found.1)) result (read_any (input reader.entry) (named reader.entry) depth at) }
     ensures ends { IfOk result (λ found. (at ≤ found.1) × (found.1 ≤ length reader.entry.tokens.now)) }
 {
     if !begins_group(reader.sign(at)) {

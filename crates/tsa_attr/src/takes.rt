@@ -91,8 +91,7 @@ fn expression<'a>(
     name: AttributeName,
     depth: u32,
 ) -> Result<Reading<'a>, SyntaxRefusal>
-    ensures gives { Gives seen result (arguments_at (input reader.entry) (named reader.entry) depth name.kind name.at takes.one_expression)
-        }
+    ensures gives { Gives seen result (arguments_at (input reader.entry) (named reader.entry) depth name.kind name.at takes.one_expression) }
     ensures ends { IfOk result (λ r. IsBehind reader.entry name.at r.next) }
 {
     let inner = reader.expression(name.at + 1 + 1, depth, 0)?;

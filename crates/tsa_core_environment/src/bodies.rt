@@ -17,9 +17,9 @@ use crate::table::Table;
 use std::alloc::Global;
 use tsa_base::NoMemory;
 use tsa_core_points::{Walk, body_steps, stable_locals};
-use tsa_types_scope::{Scope, outset};
 use tsa_tree::item::{FnTree, Item};
 use tsa_tree::stmt::Stmt;
+use tsa_types_scope::{Scope, outset};
 
 /// The locals of a body that never change, along a walk through it. Where its end is said to stand makes no difference.
 fn stable_along<'a>(

@@ -9,11 +9,11 @@ ghost use Rattle.tsa_tree.specs.types.Premises.{first};
 ghost use Rattle.tsa_tree.specs.types.Scopes.{Scope as Known, found, with_names, with_locals, is_named_taken};
 
 use tsa_base::NoMemory;
-use tsa_place_layout::declared_thing;
-use tsa_types_scope::{FunctionTypes, Scope, next_number};
+use tsa_place::declared_thing;
 use tsa_tree::item::{FnTree, Param};
 use tsa_tree::kind::ThingType;
 use tsa_tree::meaning::{Entry, Meaning};
+use tsa_types_scope::{FunctionTypes, Scope, next_number};
 
 /// What is left where a function ends: how many names are known behind its head, and how many locals there were before it.
 #[derive(Clone, Copy)]

@@ -14,12 +14,12 @@ ghost use Rattle.tsa_tree.specs.units.Shapes.{item_shape};
 use crate::heads::know_head;
 use crate::members::know_struct;
 use tsa_base::NoMemory;
-use tsa_place_layout::declared_thing;
-use tsa_types_scope::Scope;
+use tsa_place::declared_thing;
 use tsa_tree::decl::Decl;
 use tsa_tree::item::{AliasDef, EnumDef, Item};
 use tsa_tree::kind::Declaring;
 use tsa_tree::meaning::{Entry, Meaning};
+use tsa_types_scope::Scope;
 
 /// A name of a type that is typed, which is known behind its item.
 pub fn know_alias<'a>(scope: &mut Scope<'a>, def: &AliasDef<'a>) -> Result<(), NoMemory>

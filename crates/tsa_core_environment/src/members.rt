@@ -10,14 +10,14 @@ ghost use Rattle.tsa_tree.specs.types.Scopes.{with_owned};
 ghost use Rattle.tsa_tree.specs.types.Structs.{struct_premises, behind_struct};
 
 use tsa_base::NoMemory;
-use tsa_types_declarations::a_type_name;
-use tsa_place_layout::declared_thing;
-use tsa_types_operators::single;
-use tsa_types_scope::{Names, Scope};
+use tsa_place::declared_thing;
 use tsa_tree::decl::Decl;
 use tsa_tree::expr::Name;
 use tsa_tree::item::StructDef;
 use tsa_tree::kind::{Kind, ThingType};
+use tsa_types_declarations::a_type_name;
+use tsa_types_operators::single;
+use tsa_types_scope::{Names, Scope};
 
 /// A member behind others, which is known by its name from then on.
 fn next_member<'a>(

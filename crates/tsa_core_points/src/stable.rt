@@ -9,13 +9,13 @@ ghost use Rattle.tsa_core_points.specs.Steps.{step_shape};
 ghost use Rattle.tsa_core_points.specs.Stable.{local_number, stable_at, stable_along};
 ghost use Rattle.tsa_core_points.specs.Walks.{walk_behind};
 
+use crate::Step;
 use crate::walk::Walk;
 use tsa_base::NoMemory;
-use tsa_types_scope::Scope;
-use crate::Step;
 use tsa_tree::expr::{Expr, ExprKind};
 use tsa_tree::meaning::Meaning;
 use tsa_tree::stmt::Action;
+use tsa_types_scope::Scope;
 
 /// The number of the local that a name means; of nothing else.
 fn local_named(scope: &Scope<'_>, text: &[u8]) -> Option<u32>

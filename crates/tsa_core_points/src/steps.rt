@@ -224,8 +224,7 @@ fn put_nested<'a>(steps: &mut Vec<Step<'a>>, stmt: &'a Stmt<'a>) -> Result<(), N
 /// The steps of a block, whose names end with it.
 #[cycle(stepping)]
 fn put_block<'a>(steps: &mut Vec<Step<'a>>, items: &'a [Stmt<'a>]) -> Result<(), NoMemory>
-    ensures { OnOk result (map step_shape steps.new.items ≡ map step_shape steps.old.items ++ nested (steps_of_all (stmt_shapes items.now)))
-        }
+    ensures { OnOk result (map step_shape steps.new.items ≡ map step_shape steps.old.items ++ nested (steps_of_all (stmt_shapes items.now))) }
 {
     put_open(steps)?;
     put_all(steps, items)?;

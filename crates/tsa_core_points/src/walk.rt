@@ -7,14 +7,14 @@ ghost use Rattle.tsa_tree.specs.types.Scopes.{with_locals};
 ghost use Rattle.tsa_core_points.specs.Steps.{opens, closes, step_shape};
 ghost use Rattle.tsa_core_points.specs.Walks.{walk, behind_deed, pass};
 
+use crate::Step;
 use std::marker::Model;
 use tsa_base::NoMemory;
 use tsa_place_layout::declared_thing;
-use tsa_types_scope::Scope;
-use crate::Step;
 use tsa_tree::decl::Decl;
 use tsa_tree::meaning::{Entry, Meaning};
 use tsa_tree::stmt::Action;
+use tsa_types_scope::Scope;
 
 /// Declares a local, which is known from behind its declaration on; one whose name is taken only counts.
 fn declare<'a>(scope: &mut Scope<'a>, decl: &Decl<'a>) -> Result<(), NoMemory>

@@ -16,8 +16,10 @@ use crate::lists::members;
 use crate::nodes::{keep_alias, keep_enumeration, keep_structure};
 use bumpalo::Bump;
 use tsa_attr::read_more;
+use tsa_decl_declarators::{
+    Specified, ctype, declarator_at, listed, name, open_brace, semicolon, tag,
+};
 use tsa_expr::{Reader, SyntaxRefusal};
-use tsa_decl_declarators::{Specified, ctype, declarator_at, listed, name, open_brace, semicolon, tag};
 use tsa_tree::attr::Attr;
 use tsa_tree::decl::Decl;
 use tsa_tree::expr::Name;

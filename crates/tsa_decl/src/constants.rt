@@ -10,8 +10,8 @@ ghost use Rattle.tsa_decl.specs.Outcomes.{constant_at as spec_constant};
 ghost use Rattle.tsa_decl.specs.Readings.{seen_constant};
 
 use bumpalo::Bump;
-use tsa_expr::{Reader, SyntaxCode, SyntaxRefusal, refuse};
 use tsa_decl_declarators::{is_close_brace_at, keep, listed, name, open_brace};
+use tsa_expr::{Reader, SyntaxCode, SyntaxRefusal, refuse};
 use tsa_tree::item::Enumerator;
 use tsa_tree::sign::Sign;
 

@@ -17,8 +17,10 @@ ghost use Rattle.tsa_decl.specs.Readings.{seen_parameter, seen_signature, row_si
 use bumpalo::Bump;
 use tsa_attr::read_groups;
 use tsa_base::Span;
+use tsa_decl_declarators::{
+    Declarator, Specified, Star, ctype, declarator_at, keep, listed, open, specifier, star_at,
+};
 use tsa_expr::{Reader, SyntaxCode, SyntaxRefusal, refuse};
-use tsa_decl_declarators::{Declarator, Specified, Star, ctype, declarator_at, keep, listed, open, specifier, star_at};
 use tsa_tree::attr::Attr;
 use tsa_tree::decl::CType;
 use tsa_tree::expr::Name;

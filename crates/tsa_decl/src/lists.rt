@@ -14,8 +14,10 @@ ghost use Rattle.tsa_decl_declarators.specs.Readings.{row_type, row_declarator};
 
 use crate::nodes::{cut_if_refused, keep_global, length_of};
 use bumpalo::Bump;
+use tsa_decl_declarators::{
+    Declarator, Role, Specified, declarator_at, declared_rest, is_close_brace_at, keep, specifier,
+};
 use tsa_expr::{Reader, SyntaxRefusal};
-use tsa_decl_declarators::{Declarator, Role, Specified, declarator_at, declared_rest, is_close_brace_at, keep, specifier};
 use tsa_tree::decl::Decl;
 use tsa_tree::item::Item;
 

@@ -2,8 +2,8 @@
 ghost use Rattle.std.specs.Prelude.{◌≡◌, ◌++◌, ◌∷◌, [], length, take, OnOk, OnErr, Err};
 
 use std::alloc::Allocator;
-use tsa_expr::SyntaxRefusal;
 use tsa_decl_declarators::keep;
+use tsa_expr::SyntaxRefusal;
 use tsa_tree::decl::Decl;
 use tsa_tree::item::{AliasDef, EnumDef, FnTree, Item, StructDef};
 

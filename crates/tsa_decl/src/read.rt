@@ -20,8 +20,8 @@ use crate::items::{Begun, begin_item};
 use crate::nodes::keep_function;
 use bumpalo::Bump;
 use tsa_base::Token;
-use tsa_expr::{Aliases, Reader, SyntaxCode, SyntaxRefusal};
 use tsa_decl_declarators::{in_arena_read, read_locals, semicolon};
+use tsa_expr::{Aliases, Reader, SyntaxCode, SyntaxRefusal};
 use tsa_tree::decl::Decl;
 use tsa_tree::item::{FnTree, Item};
 

@@ -8,8 +8,8 @@ ghost use Rattle.tsa_expr.specs.Gives.{Gives};
 ghost use Rattle.tsa_decl_declarators.specs.Outcomes.{after, value_at, variables_at};
 ghost use Rattle.tsa_decl_declarators.specs.Readings.{seen_init, seen_local, row_type};
 
-use crate::declarators::{declarator_at, length_at};
 use crate::declarations::{Initialisation, Suffix, declaration, no_initialiser, some_initialiser};
+use crate::declarators::{declarator_at, length_at};
 use crate::initialisers::expression_value;
 use crate::nodes::{keep, listed};
 use crate::types::{Specified, specifier};

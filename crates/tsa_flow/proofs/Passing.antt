@@ -19,15 +19,15 @@ use Rattle.tsa_rules_bodies.specs.Entering.{Enters, IsEntered, IsOf}
 use Rattle.tsa_rules_bodies.specs.declared.entries.Inside.{Inside}
 use Rattle.tsa_rules_bodies.specs.Knowing.{IsWithin, Knowledge, behind, entered, outset_of}
 use Rattle.tsa_rules_bodies.specs.Laws.{StandsFor}
-use Rattle.tsa_profile.specs.Paths.{paths_if}
+use Rattle.tsa_rules_bodies.specs.Paths.{paths_if}
 use Rattle.tsa_rules_bodies.specs.Sites.{Site, or_later, site_among, site_at, site_of}
 use Rattle.tsa_profile_context.specs.Units.{Unit, attributes_behind, unit_of}
 use Rattle.tsa_rules_bodies.proofs.Seeking.{other_number, passed}
 use Rattle.tsa_rules_bodies.proofs.SiteLaws.{sites_are_of_the_program}
-use Rattle.tsa_rules_view.proofs.NewView.{has_body}
+use Rattle.tsa_flow_function.proofs.NewView.{has_body}
 use Rattle.tsa_rules_bodies.specs.Controls.{IsControlOf}
 use Rattle.tsa_flow_function.specs.declared.Graph.{Graph}
-use Rattle.tsa_rules_view.specs.Views.{IsViewOf}
+use Rattle.tsa_flow_function.specs.Views.{IsViewOf}
 use Rattle.tsa_flow_function.specs.declared.RuleView.{RuleView}
 use Rattle.tsa_flow_function.specs.declared.function.FunctionFlow.{FunctionFlow}
 use Rattle.tsa_flow_function.specs.Numbers.{IsFlowBy, IsFlowIn}

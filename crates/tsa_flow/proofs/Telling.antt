@@ -2,8 +2,8 @@
 use Rattle.std.proofs.Common.{◌≡◌, ◌∙◌, List, Option, Some, None, option_map, refl, sym, subst}
 use Rattle.tsa_place_model.specs.Ways.{Way}
 use Rattle.tsa_core.specs.Programs.{Function, Program}
-use Rattle.tsa_profile.specs.Paths.{paths_if}
-use Rattle.tsa_rules_view.specs.Views.{IsViewBy, IsViewIn}
+use Rattle.tsa_rules_bodies.specs.Paths.{paths_if}
+use Rattle.tsa_flow_function.specs.Views.{IsViewBy, IsViewIn}
 use Rattle.tsa_flow_function.specs.Flows.{IsFlowOf}
 use Rattle.tsa_flow_function.specs.Numbers.{IsFlowBy, IsFlowIn}
 use Rattle.tsa_flow_function.specs.declared.function.FunctionFlow.{FunctionFlow}

@@ -6,7 +6,7 @@ use Rattle.tsa_core.specs.Programs.{Function, program_of}
 use Rattle.tsa_rules_bodies.specs.Entering.{IsOf}
 use Rattle.tsa_rules_bodies.specs.Knowing.{Knowledge}
 use Rattle.tsa_rules_bodies.specs.Laws.{StandsFor}
-use Rattle.tsa_profile.specs.Paths.{paths_if}
+use Rattle.tsa_rules_bodies.specs.Paths.{paths_if}
 use Rattle.tsa_rules_bodies.specs.Sites.{Site, site_among, site_of}
 use Rattle.tsa_profile_context.specs.Units.{unit_of}
 use Rattle.tsa_rules_bodies.specs.declared.entries.Inside.{Inside}

@@ -3,7 +3,7 @@ ghost use Rattle.std.specs.Prelude.{◌≡◌, ◌<◌, ◌∷◌, ℕ, [], List
 ghost use Rattle.tsa_core.specs.Programs.{program_of};
 ghost use Rattle.tsa_flow_function.specs.Numbers.{IsFlowIn};
 ghost use Rattle.tsa_flow.specs.Units.{AreAhead, AreTold, IsBodyOf, IsNext, IsTold, Puts, told_at};
-ghost use Rattle.tsa_rules_view.specs.Kinds.{kinds_of};
+ghost use Rattle.tsa_flow_function.specs.Kinds.{kinds_of};
 ghost use Rattle.tsa_profile_context.specs.Judging.{unit_at};
 ghost use Rattle.tsa_rules_bodies.specs.Knowing.{behind};
 ghost use Rattle.tsa_tree.specs.types.Premises as types;
@@ -13,13 +13,11 @@ ghost use Rattle.tsa_tree.specs.units.Syntax.{UnitItem};
 
 use std::alloc::Global;
 use tsa_base::NoMemory;
+use tsa_flow_function::{FunctionFlow, LockKind, Unit};
 use tsa_graph::blocks_of;
-use tsa_flow_function::FunctionFlow;
-use tsa_rules_view::{LockKind, Unit};
-use tsa_rules_bodies::{Inside, Knowledge, control_of, enter_item, leave_body, outset};
 use tsa_path::PathTable;
-use tsa_profile::Fit;
 use tsa_profile_context::Ground;
+use tsa_rules_bodies::{Fit, Inside, Knowledge, control_of, enter_item, leave_body, outset};
 use tsa_tree::item::Item;
 
 /// What walks bring to the points of functions, by their numbers, as far as they are told.

@@ -2,7 +2,7 @@
 ghost use Rattle.std.specs.Prelude.{◌≡◌, None, Ok, IfOk};
 ghost use Rattle.tsa_core.specs.Programs.{program_of};
 ghost use Rattle.tsa_place_model.specs.Units.{placed_in};
-ghost use Rattle.tsa_rules_view.specs.Kinds.{kinds_of};
+ghost use Rattle.tsa_flow_function.specs.Kinds.{kinds_of};
 ghost use Rattle.tsa_tree.specs.types.FirstFailing.{first_failing};
 ghost use Rattle.tsa_tree.specs.units.Shapes.{item_shapes};
 
@@ -10,11 +10,11 @@ use crate::passage::Pass;
 use std::alloc::Global;
 use tsa_base::NoMemory;
 use tsa_core_environment::Bodies;
-use tsa_place_layout::Layout;
-use tsa_rules_view::{LockKind, lock_kinds};
-use tsa_profile::Fit;
-use tsa_profile_context::Ground;
+use tsa_flow_function::{LockKind, lock_kinds};
 use tsa_place::Places;
+use tsa_place_layout::Layout;
+use tsa_profile_context::Ground;
+use tsa_rules_bodies::Fit;
 use tsa_tree::item::Item;
 
 /// The items of a typed unit with its layout, its bodies by name, and what kinds of locks its structs are.

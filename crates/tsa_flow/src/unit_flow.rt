@@ -8,11 +8,10 @@ use crate::passage::Flows;
 use crate::tables::UnitTables;
 use std::alloc::Global;
 use tsa_base::NoMemory;
-use tsa_rules_view::{Facts, RuleView};
-use tsa_flow_function::FunctionFlow;
-use tsa_rules::Statuses;
-use tsa_profile::Fit;
+use tsa_flow_function::{Facts, FunctionFlow, RuleView};
 use tsa_place::Places;
+use tsa_rules::Statuses;
+use tsa_rules_bodies::Fit;
 use tsa_tree::item::UnitTree;
 
 /// A unit in the profile, with what walks bring to the points of its functions, by their numbers.

@@ -4,9 +4,9 @@ use Rattle.tsa_place_model.specs.Ways.{Way}
 use Rattle.tsa_core.specs.Programs.{Function, Program}
 use Rattle.tsa_graph.specs.InnerEdges.{AreBetween}
 use Rattle.tsa_rules.specs.Points.{edges_of, points_of}
-use Rattle.tsa_profile.specs.Paths.{paths_if}
+use Rattle.tsa_rules_view.specs.Paths.{paths_if}
 use Rattle.tsa_rules_view.proofs.NewView.{has_body}
-use Rattle.tsa_rules_bodies.specs.Controls.{IsControlOf, IsGraphIn}
+use Rattle.tsa_rules_view.specs.Controls.{IsControlOf, IsGraphIn}
 use Rattle.tsa_rules_view.specs.declared.Graph.{Graph}
 use Rattle.tsa_graph.specs.Graphs.{IsGraph}
 use Rattle.tsa_rules_view.specs.declared.content.RuleView.{RuleView}

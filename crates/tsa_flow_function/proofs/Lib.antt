@@ -6,3 +6,5 @@ pub mod Beginning
 pub mod Laning
 pub mod ClaimLists
 pub mod FunctionNumbers
+pub use Rattle.tsa_rules_view.proofs.NewView
+pub use Rattle.tsa_rules_view.proofs.EachOnce

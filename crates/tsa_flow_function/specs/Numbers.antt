@@ -2,7 +2,7 @@
 use Rattle.std.specs.Prelude.{◌≡◌, List, Option, Some, None}
 use Rattle.tsa_place_model.specs.Ways.{Way}
 use Rattle.tsa_core.specs.Programs.{Function, Program}
-use Rattle.tsa_profile.specs.Paths.{paths_if}
+use Rattle.tsa_rules_view.specs.Paths.{paths_if}
 use Rattle.tsa_flow_function.specs.declared.function.FunctionFlow.{FunctionFlow}
 use Rattle.tsa_flow_function.specs.Flows.{IsFlowOf}
 

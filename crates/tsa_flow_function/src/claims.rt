@@ -6,8 +6,8 @@ ghost use Rattle.tsa_rules_table.specs.Rows.{entry_of};
 use std::alloc::Global;
 use std::marker::Model;
 use tsa_base::NoMemory;
-use tsa_rules_table::{Entry, Marks};
 use tsa_rules::Mark;
+use tsa_rules_table::{Entry, Marks};
 
 /// Lists of points, by the numbers of paths. Contracts see the lists.
 #[derive(Drop)]

@@ -2,9 +2,9 @@
 ghost use Rattle.std.specs.Prelude.{◌≡◌, length, slice_index_or};
 ghost use Rattle.tsa_flow_function.specs.Lanes.{AreClaimed};
 
+use crate::Claims;
 use tsa_flow_solver::Lanes;
 use tsa_rules::{Case, Role, Status};
-use crate::Claims;
 use tsa_rules_view::RuleView;
 
 /// Paths of a function in lanes, with the view of the function and the lanes that its points claim.

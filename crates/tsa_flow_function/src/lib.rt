@@ -16,3 +16,4 @@ pub use claim_lanes::{count_of, lanes_at};
 pub use claims::{Claims, claims_of};
 pub use function::FunctionFlow;
 pub use number::flow_of;
+pub use tsa_rules_view::{Facts, Fit, LockKind, RuleView, Unit, lock_kinds};

@@ -9,10 +9,8 @@ use crate::function::FunctionFlow;
 use std::alloc::Global;
 use tsa_base::NoMemory;
 use tsa_graph::blocks_of;
-use tsa_profile::Fit;
 use tsa_place::Places;
-use tsa_rules_view::RuleView;
-use tsa_rules_bodies::graph_of;
+use tsa_rules_view::{Fit, RuleView, graph_of};
 
 /// What walks bring to the points of a function of a unit in the profile by its number. None exactly where it has no table of paths there,
 /// as without a body. The places are those of the unit.

@@ -1,8 +1,8 @@
 //! What walks bring for paths in lanes.
 ghost use Rattle.std.specs.Prelude.{◌≡◌, length};
 
-use tsa_flow_solver::Reached;
 use crate::Claims;
+use tsa_flow_solver::Reached;
 
 /// What walks bring for paths in lanes: the path of each lane, the lane of each path, the lanes that points claim, and what is reached.
 pub struct PathFlows {

@@ -15,8 +15,8 @@ use crate::lanes::ViewLanes;
 use crate::working::path_flows;
 use std::alloc::Global;
 use tsa_base::NoMemory;
-use tsa_graph::Blocks;
 use tsa_flow_solver::Spot;
+use tsa_graph::Blocks;
 use tsa_rules::Statuses;
 use tsa_rules_view::RuleView;
 

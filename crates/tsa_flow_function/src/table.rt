@@ -5,10 +5,10 @@ ghost use Rattle.tsa_flow_function.specs.Lanes.{AreAssigned, AreIdle, IsAdded, I
 ghost use Rattle.tsa_rules.specs.Cases.{entry_in};
 ghost use Rattle.tsa_rules_view.specs.Views.{case_in, lock_in};
 
+use crate::{Claims, count_of};
 use std::alloc::Global;
 use tsa_base::NoMemory;
 use tsa_rules::Status;
-use crate::{Claims, count_of};
 use tsa_rules_view::RuleView;
 
 /// The lane of the paths that nothing claims or tries, by their status at the entry.

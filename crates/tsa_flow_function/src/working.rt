@@ -9,11 +9,11 @@ ghost use Rattle.tsa_rules_table.specs.Rows.{rows_in};
 use crate::lanes::ViewLanes;
 use crate::paths::PathFlows;
 use crate::table::lane_table;
+use crate::{claims_of, count_of, lanes_at};
 use std::alloc::Global;
 use tsa_base::NoMemory;
-use tsa_graph::Blocks;
 use tsa_flow_solver::reach;
-use crate::{claims_of, count_of, lanes_at};
+use tsa_graph::Blocks;
 use tsa_rules_view::RuleView;
 
 /// What walks bring for each path of a view.

@@ -10,8 +10,8 @@ use crate::lanes::Lanes;
 use crate::row::Row;
 use tsa_base::NoMemory;
 use tsa_graph::Block;
-use tsa_rules::{Asked, Role, Status, Statuses};
 use tsa_graph_edges::Outcome;
+use tsa_rules::{Asked, Role, Status, Statuses};
 
 /// A point, and an outcome of what is done there.
 #[derive(Clone, Copy)]

@@ -4,10 +4,10 @@ ghost use Rattle.std.specs.Prelude.{option_to_list, IsSome, IfOk, OnOk};
 ghost use Rattle.tsa_graph.specs.Noting.{AreNoted, AreExits};
 
 use crate::sequence::{Exit, Place};
+use crate::{Edge, GraphBlock};
 use std::alloc::Global;
 use std::marker::Model;
 use tsa_base::NoMemory;
-use crate::{GraphBlock, Edge};
 
 /// Lists of exits, by the blocks' numbers. Contracts see the lists.
 #[derive(Drop)]

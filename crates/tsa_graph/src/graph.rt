@@ -7,15 +7,15 @@ ghost use Rattle.tsa_graph_edges.specs.Links.{edge_of};
 ghost use Rattle.tsa_tree.specs.statements.Shapes.{stmt_shapes};
 
 use crate::arcs::arcs_of;
-use crate::blocks::{GraphBlock, Graph, block_of};
+use crate::blocks::{Graph, GraphBlock, block_of};
 use crate::entries::Entries;
 use crate::ways::{backs, nexts};
+use crate::{Runs, Ways, longest_runs};
 use std::alloc::Global;
 use tsa_base::NoMemory;
 use tsa_graph_edges::{Link, body_links};
-use crate::{Runs, Ways, longest_runs};
-use tsa_types_scope::Scope;
 use tsa_tree::stmt::Stmt;
+use tsa_types_scope::Scope;
 
 /// A block of each run.
 fn blocks_in(alloc: Global, ins: &Entries, runs: &Runs) -> Result<Vec<GraphBlock>, NoMemory>

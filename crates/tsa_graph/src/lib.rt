@@ -13,7 +13,7 @@ mod runs;
 mod sequence;
 mod ways;
 
-pub use blocks::{GraphBlock, Graph};
+pub use blocks::{Graph, GraphBlock};
 pub use entries::Edge;
 pub use graph::{graph_of_body, graph_of_links};
 pub use rows::blocks_of;

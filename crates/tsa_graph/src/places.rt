@@ -2,10 +2,10 @@
 ghost use Rattle.std.specs.Prelude.{◌≡◌, ◌<◌, ◌^◌, All, length, slice_set, IfOk};
 ghost use Rattle.tsa_graph.specs.Placing.{AreSmall, IsPlaced, ArePut};
 
+use crate::GraphBlock;
 use crate::sequence::Place;
 use std::alloc::Global;
 use tsa_base::NoMemory;
-use crate::GraphBlock;
 
 /// Sets the place of a point.
 fn put(places: &mut Vec<Place>, point: u32, place: Place)

@@ -6,12 +6,12 @@ ghost use Rattle.tsa_graph.specs.Rows.{AreBlocksOf};
 ghost use Rattle.tsa_core.specs.Control.{Edge};
 ghost use Rattle.tsa_graph.specs.Graphs.{IsGraph};
 
-use crate::sequence::{Block, Blocks, Exit};
+use crate::Graph;
 use crate::exits::{Exits, exits_of};
 use crate::places::places_of;
+use crate::sequence::{Block, Blocks, Exit};
 use std::alloc::Global;
 use tsa_base::NoMemory;
-use crate::Graph;
 
 /// A block with its exits.
 fn with_exits(block: crate::GraphBlock, exits: Vec<Exit>) -> Block

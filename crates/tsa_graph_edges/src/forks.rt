@@ -9,15 +9,15 @@ ghost use Rattle.tsa_tree.specs.statements.Shapes.{init_given, step_given};
 ghost use Rattle.tsa_tree.specs.types.DeclaredTypes.{value_in};
 ghost use Rattle.tsa_tree.specs.types.Scopes.{context_of};
 
-use crate::successors::Ahead;
 use crate::link::Outcome;
 use crate::numbers::{ahead_of, before, behind, init_points, int_of, step_points};
+use crate::successors::Ahead;
 use crate::walk::{Spot, Start};
 use tsa_base::NoMemory;
-use tsa_types_expressions::View;
 use tsa_tree::expr::Expr;
 use tsa_tree::number::Number;
 use tsa_tree::stmt::Stmt;
+use tsa_types_expressions::View;
 
 /// A test: its point, and where it leads.
 #[derive(Clone, Copy)]
@@ -68,8 +68,15 @@ fn put_fork(ahead: &mut Ahead<'_>, value: Option<Number>, fork: Fork) -> Result<
 impl<'t, 'a> Spot<'t, 'a> {
     /// The same before a statement that begins there.
     pub fn ahead_of(self, start: Start) -> Spot<'t, 'a>
-        ensures { result ≡ record { scope = self.entry.scope; labels = self.entry.labels; end = start.at; follow = start.first; break_to =
-            self.entry.break_to; continue_to = self.entry.continue_to } }
+        ensures { result ≡ record {
+          scope = self.entry.scope;
+          labels = self.entry.labels;
+          end = start.at;
+          follow = start.first;
+          break_to =
+              self.entry.break_to;
+          continue_to = self.entry.continue_to;
+        } }
     {
         Spot {
             end: start.at,
@@ -80,16 +87,30 @@ impl<'t, 'a> Spot<'t, 'a> {
 
     /// The same before a point.
     pub fn ending(self, end: u32) -> Spot<'t, 'a>
-        ensures { result ≡ record { scope = self.entry.scope; labels = self.entry.labels; end = end; follow = self.entry.follow; break_to =
-            self.entry.break_to; continue_to = self.entry.continue_to } }
+        ensures { result ≡ record {
+          scope = self.entry.scope;
+          labels = self.entry.labels;
+          end = end;
+          follow = self.entry.follow;
+          break_to =
+              self.entry.break_to;
+          continue_to = self.entry.continue_to;
+        } }
     {
         Spot { end, ..self }
     }
 
     /// In a loop that goes on at a point, and ends here.
     pub fn in_loop(self, back: u32) -> Spot<'t, 'a>
-        ensures { result ≡ record { scope = self.entry.scope; labels = self.entry.labels; end = self.entry.end; follow = back; break_to =
-            self.entry.follow; continue_to = back } }
+        ensures { result ≡ record {
+          scope = self.entry.scope;
+          labels = self.entry.labels;
+          end = self.entry.end;
+          follow = back;
+          break_to =
+              self.entry.follow;
+          continue_to = back;
+        } }
     {
         Spot {
             follow: back,
@@ -101,8 +122,14 @@ impl<'t, 'a> Spot<'t, 'a> {
 
     /// In a switch that ends here.
     pub fn in_switch(self) -> Spot<'t, 'a>
-        ensures { result ≡ record { scope = self.entry.scope; labels = self.entry.labels; end = self.entry.end; follow = self.entry.follow;
-            break_to = self.entry.follow; continue_to = self.entry.continue_to } }
+        ensures { result ≡ record {
+          scope = self.entry.scope;
+          labels = self.entry.labels;
+          end = self.entry.end;
+          follow = self.entry.follow;
+          break_to = self.entry.follow;
+          continue_to = self.entry.continue_to;
+        } }
     {
         Spot {
             break_to: self.follow,

@@ -1,11 +1,11 @@
 //! The edges of the control of a body (C11 6.8).
 #![tactic(auto)]
 
-mod successors;
 mod forks;
 mod link;
 mod links;
 mod numbers;
+mod successors;
 mod walk;
 
 pub use link::{Link, Outcome};

@@ -7,14 +7,14 @@ ghost use Rattle.tsa_graph_edges.specs.Marks.{label_of};
 ghost use Rattle.tsa_tree.specs.statements.Shapes.{stmt_shapes};
 ghost use Rattle.tsa_tree.specs.types.Scopes.{found};
 
-use crate::successors::{Ahead, Label};
 use crate::link::Link;
 use crate::numbers::agree;
+use crate::successors::{Ahead, Label};
 use crate::walk::Spot;
 use std::alloc::Global;
 use tsa_base::NoMemory;
-use tsa_types_scope::{Names, Scope};
 use tsa_tree::stmt::Stmt;
+use tsa_types_scope::{Names, Scope};
 
 /// The labels that are known, of two that have one name the first.
 fn known_labels<'a>(alloc: Global, labels: Vec<Label<'a>>) -> Result<Names<'a, u32>, NoMemory>

@@ -7,13 +7,13 @@ ghost use Rattle.tsa_tree.specs.expressions.Syntax.{Expression};
 ghost use Rattle.tsa_tree.specs.statements.Shapes.{stmt_shape, stmt_shapes, init_given, step_given};
 ghost use Rattle.tsa_tree.specs.statements.Syntax.{if_alone, if_else, while_loop, do_loop, for_loop, switch, case};
 
-use crate::successors::Ahead;
 use crate::forks::{ForHead, Fork};
 use crate::numbers::{agree, before, behind, or_follow, step_points};
+use crate::successors::Ahead;
 use tsa_base::NoMemory;
-use tsa_types_scope::{Names, Scope};
 use tsa_tree::expr::Expr;
 use tsa_tree::stmt::{Stmt, StmtKind};
+use tsa_types_scope::{Names, Scope};
 
 /// Where a statement stands: what is known in its body, the labels there, the number behind its last point, the point that follows it, and
 /// where a `break` and a `continue` in it lead.

@@ -3,13 +3,13 @@
 
 mod front;
 mod gaps;
+mod keywords;
 mod laws;
 mod numbers;
 mod puncts;
-mod keywords;
 mod scan;
 mod tokens;
 
-pub use laws::quick_tokens_are_tokens;
 pub use keywords::is_reserved;
+pub use laws::quick_tokens_are_tokens;
 pub use tokens::{LexRefusal, lex};

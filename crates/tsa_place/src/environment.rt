@@ -7,15 +7,14 @@ ghost use Rattle.tsa_place_model.specs.GlobalPlaces.{address_in, cell_value};
 ghost use Rattle.tsa_tree.specs.declarations.Shapes.{init_shape};
 ghost use Rattle.tsa_tree.specs.expressions.Shapes.{shape};
 
-use tsa_base::{NoMemory, Value};
-use tsa_place_layout::{Layout, Part, Structures};
-use tsa_place_model::Placed;
-use tsa_types_scope::Scope;
-use tsa_place_paths::Sight;
 use crate::{or_zero, zero_of};
+use tsa_base::{NoMemory, Value};
+use tsa_place_layout::{Layout, Part, Sight, Structures};
+use tsa_place_model::Placed;
 use tsa_tree::decl::Init;
 use tsa_tree::expr::Expr;
 use tsa_tree::kind::Kind;
+use tsa_types_scope::Scope;
 
 /// What is known by name, the structs, and the globals before this one with the first place of each and how many places they take together.
 #[derive(Clone, Copy)]
@@ -33,8 +32,13 @@ impl<'t, 'a> Known<'t, 'a> {
         requires { length places.now ≤ place_limit }
         ensures { IfOk result (λ place. place
             ≡ address_in self.entry.scope.now
-            (record { structs = self.entry.structs.now; globals = self.entry.globals.now; starts = self.entry.starts.now; places =
-            places.now }) (shape expr.now)) }
+            (record {
+              structs = self.entry.structs.now;
+              globals = self.entry.globals.now;
+              starts = self.entry.starts.now;
+              places =
+                  places.now;
+            }) (shape expr.now)) }
     {
         let sight = Sight {
             scope: self.scope,
@@ -52,8 +56,13 @@ impl<'t, 'a> Known<'t, 'a> {
         requires { length places.now ≤ place_limit }
         ensures { IfOk result (λ value. value
             ≡ cell_value self.entry.scope.now
-            (record { structs = self.entry.structs.now; globals = self.entry.globals.now; starts = self.entry.starts.now; places =
-            places.now }) kind (shape expr.now)) }
+            (record {
+              structs = self.entry.structs.now;
+              globals = self.entry.globals.now;
+              starts = self.entry.starts.now;
+              places =
+                  places.now;
+            }) kind (shape expr.now)) }
     {
         if let Kind::Pointer { .. } = kind {
             return Ok(Value::Pointer(self.address(places, expr)?));

@@ -10,18 +10,18 @@ ghost use Rattle.tsa_place_model.specs.GlobalPlaces.{no_places, given_by, values
 ghost use Rattle.tsa_tree.specs.declarations.Shapes.{decl_shapes, init_shape};
 ghost use Rattle.tsa_tree.specs.expressions.Shapes.{name_shape};
 
-use crate::filling::{Origin, next_place};
 use crate::environment::Known;
+use crate::filling::{Origin, next_place};
 use crate::refusal::PlaceRefusal;
 use std::alloc::Global;
 use std::marker::Model;
 use tsa_base::NoMemory;
 use tsa_place_layout::{Layout, Part, Structures, define_struct};
 use tsa_place_model::{Holder, Placed};
-use tsa_types_scope::Scope;
 use tsa_tree::decl::Init;
 use tsa_tree::item::StructDef;
 use tsa_tree::kind::ThingType;
+use tsa_types_scope::Scope;
 
 /// The structs of a unit's first items, its globals with the first place of each, and all places so far, of which there are no more than a
 /// unit may have. Contracts see a layout.

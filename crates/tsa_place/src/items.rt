@@ -9,16 +9,15 @@ ghost use Rattle.tsa_tree.specs.types.Enums.{next_after, enumerator_entry as spe
 ghost use Rattle.tsa_tree.specs.units.Syntax.{alias_item};
 
 use tsa_base::NoMemory;
-use tsa_types_scope::Scope;
-use tsa_types_declarations::{a_type_name, count_on, enumerator_entry, int_value};
-use tsa_types_operators::single;
-use tsa_place_layout::{Part, declared_thing, part_of, whole};
-use tsa_place_paths::Sight;
+use tsa_place_layout::{Part, Sight, declared_thing, part_of, whole};
 use tsa_tree::decl::Decl;
 use tsa_tree::expr::Expr;
 use tsa_tree::item::{AliasDef, EnumDef, Enumerator};
 use tsa_tree::kind::Kind;
 use tsa_tree::meaning::{Entry, Meaning};
+use tsa_types_declarations::{a_type_name, count_on, enumerator_entry, int_value};
+use tsa_types_operators::single;
+use tsa_types_scope::Scope;
 
 /// The value of an enumerator after the last one, where it has one.
 fn written(

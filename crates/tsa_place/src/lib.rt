@@ -16,4 +16,5 @@ pub use items::{know_alias, know_enum, know_global};
 pub use laws::places_are_as_written;
 pub use places::Places;
 pub use refusal::PlaceRefusal;
+pub use tsa_place_layout::declared_thing;
 pub use values::{or_zero, zero_of};

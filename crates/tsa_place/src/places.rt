@@ -7,10 +7,10 @@ ghost use Rattle.tsa_place_model.specs.Units.{placed_in};
 ghost use Rattle.tsa_tree.specs.units.Shapes.{item_shapes};
 
 use crate::unit::placed;
+use crate::{Globals, PlaceRefusal};
 use std::alloc::Global;
 use std::marker::Model;
 use tsa_base::{NoMemory, Span, Value};
-use crate::{Globals, PlaceRefusal};
 use tsa_place_layout::Layout;
 use tsa_place_model::{Guard, Path, PlaceKind, Placed};
 use tsa_tree::item::UnitTree;

@@ -6,11 +6,11 @@ ghost use Rattle.tsa_tree.specs.declarations.Shapes.{decl_shape};
 ghost use Rattle.tsa_tree.specs.units.Shapes.{item_shape, item_shapes};
 ghost use Rattle.tsa_tree.specs.units.Syntax.{global_item};
 
-use std::alloc::Global;
 use crate::{Globals, PlaceRefusal, know_alias, know_enum, know_global};
-use tsa_types_scope::{Scope, outset};
+use std::alloc::Global;
 use tsa_tree::decl::Decl;
 use tsa_tree::item::Item;
+use tsa_types_scope::{Scope, outset};
 
 /// A global with its places.
 fn place_global<'a>(

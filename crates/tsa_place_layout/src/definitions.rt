@@ -7,11 +7,11 @@ ghost use Rattle.tsa_tree.specs.expressions.Shapes.{name_shape};
 use crate::members::next_members;
 use crate::structures::Structures;
 use tsa_base::NoMemory;
+use tsa_place_paths::single;
 use tsa_tree::item::StructDef;
 use tsa_tree::kind::Kind;
 use tsa_tree::meaning::{Entry, Meaning};
 use tsa_types_scope::{Names, Scope};
-use tsa_types_operators::single;
 
 /// Defines the next struct, with its members and their guards.
 #[tactic(auto, using(tsa_place_model::proofs::Below::parts_below))]

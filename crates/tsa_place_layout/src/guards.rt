@@ -5,10 +5,10 @@ ghost use Rattle.tsa_tree.specs.attributes.Syntax.{attr_shapes};
 ghost use Rattle.tsa_tree.specs.expressions.Shapes.{shapes};
 
 use tsa_base::NoMemory;
+use tsa_place_model::Path;
+use tsa_place_paths::Sight;
 use tsa_tree::attr::{Attr, AttrKind};
 use tsa_tree::expr::Expr;
-use tsa_place_paths::Sight;
-use tsa_place_model::Path;
 use tsa_types_scope::Scope;
 
 /// Whether an attribute is `guarded_by`.

@@ -6,10 +6,10 @@ ghost use Rattle.tsa_place_model.specs.Calls.{there, global_place, member_place,
 ghost use Rattle.tsa_place_model.specs.Calls.{declarator_of};
 
 use crate::parts::Part;
-use tsa_place_model::{Holder, Placed};
 use crate::structures::Structures;
 use std::marker::Model;
 use tsa_base::{Span, Value};
+use tsa_place_model::{Holder, Placed};
 use tsa_tree::kind::Kind;
 
 /// The structs of a unit, its globals with the first place of each, and all places in order, of which there are no more than a unit may

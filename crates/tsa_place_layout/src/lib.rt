@@ -15,3 +15,4 @@ pub use definitions::define_struct;
 pub use layout::Layout;
 pub use parts::{Part, declared_thing, part_of, whole};
 pub use structures::Structures;
+pub use tsa_place_paths::{Led, Sight, meant};

@@ -7,11 +7,11 @@ ghost use Rattle.tsa_tree.specs.types.DeclaredTypes.{thing_type};
 use crate::guards::guard_paths;
 use std::marker::Model;
 use tsa_base::{NoMemory, Span};
+use tsa_place_model::Path;
+use tsa_place_paths::View;
 use tsa_tree::decl::{CType, Decl};
 use tsa_tree::kind::{Kind, ThingType};
-use tsa_place_model::Path;
 use tsa_types_scope::{Scope, Symbols};
-use tsa_types_expressions::View;
 
 /// A member or a global: its name, its type, the paths of its guards in order, of which some may have none, and where its declarator
 /// stands.

@@ -4,10 +4,10 @@ ghost use Rattle.tsa_place_model.specs.Calls.{owner_at, way_to as spec_way_to, i
 ghost use Rattle.tsa_place_model.specs.Calls.{guard_by, guards_by, own_guards, guards_of};
 
 use crate::layout::Layout;
-use tsa_place_model::{Guard, Holder, Path, Placed};
 use itoa::Buffer;
 use std::alloc::Global;
 use tsa_base::NoMemory;
+use tsa_place_model::{Guard, Holder, Path, Placed};
 
 /// Appends an index in brackets, where there is one.
 fn add_index(text: &mut Vec<u8>, index: Option<u32>) -> Result<(), NoMemory>

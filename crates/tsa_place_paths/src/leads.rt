@@ -4,12 +4,12 @@ ghost use Rattle.tsa_place_model.specs.LockPaths.{in_range as spec_in_range, led
 ghost use Rattle.tsa_tree.specs.types.Types.{single as spec_single};
 ghost use Rattle.tsa_place_model.specs.Ways.{onward as spec_onward};
 
-use tsa_place_model::{Path, PathStep};
 use std::marker::Model;
 use tsa_base::NoMemory;
-use tsa_types_operators::single;
+use tsa_place_model::{Path, PathStep};
 use tsa_tree::kind::{Kind, ThingType};
 use tsa_tree::number::Number;
+use tsa_types_expressions::single;
 
 /// Where an expression leads: the path, the type that was declared there, and whether a pointer there never changes.
 #[derive(Drop)]
@@ -96,7 +96,10 @@ impl Led {
     /// A step on to an element, which is declared with its array.
     pub fn element(self, step: PathStep) -> Result<Led, NoMemory>
         ensures { IfOk result (λ led. led
-            ≡ record { way = spec_onward step self.way; thing = spec_single self.thing.kind self.thing.is_const; is_stable = self.is_stable
+            ≡ record {
+              way = spec_onward step self.way;
+              thing = spec_single self.thing.kind self.thing.is_const;
+              is_stable = self.is_stable;
             }) }
     {
         let thing = single(self.thing.kind, self.thing.is_const);

@@ -6,3 +6,4 @@ mod sight;
 
 pub use leads::{Led, meant};
 pub use sight::{Sight, is_pointer};
+pub use tsa_types_expressions::{View, single};

@@ -4,15 +4,13 @@ ghost use Rattle.tsa_place_model.specs.LockPaths.{is_address as spec_is_address,
 ghost use Rattle.tsa_tree.specs.expressions.Shapes.{shape};
 
 use crate::leads::{Led, in_range, meant};
-use tsa_place_model::{Path, PathStep, Root};
 use tsa_base::NoMemory;
-use tsa_types_scope::Scope;
-use tsa_types_expressions::View;
-use tsa_types_operators::is_integer_kind;
+use tsa_place_model::{Path, PathStep, Root};
 use tsa_tree::expr::{Expr, ExprKind, UnaryOp};
 use tsa_tree::kind::{Kind, ThingType};
 use tsa_tree::meaning::{Entry, Meaning};
 use tsa_tree::number::Number;
+use tsa_types_expressions::{Scope, View, is_integer_kind};
 
 /// Whether a kind is that of a pointer to a struct.
 pub fn is_pointer(kind: Kind) -> bool

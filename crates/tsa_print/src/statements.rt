@@ -194,8 +194,7 @@ fn put_return(sheet: &mut Sheet, value: Option<&Expr<'_>>) -> Result<(), NoMemor
 #[cycle(statements)]
 #[tactic(auto, using(crate::proofs::Pages::put_append))]
 fn put_statement(sheet: &mut Sheet, stmt: &Stmt<'_>, closing: Mark) -> Result<(), NoMemory>
-    ensures { OnOk result (page_of sheet.new ≡ put (page_of sheet.old) (statement_pieces closing (stmt_shape stmt.now.kind stmt.now.span)))
-        }
+    ensures { OnOk result (page_of sheet.new ≡ put (page_of sheet.old) (statement_pieces closing (stmt_shape stmt.now.kind stmt.now.span))) }
 {
     match &stmt.kind {
         StmtKind::Block(items) => put_block(sheet, items, closing),

@@ -6,7 +6,7 @@ use Rattle.tsa_tree.specs.types.Premises as types
 use Rattle.tsa_tree.specs.types.Initialisers.{cell_premises, initialiser_premises}
 use Rattle.tsa_tree.specs.types.Expressions.{premises_of}
 use Rattle.tsa_profile_accesses.specs.Expressions.{parts, arguments}
-use Rattle.tsa_profile_declarations.specs.Declarations.{init_premises}
+use Rattle.tsa_profile_items.specs.Declarations.{init_premises}
 use Rattle.tsa_profile.specs.Arguments.{behind_items}
 use Rattle.tsa_profile.specs.ArgumentExamples.{ArgumentsAreAsWritten}
 

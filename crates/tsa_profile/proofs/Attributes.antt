@@ -14,7 +14,7 @@ use Rattle.tsa_profile_accesses.specs.declared.standing.Standing.TheVariants.{In
 use Rattle.tsa_profile_accesses.specs.Premises.{Premise, premise, first}
 use Rattle.tsa_profile_accesses.specs.Expressions.{compares_a_try, constant, is_other, is_try_call, own, parts}
 use Rattle.tsa_profile_guards.proofs.NoneFails.{none_of_both, none_of_first, none_of_two}
-use Rattle.tsa_profile_declarations.proofs.EachItem.{value_asked}
+use Rattle.tsa_profile_items.proofs.EachItem.{value_asked}
 use Rattle.tsa_profile.specs.Arguments.{view_with, is_in_profile}
 
 neither : (x y p q : Bool) → x ≡ false → y ≡ false → ((x && p) || (y && q)) ≡ false

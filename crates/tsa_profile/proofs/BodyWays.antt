@@ -22,9 +22,9 @@ use Rattle.tsa_core_points.specs.CoreLaws.{known_of}
 use Rattle.tsa_core_points.specs.Points.{PlacedPoint, placed, placed_all}
 use Rattle.tsa_core_points.proofs.PointsOfCore.{points_are_of_the_core, uses_are_of_the_core}
 use Rattle.tsa_profile_accesses.specs.Expressions.{attributes_at}
-use Rattle.tsa_profile_points.specs.Bodies.{Around}
-use Rattle.tsa_profile_points.specs.Ways as deed
-use Rattle.tsa_profile_points.specs.Ways.{init_value, function_called, called_at, substituted_ways, ways_at}
+use Rattle.tsa_profile_items.specs.ProfilePointsBodies.{Around}
+use Rattle.tsa_profile_items.specs.Ways as deed
+use Rattle.tsa_profile_items.specs.Ways.{init_value, function_called, called_at, substituted_ways, ways_at}
 use Rattle.tsa_profile.specs.Paths.{called_in, called, point_ways, points_ways}
 use Rattle.tsa_profile.proofs.FunctionScopes.{KnowsFunctions}
 use Rattle.tsa_profile.proofs.KnownCalls.{Reaches, points_reach}

@@ -1,7 +1,7 @@
 -- What stands in a list stands in the list of each once, at some place.
 use Rattle.std.proofs.Common.{◌≡◌, ℕ, zero, suc, List, [], ◌∷◌, Some, slice_get, subst}
 use Rattle.tsa_place_model.specs.Ways.{Way}
-use Rattle.tsa_profile_points.specs.Ways.{each_once}
+use Rattle.tsa_profile_items.specs.Ways.{each_once}
 use Rattle.tsa_path.specs.PathTables.{with_path}
 use Rattle.tsa_path.proofs.Numbers.{numbers_stay}
 

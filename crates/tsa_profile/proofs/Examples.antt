@@ -4,11 +4,11 @@ use Rattle.tsa_core.proofs.BodyExamples.{worked}
 use Rattle.tsa_core_points.specs.Points.{placed_in, placed_all}
 use Rattle.tsa_profile_accesses.specs.Premises.{first}
 use Rattle.tsa_profile_accesses.specs.Expressions.{parts, arguments}
-use Rattle.tsa_profile_declarations.specs.Declarations.{ways_behind, attribute_arguments, guard_premises, attribute_premises}
-use Rattle.tsa_profile_declarations.specs.Declarations.{param_premises, init_premises, item_premises}
-use Rattle.tsa_profile_points.specs.Bodies.{points_premises}
-use Rattle.tsa_profile_points.specs.Ways.{points_ways}
-use Rattle.tsa_profile_context.specs.Units.{member_premises, items_premises, tries_limits, paths_limits}
+use Rattle.tsa_profile_items.specs.Declarations.{ways_behind, attribute_arguments, guard_premises, attribute_premises}
+use Rattle.tsa_profile_items.specs.Declarations.{param_premises, init_premises, item_premises}
+use Rattle.tsa_profile_items.specs.ProfilePointsBodies.{points_premises}
+use Rattle.tsa_profile_items.specs.Ways.{points_ways}
+use Rattle.tsa_profile_items.specs.Units.{member_premises, items_premises, tries_limits, paths_limits}
 use Rattle.tsa_profile.specs.Examples.{ProfilesAreAsWritten}
 
 -- to unfold this is to unfold all of it

@@ -15,9 +15,9 @@ use Rattle.tsa_core.specs.Bodies.{known_in_body, body_of}
 use Rattle.tsa_core.specs.Programs.{Bodied, Declared, Function, Program, attrs_of, bodied_function, declared_functions, function_in}
 use Rattle.tsa_core.specs.Programs.{function_of, program_of, stable_locals}
 use Rattle.tsa_core.specs.Uses.{uses_of}
-use Rattle.tsa_profile_points.specs.Ways.{each_once, named_ways, present, unless_many}
+use Rattle.tsa_profile_items.specs.Ways.{each_once, named_ways, present, unless_many}
 use Rattle.tsa_profile.specs.Paths.{paths_if, paths_of, points_ways}
-use Rattle.tsa_profile_context.specs.Units.{Unit, around, attributes_by, paths_at, points_in, unit_of}
+use Rattle.tsa_profile_items.specs.Units.{Unit, around, attributes_by, paths_at, points_in, unit_of}
 use Rattle.tsa_profile.proofs.AddedNames.{adds_inside}
 use Rattle.tsa_profile.proofs.BodyWays.{attributes_of, body_ways}
 use Rattle.tsa_profile.proofs.FunctionScopes.{KnowsFunctions, knows_data}

@@ -23,9 +23,9 @@ use Rattle.tsa_profile_accesses.specs.declared.premise.ProfileCode.TheVariants.{
 use Rattle.tsa_profile_accesses.specs.Premises.{premise, first}
 use Rattle.tsa_profile_accesses.specs.declared.standing.Standing.TheVariants.{Inside}
 use Rattle.tsa_profile_accesses.specs.Expressions.{View, own, parts}
-use Rattle.tsa_profile_declarations.specs.Declarations.{way, is_order, is_named_once, is_among, is_call, argument, with_way, ways_behind}
-use Rattle.tsa_profile_declarations.specs.Declarations.{attribute_arguments, guard_premises, misfits, attribute_premises, param_premises}
-use Rattle.tsa_profile_declarations.specs.Declarations.{is_nothing, head_premises}
+use Rattle.tsa_profile_items.specs.Declarations.{way, is_order, is_named_once, is_among, is_call, argument, with_way, ways_behind}
+use Rattle.tsa_profile_items.specs.Declarations.{attribute_arguments, guard_premises, misfits, attribute_premises, param_premises}
+use Rattle.tsa_profile_items.specs.Declarations.{is_nothing, head_premises}
 use Rattle.tsa_profile_guards.proofs.NoneFails.{none_of_both, none_of_first}
 use Rattle.tsa_profile.proofs.CallsStand.{neither_has, keeps_free}
 use Rattle.tsa_base.proofs.Truths.{never}

@@ -6,7 +6,7 @@ use Rattle.tsa_tree.specs.types.Units.{outset, behind_item}
 use Rattle.tsa_tree.specs.units.Syntax.{UnitItem}
 use Rattle.tsa_core.specs.Programs.{Attr, declared_by, declared_functions, function_in, program_of}
 use Rattle.tsa_profile.specs.Attributes.{attributes_of_all, AttributesAreThoseOfTheCore}
-use Rattle.tsa_profile_context.specs.Units.{Unit, attributes_by, attributes_behind, unit_of}
+use Rattle.tsa_profile_items.specs.Units.{Unit, attributes_by, attributes_behind, unit_of}
 
 behind_all : (u : Unit) (known : List (List Attr)) (here : Scope) (items : List UnitItem)
     → attributes_of_all u known here items ≡ known ++ map (attributes_by u) (declared_functions here items)

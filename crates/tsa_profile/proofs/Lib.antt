@@ -30,3 +30,4 @@ pub mod Parameters
 pub mod ArgumentsWorked
 pub mod Examples
 pub mod DeclaredGlobals
+pub use Rattle.tsa_profile_items.proofs.ItemLists

@@ -29,9 +29,9 @@ use Rattle.tsa_core.proofs.TypedTerms.{some_same}
 use Rattle.tsa_core.proofs.UnitScopes.{declared_told}
 use Rattle.tsa_core.proofs.BodiesAgree.{Means}
 use Rattle.tsa_profile.specs.Paths.{paths_if}
-use Rattle.tsa_profile_context.specs.Tables.{with_declared, tables_behind, tables_of_all}
+use Rattle.tsa_profile_items.specs.Tables.{with_declared, tables_behind, tables_of_all}
 use Rattle.tsa_profile.specs.Tables.{PathsAreThoseOfTheCore}
-use Rattle.tsa_profile_context.specs.Units.{Unit, attributes_by, attributes_behind, paths_at, points_in, unit_of}
+use Rattle.tsa_profile_items.specs.Units.{Unit, attributes_by, attributes_behind, paths_at, points_in, unit_of}
 use Rattle.tsa_profile.proofs.AddedNames.{adds_structure, adds_alias, adds_enumeration, adds_global}
 use Rattle.tsa_profile.proofs.FunctionPaths.{functions_are, body_paths}
 use Rattle.tsa_profile.proofs.FunctionScopes.{Bodies, IsMarked, Stands, TellsBody, stands_data, one_meant, head_stands, none_came}

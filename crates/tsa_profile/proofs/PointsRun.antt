@@ -36,8 +36,8 @@ use Rattle.tsa_profile_accesses.specs.declared.premise.ProfileCode.TheVariants.{
 use Rattle.tsa_profile_accesses.specs.Premises.{first}
 use Rattle.tsa_profile_accesses.specs.declared.standing.Standing.TheVariants.{Whole, Inside}
 use Rattle.tsa_profile_accesses.specs.Expressions.{expression}
-use Rattle.tsa_profile_points.specs.Bodies.{Around, view_at, begins_a_try, standing_of, value_misfits, point_premises, points_premises}
-use Rattle.tsa_profile_points.specs.Bodies as profile
+use Rattle.tsa_profile_items.specs.ProfilePointsBodies.{Around, view_at, begins_a_try, standing_of, value_misfits, point_premises, points_premises}
+use Rattle.tsa_profile_items.specs.ProfilePointsBodies as profile
 use Rattle.tsa_profile_guards.proofs.NoneFails.{none_of_both, none_of_two, none_of_first}
 use Rattle.tsa_profile.proofs.CallsStand.{inside_free, whole_stands, begun_stands, test_stands}
 

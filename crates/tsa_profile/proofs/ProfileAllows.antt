@@ -14,12 +14,12 @@ use Rattle.tsa_core.specs.Programs.{Attr}
 use Rattle.tsa_core.proofs.KindTests.{and_true}
 use Rattle.tsa_profile_accesses.specs.declared.premise.ProfileCode.{ProfileCode}
 use Rattle.tsa_profile_accesses.specs.declared.premise.ProfileCode.TheVariants.{PF3}
-use Rattle.tsa_profile_declarations.specs.Declarations as profile
-use Rattle.tsa_profile_declarations.specs.Declarations.{guard_premises, given_init, init_premises}
+use Rattle.tsa_profile_items.specs.Declarations as profile
+use Rattle.tsa_profile_items.specs.Declarations.{guard_premises, given_init, init_premises}
 use Rattle.tsa_profile_accesses.specs.Expressions.{own, parts}
 use Rattle.tsa_profile_accesses.specs.Premises.{Premise, premise, failure_of, first}
 use Rattle.tsa_profile_accesses.specs.declared.standing.Standing.TheVariants.{Inside}
-use Rattle.tsa_profile_context.specs.Units.{Unit, attributes_behind, view_in, item_premises, items_premises}
+use Rattle.tsa_profile_items.specs.Units.{Unit, attributes_behind, view_in, item_premises, items_premises}
 use Rattle.tsa_profile.proofs.CellsFit.{Allows}
 use Rattle.tsa_profile.proofs.ConstantPlaces.{guarded}
 use Rattle.tsa_profile.proofs.InitialisersFit.{AllowedInitialiser, AllowedItems, AllowedInit}

@@ -24,8 +24,8 @@ use Rattle.tsa_core.proofs.LaidScopes.{Fits, MembersFit}
 use Rattle.tsa_core.specs.Programs.{layout_or_none, program_of}
 use Rattle.tsa_path.proofs.StandDeclared.{no_heads}
 use Rattle.tsa_profile.specs.Starts.{is_object_of, has_kind, StartValuesHaveTheirKinds, StartsAreWellTyped}
-use Rattle.tsa_profile_context.specs.Units as profile
-use Rattle.tsa_profile_context.specs.Units.{unit_of, tries_limits, paths_limits}
+use Rattle.tsa_profile_items.specs.Units as profile
+use Rattle.tsa_profile_items.specs.Units.{unit_of, tries_limits, paths_limits}
 use Rattle.tsa_profile.proofs.CellsFit.{Allows}
 use Rattle.tsa_profile.proofs.EachPlace.{every_at}
 use Rattle.tsa_profile.proofs.GoodValues.{may, good, GoodCell}

@@ -17,12 +17,12 @@ use Rattle.tsa_core.proofs.KindTests.{and_true}
 use Rattle.tsa_core.proofs.NoFailure as typing
 use Rattle.tsa_place_model.specs.Parts.{member_behind}
 use Rattle.tsa_profile_accesses.specs.Premises.{first}
-use Rattle.tsa_profile_declarations.specs.Declarations.{guard_premises, given_init}
-use Rattle.tsa_profile_points.specs.Bodies.{points_premises}
+use Rattle.tsa_profile_items.specs.Declarations.{guard_premises, given_init}
+use Rattle.tsa_profile_items.specs.ProfilePointsBodies.{points_premises}
 use Rattle.tsa_profile.specs.Running.{ProfilesAreRunnable}
-use Rattle.tsa_profile_context.specs.Units as profile
-use Rattle.tsa_profile_context.specs.Units.{attributes_behind, view_in, view_of, around, points_in, heads_premises, tries_limits}
-use Rattle.tsa_profile_context.specs.Units.{paths_limits, unit_of}
+use Rattle.tsa_profile_items.specs.Units as profile
+use Rattle.tsa_profile_items.specs.Units.{attributes_behind, view_in, view_of, around, points_in, heads_premises, tries_limits}
+use Rattle.tsa_profile_items.specs.Units.{paths_limits, unit_of}
 use Rattle.tsa_profile_guards.proofs.NoneFails.{none_of_both}
 use Rattle.tsa_profile.proofs.HeadsRun.{guards_stand, head_stands}
 use Rattle.tsa_profile.proofs.PointsRun.{statements_stand}

@@ -17,7 +17,7 @@ use Rattle.tsa_place_model.specs.GlobalPlaces.{values_in}
 use Rattle.tsa_core.specs.Programs.{Attr, program_with}
 use Rattle.tsa_profile_accesses.specs.Premises as profile
 use Rattle.tsa_profile_accesses.specs.Expressions.{View}
-use Rattle.tsa_profile_declarations.specs.Declarations.{given_init}
+use Rattle.tsa_profile_items.specs.Declarations.{given_init}
 use Rattle.tsa_profile.specs.declared.items_end.Parameter.{Parameter}
 
 -- What is known behind all items of a unit: there every global of the unit is an earlier one. The global's own name is none that the

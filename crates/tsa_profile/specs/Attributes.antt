@@ -4,7 +4,7 @@ use Rattle.tsa_tree.specs.types.Scopes.{Scope}
 use Rattle.tsa_tree.specs.types.Units.{outset, behind_item}
 use Rattle.tsa_tree.specs.units.Syntax.{UnitItem}
 use Rattle.tsa_core.specs.Programs.{Attr, program_of}
-use Rattle.tsa_profile_context.specs.Units.{Unit, attributes_behind, unit_of}
+use Rattle.tsa_profile_items.specs.Units.{Unit, attributes_behind, unit_of}
 
 unfoldable pub attributes_of_all : Unit → List (List Attr) → Scope → List UnitItem → List (List Attr)
 attributes_of_all u known here [] = known

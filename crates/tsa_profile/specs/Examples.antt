@@ -5,7 +5,7 @@ use Rattle.tsa_tree.specs.types.Texts.{unit_in}
 use Rattle.tsa_profile_accesses.specs.declared.premise.Failure.{Failure}
 use Rattle.tsa_profile_accesses.specs.declared.premise.ProfileCode.{ProfileCode}
 use Rattle.tsa_profile_accesses.specs.declared.premise.ProfileCode.TheVariants.{PF1, PF2, PF3, PF4, PF5, PF6, PF7, PF8, PF9}
-use Rattle.tsa_profile_context.specs.Units.{refusal_of_profile}
+use Rattle.tsa_profile_items.specs.Units.{refusal_of_profile}
 
 -- locks, functions that take and try them, and what they guard
 abbrev prelude : List ℕ

@@ -7,3 +7,5 @@ pub mod Tables
 pub mod Arguments
 pub mod ArgumentExamples
 pub mod ArgumentLaws
+pub use Rattle.tsa_profile_items.specs.Units
+pub use Rattle.tsa_profile_items.specs.Judging

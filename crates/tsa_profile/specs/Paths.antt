@@ -8,7 +8,7 @@ use Rattle.tsa_core.specs.Meanings.{Call}
 use Rattle.tsa_core.specs.Programs.{Function, Program}
 use Rattle.tsa_core.specs.Uses.{Uses}
 use Rattle.tsa_path.specs.Substitution.{substituted}
-use Rattle.tsa_profile_points.specs.Ways.{present, each_once, unless_many}
+use Rattle.tsa_profile_items.specs.Ways.{present, each_once, unless_many}
 
 -- the locks that a function names, as its caller has them
 abbrev pub called_in : List (Option Way) → Option Function → List (Option Way)

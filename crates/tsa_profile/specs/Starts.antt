@@ -12,7 +12,7 @@ use Rattle.tsa_place_model.specs.declared.place.Placed.{Placed}
 use Rattle.tsa_place_model.specs.Calls.{Layout, is_structure}
 use Rattle.tsa_place_model.specs.Stores.{is_of, IsWellTyped, start}
 use Rattle.tsa_place_model.specs.Leading.{HasPlaces}
-use Rattle.tsa_profile_context.specs.Units.{refusal_of_profile}
+use Rattle.tsa_profile_items.specs.Units.{refusal_of_profile}
 
 -- an object of a struct, which is const only where the type says so, guarded or not
 abbrev pub is_object_of : ℕ → Bool → Option Placed → Bool

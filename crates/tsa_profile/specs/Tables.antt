@@ -4,8 +4,8 @@ use Rattle.tsa_tree.specs.types.FirstFailing.{first_failing}
 use Rattle.tsa_tree.specs.types.Units.{outset}
 use Rattle.tsa_tree.specs.units.Syntax.{UnitItem}
 use Rattle.tsa_core.specs.Programs.{program_of}
-use Rattle.tsa_profile_context.specs.Tables.{tables_of_all}
-use Rattle.tsa_profile_context.specs.Units.{unit_of}
+use Rattle.tsa_profile_items.specs.Tables.{tables_of_all}
+use Rattle.tsa_profile_items.specs.Units.{unit_of}
 use Rattle.tsa_profile.specs.Paths.{paths_if}
 
 abbrev pub PathsAreThoseOfTheCore : Type 0

@@ -4,12 +4,12 @@ ghost use Rattle.tsa_profile.specs.Arguments.{is_typed as spec_is_typed};
 ghost use Rattle.tsa_tree.specs.expressions.Shapes.{shape};
 
 use tsa_base::NoMemory;
-use tsa_types_declarations::initialiser;
-use tsa_types_expressions::View;
-use tsa_types_scope::{Scope, Symbols};
 use tsa_tree::decl::Init;
 use tsa_tree::expr::Expr;
 use tsa_tree::kind::ThingType;
+use tsa_types_declarations::initialiser;
+use tsa_types_expressions::View;
+use tsa_types_scope::{Scope, Symbols};
 
 /// Whether no premise of types fails for an expression as the initialiser of the next global, which has a type. Its names are noted
 /// nowhere.

@@ -10,10 +10,10 @@ use crate::unit_end::Ending;
 use std::alloc::Global;
 use tsa_base::{NoMemory, Value};
 use tsa_place_layout::Layout;
-use tsa_types_scope::Scope;
 use tsa_tree::expr::Expr;
 use tsa_tree::item::Item;
 use tsa_tree::kind::ThingType;
+use tsa_types_scope::Scope;
 
 /// A parameter of a function, by their numbers.
 #[derive(Clone, Copy)]

@@ -19,4 +19,5 @@ pub use laws::{
     profiles_are_runnable, start_values_have_their_kinds, starts_are_well_typed,
 };
 pub use profile::{fit, fit_with};
+pub use tsa_profile_items::{Ground, named_locks};
 pub use unit::Fit;

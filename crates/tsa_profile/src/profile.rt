@@ -1,8 +1,8 @@
 //! Typed units are in the profile, or a node or a function of them is refused.
 ghost use Rattle.std.specs.Prelude.{◌≡◌, [], Ok, map, IfOk};
 ghost use Rattle.tsa_core.specs.Programs.{program_of};
-ghost use Rattle.tsa_profile_context.specs.ItemJudgements.{Judges, forget};
-ghost use Rattle.tsa_profile_context.specs.Units.{refusal_of_profile, refusal_with};
+ghost use Rattle.tsa_profile_items.specs.ItemJudgements.{Judges, forget};
+ghost use Rattle.tsa_profile_items.specs.Units.{refusal_of_profile, refusal_with};
 ghost use Rattle.tsa_place_model.specs.Units.{placed_in};
 ghost use Rattle.tsa_profile.specs.Paths.{paths_if};
 ghost use Rattle.tsa_tree.specs.units.Shapes.{item_shapes};
@@ -10,12 +10,9 @@ ghost use Rattle.tsa_tree.specs.units.Shapes.{item_shapes};
 use crate::unit::Fit;
 use std::alloc::Global;
 use tsa_base::NoMemory;
-use tsa_core_environment::Bodies;
-use tsa_profile_context::{Ground, ProfileRefusal};
-use tsa_types::Typed;
-use tsa_profile_items::judge;
 use tsa_path::PathTable;
 use tsa_place::Places;
+use tsa_profile_items::{Bodies, Ground, ProfileRefusal, Typed, judge};
 
 /// The same numbers once more.
 fn copied(alloc: Global, numbers: &[u32]) -> Result<Vec<u32>, NoMemory>

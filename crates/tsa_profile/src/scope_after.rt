@@ -7,9 +7,9 @@ ghost use Rattle.tsa_tree.specs.units.Shapes.{item_shapes};
 
 use std::alloc::Global;
 use tsa_base::NoMemory;
-use tsa_core_environment::know_item;
-use tsa_types_scope::{Scope, outset};
+use tsa_profile_items::know_item;
 use tsa_tree::item::Item;
+use tsa_types_scope::{Scope, outset};
 
 /// Items that are typed, in order, behind each of which what it declares is known.
 fn know_items<'a>(scope: &mut Scope<'a>, items: &[Item<'a>]) -> Result<(), NoMemory>

@@ -4,16 +4,16 @@ ghost use Rattle.tsa_profile.specs.Arguments.{argument_of};
 ghost use Rattle.tsa_core.specs.Programs.{program_of};
 ghost use Rattle.tsa_place_model.specs.Units.{placed_in};
 ghost use Rattle.tsa_profile.specs.Paths.{paths_if};
-ghost use Rattle.tsa_profile_context.specs.Units.{refusal_with};
+ghost use Rattle.tsa_profile_items.specs.Units.{refusal_with};
 ghost use Rattle.tsa_tree.specs.expressions.Shapes.{shape};
 ghost use Rattle.tsa_tree.specs.units.Shapes.{item_shapes};
 
-use std::alloc::Global;
 use crate::{Parameter, Unit};
+use std::alloc::Global;
 use tsa_base::{NoMemory, Value};
-use tsa_types::Typed;
 use tsa_path::PathTable;
 use tsa_place::Places;
+use tsa_profile_items::Typed;
 use tsa_tree::expr::Expr;
 use tsa_tree::item::UnitTree;
 

@@ -7,16 +7,16 @@ ghost use Rattle.tsa_tree.specs.declarations.Syntax.{value};
 ghost use Rattle.tsa_tree.specs.expressions.Shapes.{shape};
 
 use crate::initialiser_types::is_typed;
-use tsa_profile_accesses::Body;
-use tsa_profile_declarations::init_failure;
 use tsa_base::{NoMemory, Value};
 use tsa_place::or_zero;
 use tsa_place_layout::Layout;
-use tsa_types_scope::Scope;
+use tsa_place_paths::Sight;
+use tsa_profile_accesses::Body;
+use tsa_profile_items::init_failure;
 use tsa_tree::decl::Init;
 use tsa_tree::expr::Expr;
 use tsa_tree::kind::{Kind, ThingType};
-use tsa_place_paths::Sight;
+use tsa_types_scope::Scope;
 
 /// What is known behind all items of a unit, and the unit's layout.
 #[derive(Clone, Copy)]

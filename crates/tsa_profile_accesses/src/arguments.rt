@@ -7,11 +7,11 @@ ghost use Rattle.tsa_profile_accesses.specs.Arguments.{arguments_of};
 
 use crate::body::Body;
 use tsa_base::NoMemory;
-use tsa_types_expressions::function_of;
+use tsa_place_model::Path;
 use tsa_tree::expr::{BinaryOp, Expr, ExprKind, UnaryOp};
 use tsa_tree::kind::ThingType;
 use tsa_tree::meaning::Entry;
-use tsa_place_model::Path;
+use tsa_types_expressions::function_of;
 
 impl<'w, 'a> Body<'w, 'a> {
     /// The paths of arguments beside their parameters, as many as there are of both.

@@ -14,16 +14,15 @@ ghost use Rattle.tsa_place_model.specs.LockPaths.{stable_in, name_way, element_s
 ghost use Rattle.tsa_profile_accesses.specs.Members.{found_guards};
 ghost use Rattle.tsa_profile_accesses.specs.ExpressionViews.{a_value, member_of, thing_of};
 
-use tsa_base::NoMemory;
-use tsa_place_layout::Layout;
-use tsa_place_model::{Holder, Path, Root};
-use tsa_types_operators::element_type;
-use tsa_types_expressions::owner;
 use crate::{NamedLocks, Seen, Thing, add_owned, copies, member_thing, named_thing, path_of};
+use tsa_base::NoMemory;
+use tsa_place_layout::{Layout, Sight};
+use tsa_place_model::{Holder, Path, Root};
 use tsa_tree::expr::Expr;
 use tsa_tree::kind::ThingType;
 use tsa_tree::meaning::{Entry, Meaning};
-use tsa_place_paths::Sight;
+use tsa_types_expressions::owner;
+use tsa_types_operators::element_type;
 
 /// What has a member: the path to it, where it has one, and its struct, where it is one.
 #[derive(Clone, Copy)]
@@ -134,10 +133,14 @@ impl<'w, 'a> Body<'w, 'a> {
     /// What a name is, as a place.
     pub fn name(self, name: &[u8]) -> Result<Seen, NoMemory>
         ensures { IfOk result (λ seen. seen
-            ≡ record { thing = thing_of (of_name (known_in self.entry.sight.scope.now name.now)); led = option_and_then
-            (name_way (stable_in self.entry.sight.stable.now) self.entry.sight.scope.now name.now)
-            (known_in self.entry.sight.scope.now name.now); guards = spec_name_guards self.entry.layout.now self.entry.sight.scope.now
-            name.now (known_in self.entry.sight.scope.now name.now) }) }
+            ≡ record {
+              thing = thing_of (of_name (known_in self.entry.sight.scope.now name.now));
+              led = option_and_then
+                  (name_way (stable_in self.entry.sight.stable.now) self.entry.sight.scope.now name.now)
+                  (known_in self.entry.sight.scope.now name.now);
+              guards = spec_name_guards self.entry.layout.now self.entry.sight.scope.now
+                  name.now (known_in self.entry.sight.scope.now name.now);
+            }) }
     {
         let entry = self.sight.scope.known(name);
         Ok(Seen {
@@ -150,8 +153,12 @@ impl<'w, 'a> Body<'w, 'a> {
     /// What a name is, where it isn't asked where that leads.
     pub fn name_value(self, name: &[u8]) -> Result<Seen, NoMemory>
         ensures { IfOk result (λ seen. seen
-            ≡ record { thing = thing_of (of_name (known_in self.entry.sight.scope.now name.now)); led = None; guards = spec_name_guards
-            self.entry.layout.now self.entry.sight.scope.now name.now (known_in self.entry.sight.scope.now name.now) }) }
+            ≡ record {
+              thing = thing_of (of_name (known_in self.entry.sight.scope.now name.now));
+              led = None;
+              guards = spec_name_guards
+                  self.entry.layout.now self.entry.sight.scope.now name.now (known_in self.entry.sight.scope.now name.now);
+            }) }
     {
         let entry = self.sight.scope.known(name);
         Ok(Seen {
@@ -186,9 +193,13 @@ impl<'w, 'a> Body<'w, 'a> {
     /// An element of what was seen, as a place.
     pub fn element(self, base: Seen, index: &Expr<'_>) -> Result<Seen, NoMemory>
         ensures { IfOk result (λ seen. seen
-            ≡ record { thing = record { expression = spec_element_type base.thing.expression; is_place = true }; led = option_and_then
-            (element_step (stable_in self.entry.sight.stable.now) self.entry.sight.scope.now (shape index.now)) base.led; guards =
-            base.guards }) }
+            ≡ record {
+              thing = record { expression = spec_element_type base.thing.expression; is_place = true };
+              led = option_and_then
+                  (element_step (stable_in self.entry.sight.stable.now) self.entry.sight.scope.now (shape index.now)) base.led;
+              guards =
+                  base.guards;
+            }) }
     {
         Ok(Seen {
             thing: Thing {

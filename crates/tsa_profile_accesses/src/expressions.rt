@@ -11,7 +11,7 @@ use crate::thing::{Thing, prefix_thing};
 use std::alloc::Global;
 use std::marker::Model;
 use tsa_base::{NoMemory, Span};
-use tsa_place_paths::{Led, meant};
+use tsa_place_layout::{Led, meant};
 use tsa_place_model::Path;
 use tsa_tree::expr::UnaryOp;
 
@@ -109,8 +109,12 @@ impl Seen {
 
     /// Its address, which leads to it as a pointer.
     pub fn address(self, alloc: Global, as_pointer: bool) -> Seen
-        ensures { result ≡ record { thing = thing_of (of_prefix prefix.Address (typed self.thing.expression)); led = if as_pointer then
-            self.led else None; guards = [] } }
+        ensures { result ≡ record {
+          thing = thing_of (of_prefix prefix.Address (typed self.thing.expression));
+          led = if as_pointer then
+              self.led else None;
+          guards = [];
+        } }
     {
         Seen {
             thing: prefix_thing(UnaryOp::Address, self.thing.expression),
@@ -121,8 +125,12 @@ impl Seen {
 
     /// What it points to, where it leads as a pointer.
     pub fn followed(self, alloc: Global, as_pointer: bool) -> Seen
-        ensures { result ≡ record { thing = thing_of (of_prefix prefix.Follow (typed self.thing.expression)); led = if not as_pointer then
-            self.led else None; guards = [] } }
+        ensures { result ≡ record {
+          thing = thing_of (of_prefix prefix.Follow (typed self.thing.expression));
+          led = if not as_pointer then
+              self.led else None;
+          guards = [];
+        } }
     {
         Seen {
             thing: prefix_thing(UnaryOp::Follow, self.thing.expression),

@@ -28,4 +28,5 @@ pub use thing::{
     Thing, binary_thing, called_thing, is_loaded, member_thing, named_thing, prefix_thing,
     value_thing,
 };
+pub use tsa_place_layout::declared_thing;
 pub use uses::Uses;

@@ -6,8 +6,8 @@ ghost use Rattle.tsa_profile_accesses.specs.Locks.{is_empty, is_try as spec_is_t
 use std::alloc::Global;
 use std::marker::Model;
 use tsa_base::NoMemory;
-use tsa_place_model::Path;
 use tsa_path::substitute;
+use tsa_place_model::Path;
 use tsa_tree::attr::AttrKind;
 
 /// A lock that an attribute of a function names: the path to it, where it has one; of a try, the result for which it is taken.

@@ -16,11 +16,11 @@ ghost use Rattle.tsa_profile_accesses.specs.NodeAnswers.{code_if as spec_code_if
 ghost use Rattle.tsa_profile_accesses.specs.NodeAnswers.{view_of};
 
 use crate::body::Body;
-use tsa_base::NoMemory;
-use tsa_types_expressions::function_of;
 use crate::{NamedLocks, ProfileCode, Seen, Standing, is_loaded, lack_a_path};
+use tsa_base::NoMemory;
 use tsa_tree::expr::{BinaryOp, Expr, ExprKind};
 use tsa_tree::number::Number;
+use tsa_types_expressions::function_of;
 
 /// Where the sides of an operator stand, and what fails there.
 #[derive(Clone, Copy)]
@@ -185,9 +185,13 @@ impl<'w, 'a> Body<'w, 'a> {
         right: &Expr<'_>,
     ) -> Result<Sides, NoMemory>
         ensures { IfOk result (λ sides. sides
-            ≡ record { left = beside standing (is_some (spec_constant (view_of self.entry) (shape right.now))); right = beside standing
-            (is_some (spec_constant (view_of self.entry) (shape left.now))); code = spec_code_if
-            (compares_a_try (view_of self.entry) (shape left.now) (shape right.now)) PF8 }) }
+            ≡ record {
+              left = beside standing (is_some (spec_constant (view_of self.entry) (shape right.now)));
+              right = beside standing
+                  (is_some (spec_constant (view_of self.entry) (shape left.now)));
+              code = spec_code_if
+                  (compares_a_try (view_of self.entry) (shape left.now) (shape right.now)) PF8;
+            }) }
     {
         let first = self.constant(left)?;
         let second = self.constant(right)?;
@@ -208,9 +212,13 @@ impl<'w, 'a> Body<'w, 'a> {
         right: &Expr<'_>,
     ) -> Result<Sides, NoMemory>
         ensures { IfOk result (λ sides. sides
-            ≡ record { left = side (view_of self.entry) operator.standing operator.op (shape right.now); right = side (view_of self.entry)
-            operator.standing operator.op (shape left.now); code = sides_code (view_of self.entry) operator.op (shape left.now)
-            (shape right.now) }) }
+            ≡ record {
+              left = side (view_of self.entry) operator.standing operator.op (shape right.now);
+              right = side (view_of self.entry)
+                  operator.standing operator.op (shape left.now);
+              code = sides_code (view_of self.entry) operator.op (shape left.now)
+                  (shape right.now);
+            }) }
     {
         if is_equality(operator.op) {
             return self.equality_sides(operator.standing, left, right);

@@ -6,11 +6,11 @@ ghost use Rattle.tsa_tree.specs.declared.kind.Kind.TheVariants as type;
 ghost use Rattle.tsa_tree.specs.types.Types.{value as spec_value};
 ghost use Rattle.tsa_profile_accesses.specs.ExpressionViews.{thing_of, typed, value_of};
 
-use tsa_types_operators::{binary_type, prefix_type, value};
-use tsa_types_expressions::{entry_type, member_type, result_type};
 use tsa_tree::expr::{BinaryOp, UnaryOp};
 use tsa_tree::kind::{ExpressionType, Kind, ThingType};
 use tsa_tree::meaning::{Entry, Meaning};
+use tsa_types_expressions::{entry_type, member_type, result_type};
+use tsa_types_operators::{binary_type, prefix_type, value};
 
 /// What an expression is: its type, and whether it stands for a place: a local is none.
 #[derive(Clone, Copy)]

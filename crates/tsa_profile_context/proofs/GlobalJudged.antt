@@ -7,7 +7,7 @@ use Rattle.tsa_place_model.specs.Parts.{no_stable}
 use Rattle.tsa_core.specs.Programs.{Attr}
 use Rattle.tsa_profile_accesses.specs.Premises.{Premise}
 use Rattle.tsa_profile_accesses.specs.Expressions.{View}
-use Rattle.tsa_profile_declarations.specs.Declarations.{given_init, guard_premises}
+use Rattle.tsa_profile_points.specs.Declarations.{given_init, guard_premises}
 use Rattle.tsa_profile_context.specs.Judging.{Knowledge}
 use Rattle.tsa_profile_context.specs.Units.{Unit, view_in}
 

@@ -11,7 +11,7 @@ use Rattle.tsa_profile_accesses.specs.declared.premise.Failure.{Failure}
 use Rattle.tsa_profile_accesses.specs.declared.premise.ProfileCode.TheVariants.{PF6}
 use Rattle.tsa_profile_accesses.specs.Premises.{Premise, first, premise}
 use Rattle.tsa_profile_accesses.specs.Expressions.{View}
-use Rattle.tsa_profile_declarations.specs.Declarations.{attribute_premises, is_nothing, param_premises}
+use Rattle.tsa_profile_points.specs.Declarations.{attribute_premises, is_nothing, param_premises}
 use Rattle.tsa_profile_context.specs.declared.context.Ground.{Ground}
 use Rattle.tsa_profile_context.specs.Judging.{Knowledge, inner_premises, outer_premises, unit_at}
 use Rattle.tsa_profile_context.specs.Units.{is_bodied, stable_of, view_of}

@@ -9,14 +9,14 @@ use Rattle.tsa_core.specs.Programs.{Attr}
 use Rattle.tsa_profile_accesses.specs.declared.premise.Failure.{Failure}
 use Rattle.tsa_profile_accesses.specs.Premises.{or_else, first}
 use Rattle.tsa_core_environment.specs.Members.{behind_member}
-use Rattle.tsa_profile_declarations.specs.Declarations.{guard_premises}
+use Rattle.tsa_profile_points.specs.Declarations.{guard_premises}
 use Rattle.tsa_profile_context.specs.ItemJudgements.{Judges}
 use Rattle.tsa_profile_context.specs.Judging.{Knowledge, with_scope}
 use Rattle.tsa_profile_context.specs.Units.{Unit, member_premises, view_in}
 use Rattle.tsa_profile_context.specs.declared.refusal.ProfileRefusal.{ProfileRefusal}
 use Rattle.tsa_profile_context.proofs.Sequences.{judges_some}
 use Rattle.tsa_base.proofs.Numbers.{plus_one}
-use Rattle.tsa_profile_guards.proofs.Failures.{first_append}
+use Rattle.tsa_profile_points.proofs.Failures.{first_append}
 
 -- where no members are looked up first, a member is known behind others as the struct has it
 alone : (here : Scope) → here.owned ≡ [] → with_owned [] here ≡ here

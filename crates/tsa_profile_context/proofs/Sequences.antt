@@ -9,7 +9,7 @@ use Rattle.tsa_profile_accesses.specs.Premises.{Premise, premise, or_else, first
 use Rattle.tsa_profile_context.specs.ItemJudgements.{Judges, is_limit, judgement}
 use Rattle.tsa_profile_context.specs.declared.refusal.ProfileRefusal.{ProfileRefusal}
 use Rattle.tsa_profile_context.specs.declared.refusal.ProfileRefusal.TheVariants.{At, Function, NoMemory}
-use Rattle.tsa_profile_guards.proofs.Failures.{first_append}
+use Rattle.tsa_profile_points.proofs.Failures.{first_append}
 
 pub or_else_none : (o : Option Failure) → or_else o None ≡ o
 or_else_none None = refl

@@ -10,13 +10,13 @@ use Rattle.tsa_tree.specs.units.Shapes.{item_shapes}
 use Rattle.tsa_tree.specs.units.Syntax.{UnitItem}
 use Rattle.tsa_place_model.specs.LockPaths.{stable_in}
 use Rattle.tsa_core.specs.Programs.{Attr, first_head}
-use Rattle.tsa_core_points.specs.Points.{PlacedPoint}
+use Rattle.tsa_core_environment.specs.Points.{PlacedPoint}
 use Rattle.tsa_profile_accesses.specs.Premises.{Premise, first, or_else, premise}
 use Rattle.tsa_profile_accesses.specs.declared.premise.ProfileCode.TheVariants.{LM4, LM7, PF6}
 use Rattle.tsa_profile_accesses.specs.declared.premise.Failure.{Failure}
 use Rattle.tsa_profile_accesses.specs.Expressions.{View, attributes_at}
 use Rattle.tsa_profile_accesses.specs.Locks.{tries}
-use Rattle.tsa_profile_declarations.specs.Declarations.{attribute_premises, is_nothing, param_premises}
+use Rattle.tsa_profile_points.specs.Declarations.{attribute_premises, is_nothing, param_premises}
 use Rattle.tsa_profile_points.specs.Bodies.{Around, is_try_variable}
 use Rattle.tsa_profile_points.specs.Ways.{function_paths}
 use Rattle.tsa_profile_context.specs.Tables.{Tables, tables_behind}

@@ -13,13 +13,13 @@ use Rattle.tsa_place_model.specs.LockPaths.{stable_in}
 use Rattle.tsa_place_model.specs.Ways.{Way}
 use Rattle.tsa_place_model.specs.Parts.{no_stable, member_behind}
 use Rattle.tsa_core.specs.Programs.{Attr, Declared, Program, attrs_of, bodied_function, declared_by, stable_locals, program_of}
-use Rattle.tsa_core_points.specs.Points.{PlacedPoint, placed_all}
+use Rattle.tsa_core_environment.specs.Points.{PlacedPoint, placed_all}
 use Rattle.tsa_profile_accesses.specs.declared.premise.Failure.{Failure}
 use Rattle.tsa_profile_accesses.specs.declared.premise.ProfileCode.TheVariants.{LM4, LM7}
 use Rattle.tsa_profile_accesses.specs.Premises.{Premise, premise, first}
 use Rattle.tsa_profile_accesses.specs.Locks.{tries}
 use Rattle.tsa_profile_accesses.specs.Expressions.{View, attributes_at}
-use Rattle.tsa_profile_declarations.specs.Declarations.{guard_premises, given_init, head_premises}
+use Rattle.tsa_profile_points.specs.Declarations.{guard_premises, given_init, head_premises}
 use Rattle.tsa_profile_points.specs.Bodies.{Around, points_premises, is_try_variable}
 use Rattle.tsa_profile_points.specs.Ways.{function_paths}
 

@@ -1,6 +1,6 @@
 //! What the profile asks of structs and globals (C11 6.7.2.1, 6.9.2).
 ghost use Rattle.std.specs.Prelude.{◌≡◌, [], None, option_map, OnOk};
-ghost use Rattle.tsa_profile_declarations.specs.Declarations.{guard_premises};
+ghost use Rattle.tsa_profile_points.specs.Declarations.{guard_premises};
 ghost use Rattle.tsa_core_environment.specs.Members.{behind_member};
 ghost use Rattle.tsa_place_model.specs.Parts.{members_after};
 ghost use Rattle.tsa_profile_context.specs.ItemJudgements.{Judges};
@@ -20,8 +20,8 @@ ghost use Rattle.tsa_tree.specs.units.Syntax.{global_item};
 use crate::context::Ground;
 use crate::knowledge::Knowledge;
 use crate::refusal::{ProfileRefusal, answer_of};
-use tsa_profile_declarations::{given_failure, guards_failure};
 use tsa_core_environment::{begin_global, end_struct, know_member};
+use tsa_profile_points::{given_failure, guards_failure};
 use tsa_tree::decl::Decl;
 use tsa_tree::item::StructDef;
 

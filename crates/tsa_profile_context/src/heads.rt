@@ -16,14 +16,14 @@ use crate::context::Ground;
 use crate::knowledge::Knowledge;
 use crate::refusal::{ProfileRefusal, answer_of};
 use tsa_base::NoMemory;
-use tsa_profile_accesses::Body;
-use tsa_profile_declarations::{Heading, attributes_failure, named_locks};
 use tsa_core_environment::{Outside, enter};
-use tsa_place_paths::Sight;
 use tsa_place_layout::declared_thing;
-use tsa_types_scope::Scope;
+use tsa_place_paths::Sight;
+use tsa_profile_accesses::Body;
+use tsa_profile_points::{Heading, attributes_failure, named_locks};
 use tsa_tree::item::FnTree;
 use tsa_tree::kind::Kind;
+use tsa_types_scope::Scope;
 
 impl<'t, 'a> Ground<'t, 'a> {
     /// The head of a function before its attributes.

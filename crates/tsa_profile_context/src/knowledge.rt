@@ -6,8 +6,8 @@ use std::marker::Model;
 use std::mem::replace;
 use tsa_base::NoMemory;
 use tsa_path::PathTable;
-use tsa_types_scope::{Scope, outset};
 use tsa_profile_accesses::{Failure, NamedLocks};
+use tsa_types_scope::{Scope, outset};
 
 /// What is known by name, the locks that functions name and the paths of bodies by the numbers of functions, and the first functions that
 /// pass a limit.

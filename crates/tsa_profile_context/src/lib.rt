@@ -2,8 +2,8 @@
 //! functions.
 #![tactic(auto)]
 
-mod data;
 mod context;
+mod data;
 mod heads;
 mod knowledge;
 mod refusal;
@@ -12,3 +12,4 @@ mod view;
 pub use context::Ground;
 pub use knowledge::{Knowledge, or_else, put_scope, take_scope};
 pub use refusal::{ProfileRefusal, answer_of};
+pub use tsa_profile_points::{Around, Judged, attribute_paths, init_failure, named_locks};

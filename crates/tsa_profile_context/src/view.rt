@@ -8,10 +8,10 @@ ghost use Rattle.tsa_place_model.specs.LockPaths.{stable_in};
 
 use crate::context::Ground;
 use tsa_base::NoMemory;
-use tsa_profile_accesses::{Body, NamedLocks};
 use tsa_place_paths::Sight;
-use tsa_types_scope::Scope;
+use tsa_profile_accesses::{Body, NamedLocks};
 use tsa_tree::item::FnTree;
+use tsa_types_scope::Scope;
 
 impl<'t, 'a> Ground<'t, 'a> {
     /// Whether a function has a body somewhere in the unit.
@@ -37,9 +37,13 @@ impl<'t, 'a> Ground<'t, 'a> {
     ) -> Body<'w, 'a>
     where
         't: 'w,
-        ensures { view_of result ≡ record
-            { layout = (unit_at self.now).program.layout; attributes = attributes.now; here = scope.now; stable = stable_in stable.now;
-            is_run = false } }
+        ensures { view_of result ≡ record {
+          layout = (unit_at self.now).program.layout;
+          attributes = attributes.now;
+          here = scope.now;
+          stable = stable_in stable.now;
+          is_run = false;
+        } }
     {
         Body {
             sight: Sight { scope, stable },

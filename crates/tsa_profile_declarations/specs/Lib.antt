@@ -1,2 +1,3 @@
 pub mod Declarations
 pub mod Tries
+pub use Rattle.tsa_profile_guards.specs.Accesses

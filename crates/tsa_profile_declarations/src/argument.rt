@@ -11,12 +11,12 @@ ghost use Rattle.tsa_profile_accesses.specs.Premises.{first, or_else};
 ghost use Rattle.tsa_profile_accesses.specs.NodeAnswers.{view_of};
 
 use tsa_base::NoMemory;
-use tsa_place_model::Path;
 use tsa_path::PathSet;
-use tsa_tree::attr::AttrKind;
-use tsa_tree::expr::{Expr, ExprKind};
+use tsa_place_model::Path;
 use tsa_profile_accesses::{Body, Failure, ProfileCode};
 use tsa_profile_guards::{own_failure, place_failure};
+use tsa_tree::attr::AttrKind;
+use tsa_tree::expr::{Expr, ExprKind};
 
 /// Whether attributes of a kind tell the order of locks, which need have no path there.
 fn is_order(kind: AttrKind) -> bool
@@ -131,8 +131,7 @@ pub fn arguments(
     args: &[Expr<'_>],
 ) -> Result<Option<Failure>, NoMemory>
     ensures failure { IfOk result (λ failure. failure ≡ first (attribute_arguments (view_of body.entry) kind paths.old (shapes args.now))) }
-    ensures named { IfOk result (λ failure. failure ≡ None → paths.new ≡ ways_behind (view_of body.entry) kind paths.old (shapes args.now))
-        }
+    ensures named { IfOk result (λ failure. failure ≡ None → paths.new ≡ ways_behind (view_of body.entry) kind paths.old (shapes args.now)) }
 {
     'each: for arg in args {
         if let Some(failure) = argument(body, kind, paths, arg)? {

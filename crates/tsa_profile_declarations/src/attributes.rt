@@ -12,9 +12,9 @@ use crate::tries::Tries;
 use std::alloc::Global;
 use tsa_base::NoMemory;
 use tsa_path::PathSet;
+use tsa_profile_accesses::{Body, Failure, ProfileCode};
 use tsa_tree::attr::Attr;
 use tsa_tree::kind::Kind;
-use tsa_profile_accesses::{Body, Failure, ProfileCode};
 
 /// What fails first at an attribute of a member or of a global.
 fn guard_failure(body: Body<'_, '_>, attr: &Attr<'_>) -> Result<Option<Failure>, NoMemory>

@@ -14,12 +14,12 @@ ghost use Rattle.tsa_tree.specs.types.Runnable.{parameter_named as spec_paramete
 ghost use Rattle.tsa_tree.specs.types.Runnable.{takes_integers as spec_takes_integers};
 
 use tsa_base::NoMemory;
-use tsa_types_scope::Scope;
+use tsa_profile_accesses::declared_thing;
 use tsa_tree::attr::{Attr, AttrKind};
 use tsa_tree::expr::{Expr, ExprKind, Name, UnaryOp};
 use tsa_tree::item::{FnTree, Param};
 use tsa_tree::kind::{Kind, ThingType};
-use tsa_place_layout::declared_thing;
+use tsa_types_scope::Scope;
 
 /// Whether a kind is that of a number or of a pointer.
 fn is_scalar_kind(kind: Kind) -> bool
@@ -125,8 +125,13 @@ fn changes_lock(
 fn changes_by(scope: &Scope<'_>, head: &FnTree<'_>, param: &Param<'_>) -> Result<bool, NoMemory>
     ensures { IfOk result (λ is_lock. is_lock
         ≡ spec_is_lock_function scope.now
-        (record { name = name_shape head.now.name; result = type_shape head.now.result; params = param_shape param.now ∷ []; attrs =
-        attr_shapes head.now.attrs.now })) }
+        (record {
+          name = name_shape head.now.name;
+          result = type_shape head.now.result;
+          params = param_shape param.now ∷ [];
+          attrs =
+              attr_shapes head.now.attrs.now;
+        })) }
 {
     match head.attrs {
         [attr] => changes_lock(scope, head, param, attr),

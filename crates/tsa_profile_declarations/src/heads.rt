@@ -9,10 +9,9 @@ ghost use Rattle.tsa_profile_accesses.specs.Premises.{first, premise};
 
 use crate::functions::{is_environment, is_lock_function, is_small};
 use tsa_base::NoMemory;
-use tsa_types_scope::Scope;
+use tsa_profile_accesses::{Failure, ProfileCode, declared_thing};
 use tsa_tree::item::{FnTree, Param};
-use tsa_profile_accesses::{Failure, ProfileCode};
-use tsa_place_layout::declared_thing;
+use tsa_types_scope::Scope;
 
 /// What fails first at parameters: each is a number or a pointer.
 fn params_failure(scope: &Scope<'_>, params: &[Param<'_>]) -> Result<Option<Failure>, NoMemory>
@@ -53,8 +52,7 @@ pub struct Heading<'w, 'a> {
 impl<'w, 'a> Heading<'w, 'a> {
     /// Whether the function that is declared next is said to have its body elsewhere.
     fn is_outside(self) -> Result<bool, NoMemory>
-        ensures { IfOk result (λ is_outside. is_outside ≡ list_any (nat_eq (length self.entry.scope.now.functions)) self.entry.outside.now)
-            }
+        ensures { IfOk result (λ is_outside. is_outside ≡ list_any (nat_eq (length self.entry.scope.now.functions)) self.entry.outside.now) }
     {
         let next = self.scope.next_function()?;
         Ok(self.outside.contains(&next))

@@ -6,9 +6,9 @@ ghost use Rattle.tsa_profile_accesses.specs.Premises.{first};
 ghost use Rattle.tsa_profile_accesses.specs.NodeAnswers.{view_of};
 
 use tsa_base::NoMemory;
-use tsa_tree::decl::Init;
 use tsa_profile_accesses::{Body, Failure};
 use tsa_profile_guards::place_failure;
+use tsa_tree::decl::Init;
 
 /// What fails first in an initialiser. The recursion is as deep as the tree is high.
 #[cycle(initialising)]

@@ -14,3 +14,4 @@ pub use functions::is_small;
 pub use heads::Heading;
 pub use initialisers::{given_failure, init_failure};
 pub use locks::named_locks;
+pub use tsa_profile_guards::{reads, writes};

@@ -6,10 +6,10 @@ ghost use Rattle.tsa_tree.specs.expressions.Shapes.{shape};
 ghost use Rattle.tsa_place_model.specs.LockPaths.{lock_way, stable_in};
 
 use tsa_base::NoMemory;
+use tsa_place_paths::Sight;
+use tsa_profile_accesses::{NamedLock, NamedLocks};
 use tsa_tree::attr::Attr;
 use tsa_tree::expr::Expr;
-use tsa_profile_accesses::{NamedLock, NamedLocks};
-use tsa_place_paths::Sight;
 
 /// The result for which a try takes its locks; of no other attribute that counts.
 fn succeeds(success: Option<bool>) -> bool
@@ -20,9 +20,12 @@ fn succeeds(success: Option<bool>) -> bool
 
 /// The lock that an argument of an attribute names.
 fn named_lock(sight: Sight<'_, '_>, attr: &Attr<'_>, arg: &Expr<'_>) -> Result<NamedLock, NoMemory>
-    ensures { IfOk result (λ lock. lock ≡ record
-        { kind = attr.now.kind; success = spec_succeeds attr.now.success; path = lock_way (stable_in sight.entry.stable.now)
-        sight.entry.scope.now (shape arg.now) }) }
+    ensures { IfOk result (λ lock. lock ≡ record {
+      kind = attr.now.kind;
+      success = spec_succeeds attr.now.success;
+      path = lock_way (stable_in sight.entry.stable.now)
+          sight.entry.scope.now (shape arg.now);
+    }) }
 {
     Ok(NamedLock {
         kind: attr.kind,

@@ -12,7 +12,9 @@ ghost use Rattle.tsa_profile_guards.specs.Failures.{is_address as spec_is_addres
 
 use crate::walking::{as_place, walk};
 use tsa_base::{NoMemory, Span};
-use tsa_profile_accesses::{Body, Failure, ProfileCode, Standing, Uses, are_some, code_if, operator_at};
+use tsa_profile_accesses::{
+    Body, Failure, ProfileCode, Standing, Uses, are_some, code_if, operator_at,
+};
 use tsa_tree::expr::{Expr, ExprKind, UnaryOp};
 
 /// A code that is told at a span, where there is one.

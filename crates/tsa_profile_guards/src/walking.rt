@@ -17,11 +17,14 @@ ghost use Rattle.tsa_profile_accesses.specs.NodeAnswers.{view_of};
 ghost use Rattle.tsa_place_model.specs.LockPaths.{stable_in};
 
 use tsa_base::{NoMemory, Span};
-use tsa_profile_accesses::{Accesses, Body, Failure, Footprint, ProfileCode, Seen, Standing, Uses, are_some, binary_thing, called_thing, code_if, operator_at, prefix_thing, value_thing};
-use tsa_types_operators::value;
-use tsa_types_expressions::number_type;
+use tsa_profile_accesses::{
+    Accesses, Body, Failure, Footprint, ProfileCode, Seen, Standing, Uses, are_some, binary_thing,
+    called_thing, code_if, operator_at, prefix_thing, value_thing,
+};
 use tsa_tree::expr::{BinaryOp, Expr, ExprKind, UnaryOp};
 use tsa_tree::kind::{ExpressionType, Kind};
+use tsa_types_expressions::number_type;
+use tsa_types_operators::value;
 
 /// How an expression stands: as a pointer, which leads to where it points, or as a place; and where it stands, by which call it may be.
 #[derive(Clone, Copy)]

@@ -7,7 +7,7 @@ use Rattle.tsa_profile_context.specs.Judging.{Knowledge, behind, behind_all, out
 use Rattle.tsa_profile_context.specs.Tables.{tables_of_all}
 use Rattle.tsa_profile_context.specs.Units.{Unit, attributes_behind, tries_limit, tries_limits, paths_limit, paths_limits}
 use Rattle.tsa_profile_context.proofs.Sequences.{or_else_none}
-use Rattle.tsa_profile_guards.proofs.Failures.{first_append, or_else_or_else}
+use Rattle.tsa_profile_context.proofs.Failures.{first_append, or_else_or_else}
 
 module _ (u : Unit) where
   -- the first function that passes a limit

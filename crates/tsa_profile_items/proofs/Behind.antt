@@ -26,8 +26,8 @@ use Rattle.tsa_profile_accesses.specs.declared.premise.ProfileCode.TheVariants.{
 use Rattle.tsa_profile_accesses.specs.Premises.{first, or_else, premise}
 use Rattle.tsa_profile_accesses.specs.Expressions.{attributes_at}
 use Rattle.tsa_core_environment.specs.Functions.{IsInside}
-use Rattle.tsa_profile_points.specs.Bodies.{Around, is_try_variable, points_premises}
-use Rattle.tsa_profile_points.specs.Ways.{function_paths}
+use Rattle.tsa_profile_context.specs.Bodies.{Around, is_try_variable, points_premises}
+use Rattle.tsa_profile_context.specs.Ways.{function_paths}
 use Rattle.tsa_profile_context.specs.declared.context.Ground.{Ground}
 use Rattle.tsa_profile_context.specs.Judging.{Knowledge, around_at, behind, declared_attributes, entered, unit_at, with_body, with_function}
 use Rattle.tsa_profile_context.specs.Judging.{with_scope, without_body}

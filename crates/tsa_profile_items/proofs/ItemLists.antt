@@ -15,7 +15,7 @@ use Rattle.tsa_profile_context.specs.Units.{Unit, attributes_behind, item_premis
 use Rattle.tsa_profile_context.specs.declared.refusal.ProfileRefusal.{ProfileRefusal}
 use Rattle.tsa_profile_context.proofs.Sequences.{judges_some}
 use Rattle.tsa_base.proofs.Numbers.{plus_one}
-use Rattle.tsa_profile_guards.proofs.Failures.{first_append}
+use Rattle.tsa_profile_context.proofs.Failures.{first_append}
 
 module _ (u : Unit) (items : List Item) (i : ℕ) (k : Knowledge) where
   abbrev wrong_from : Knowledge → ℕ → Option Failure

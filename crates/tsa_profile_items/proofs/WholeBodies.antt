@@ -13,8 +13,8 @@ use Rattle.tsa_core_points.specs.Steps.{body_steps}
 use Rattle.tsa_core_points.specs.Walks.{walk, walk_behind, points_along}
 use Rattle.tsa_core_points.proofs.Passing.{body_steps_are_the_points}
 use Rattle.tsa_profile_accesses.specs.Premises.{first}
-use Rattle.tsa_profile_points.specs.Bodies.{Around, is_try_variable, point_premises, points_premises}
-use Rattle.tsa_profile_points.specs.Ways.{each_once, function_paths, named_ways, points_ways, present, unless_many, ways_at}
+use Rattle.tsa_profile_context.specs.Bodies.{Around, is_try_variable, point_premises, points_premises}
+use Rattle.tsa_profile_context.specs.Ways.{each_once, function_paths, named_ways, points_ways, present, unless_many, ways_at}
 
 module _ (a : Around) (here : Scope) (close : Span) where
   abbrev end : PlacedPoint

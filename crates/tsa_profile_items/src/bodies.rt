@@ -1,8 +1,8 @@
 //! What the profile asks of the bodies of functions, and the paths of each.
 ghost use Rattle.std.specs.Prelude.{◌≡◌, ◌∷◌, [], filter, length, map, slice_set, IfOk, OnOk};
-ghost use Rattle.tsa_profile_points.specs.Bodies.{is_try_variable, points_premises};
-ghost use Rattle.tsa_profile_points.specs.PointAnswers.{around_of};
-ghost use Rattle.tsa_profile_points.specs.Ways.{function_paths};
+ghost use Rattle.tsa_profile_context.specs.Bodies.{is_try_variable, points_premises};
+ghost use Rattle.tsa_profile_context.specs.PointAnswers.{around_of};
+ghost use Rattle.tsa_profile_context.specs.Ways.{function_paths};
 ghost use Rattle.tsa_profile_context.specs.ItemJudgements.{Judges};
 ghost use Rattle.tsa_profile_context.specs.Judging.{around_at, unit_at, with_body, with_scope, without_body};
 ghost use Rattle.tsa_profile_accesses.specs.Expressions.{attributes_at};
@@ -17,11 +17,13 @@ ghost use Rattle.tsa_tree.specs.types.Targets.{declared_in_all};
 ghost use Rattle.tsa_place_model.specs.LockPaths.{stable_in};
 
 use tsa_base::{NoMemory, Span};
-use tsa_profile_points::{Around, Judged, attribute_paths};
-use tsa_profile_context::{Ground, Knowledge, ProfileRefusal, answer_of, or_else, put_scope, take_scope};
-use tsa_path::PathTable;
 use tsa_core_points::{Step, Walk, body_steps};
+use tsa_path::PathTable;
 use tsa_profile_accesses::{Failure, NamedLock, NamedLocks, ProfileCode};
+use tsa_profile_context::{
+    Around, Ground, Judged, Knowledge, ProfileRefusal, answer_of, attribute_paths, or_else,
+    put_scope, take_scope,
+};
 use tsa_tree::stmt::Stmt;
 
 /// A function whose head is entered: its number, where its name stands, where its body ends, and which of its locals never change.
@@ -81,8 +83,13 @@ fn around<'t, 'w>(
 ) -> Around<'w>
 where
     't: 'w,
-    ensures { around_of result ≡ record { layout = (unit_at ground.now).program.layout; attributes = attributes.now; tries = spec_tries
-        (attributes_at attributes.now inner.entry.number); stable = stable_in inner.entry.stable.now } }
+    ensures { around_of result ≡ record {
+      layout = (unit_at ground.now).program.layout;
+      attributes = attributes.now;
+      tries = spec_tries
+          (attributes_at attributes.now inner.entry.number);
+      stable = stable_in inner.entry.stable.now;
+    } }
 {
     Around {
         layout: ground.layout,

@@ -1,7 +1,7 @@
 //! Functions with and without bodies, and what is known behind each.
 ghost use Rattle.std.specs.Prelude.{◌≡◌, ◌++◌, None, true, false, is_some, OnOk};
 ghost use Rattle.tsa_base.specs.declared.token.Span.{Span as Close};
-ghost use Rattle.tsa_profile_points.specs.Bodies.{points_premises};
+ghost use Rattle.tsa_profile_context.specs.Bodies.{points_premises};
 ghost use Rattle.tsa_profile_context.specs.ItemJudgements.{Judges};
 ghost use Rattle.tsa_profile_context.specs.Judging.{behind, declared_attributes, unit_at};
 ghost use Rattle.tsa_profile_context.specs.Units.{around, attributes_behind, heads_premises, is_alone as spec_is_alone, item_premises};
@@ -17,12 +17,12 @@ ghost use Rattle.tsa_tree.specs.units.Syntax.{function_item, body_item};
 
 use crate::bodies::{Inside, alone, judge_body};
 use tsa_base::Span;
-use tsa_profile_context::{Ground, Knowledge, ProfileRefusal};
 use tsa_core_environment::leave;
-use tsa_types_scope::Scope;
+use tsa_profile_context::{Ground, Knowledge, ProfileRefusal};
 use tsa_tree::item::FnTree;
 use tsa_tree::stmt::Stmt;
 use tsa_types::function_number;
+use tsa_types_scope::Scope;
 
 /// Where the brace stands that closes a body; where there is none, the function's name.
 fn close_of(head: &FnTree<'_>) -> Span {

@@ -12,11 +12,11 @@ ghost use Rattle.tsa_tree.specs.units.Shapes.{item_shape, item_shapes};
 use crate::functions::function;
 use std::alloc::Global;
 use tsa_base::NoMemory;
-use tsa_profile_context::{Ground, Knowledge, ProfileRefusal, answer_of, or_else};
-use tsa_path::PathTable;
 use tsa_core_environment::{know_alias, know_enum};
-use tsa_types_scope::outset;
+use tsa_path::PathTable;
+use tsa_profile_context::{Ground, Knowledge, ProfileRefusal, answer_of, or_else};
 use tsa_tree::item::Item;
+use tsa_types_scope::outset;
 
 /// An item.
 fn item<'a>(

@@ -7,3 +7,6 @@ mod functions;
 mod items;
 
 pub use items::judge;
+pub use tsa_core_environment::{Bodies, know_item};
+pub use tsa_profile_context::{Ground, ProfileRefusal, init_failure, named_locks};
+pub use tsa_types::Typed;

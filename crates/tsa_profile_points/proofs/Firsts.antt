@@ -3,7 +3,7 @@ use Rattle.std.proofs.Common.{◌≡◌, List, [], ◌∷◌, None, refl, ap}
 use Rattle.std.proofs.lemmas.List.{append_assoc, append-nil}
 use Rattle.tsa_core_points.specs.Points.{PlacedPoint}
 use Rattle.tsa_profile_accesses.specs.Premises.{Premise, failure_of, first, or_else}
-use Rattle.tsa_profile_guards.proofs.Failures.{first_append}
+use Rattle.tsa_profile_declarations.proofs.Failures.{first_append}
 use Rattle.tsa_profile_points.specs.Bodies.{Around, point_premises, points_premises}
 
 pub first_none : first [] ≡ None

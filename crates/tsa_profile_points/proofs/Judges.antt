@@ -11,7 +11,7 @@ use Rattle.tsa_core_points.specs.declared.steps.Step.{Step}
 use Rattle.tsa_core_points.specs.Walks.{Walk, pass, points_along, points_at, walk_behind}
 use Rattle.tsa_profile_accesses.specs.declared.premise.Failure.{Failure}
 use Rattle.tsa_profile_accesses.specs.Premises.{first, or_else}
-use Rattle.tsa_profile_guards.proofs.Failures.{first_append, or_else_none, or_else_or_else}
+use Rattle.tsa_profile_declarations.proofs.Failures.{first_append, or_else_none, or_else_or_else}
 use Rattle.tsa_profile_points.specs.Bodies.{Around, is_try_variable, point_premises, points_premises}
 use Rattle.tsa_profile_points.specs.declared.judgement.Found.{Found}
 use Rattle.tsa_profile_points.specs.Gathering.{with_ways}

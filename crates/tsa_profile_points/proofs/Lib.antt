@@ -7,3 +7,6 @@ pub mod CoreCalls
 pub mod NodeCalls
 pub mod Firsts
 pub mod Keeps
+pub use Rattle.tsa_profile_declarations.proofs.Firsts as ProfileDeclarationsFirsts
+pub use Rattle.tsa_profile_declarations.proofs.Failures
+pub use Rattle.tsa_profile_declarations.proofs.EachItem

@@ -11,8 +11,8 @@ use Rattle.tsa_place_model.specs.Ways.{Way}
 use Rattle.tsa_core.specs.Uses.{init_uses, uses_by}
 use Rattle.tsa_core.specs.Uses as core
 use Rattle.tsa_core_points.specs.Points.{placed}
-use Rattle.tsa_profile_guards.specs.Accesses.{reads, without_span, written}
-use Rattle.tsa_profile_guards.proofs.Spans.{reads_are_those, writes_are_those}
+use Rattle.tsa_profile_declarations.specs.Accesses.{reads, without_span, written}
+use Rattle.tsa_profile_declarations.proofs.Spans.{reads_are_those, writes_are_those}
 use Rattle.tsa_profile_points.specs.Bodies.{Around}
 use Rattle.tsa_profile_points.specs.Gathering.{calls_ways, with_all, with_guards, with_ways}
 use Rattle.tsa_profile_points.specs.PointAnswers.{deed_accesses, init_accesses}

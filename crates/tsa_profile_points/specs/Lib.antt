@@ -4,3 +4,4 @@ pub mod Gathering
 pub mod Judging
 pub mod Laws
 pub mod PointAnswers
+pub use Rattle.tsa_profile_declarations.specs.Declarations

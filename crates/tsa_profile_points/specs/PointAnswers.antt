@@ -7,7 +7,7 @@ use Rattle.tsa_tree.specs.points.Syntax.{Deed, declares, evaluates, assigns, tes
 use Rattle.tsa_tree.specs.types.Scopes.{Scope}
 use Rattle.tsa_place_model.specs.LockPaths.{stable_in}
 use Rattle.tsa_profile_accesses.specs.Accesses.{Access}
-use Rattle.tsa_profile_guards.specs.Accesses.{reads, written}
+use Rattle.tsa_profile_declarations.specs.Accesses.{reads, written}
 use Rattle.tsa_profile_points.specs.Bodies.{Around}
 use Rattle.tsa_profile_points.specs.declared.points.Around.{Around as Given}
 

@@ -5,9 +5,9 @@ ghost use Rattle.tsa_tree.specs.expressions.Shapes.{shape};
 ghost use Rattle.tsa_tree.specs.types.Expressions.{function_of as spec_function_of};
 ghost use Rattle.tsa_tree.specs.types.Scopes.{known_in};
 
+use tsa_tree::expr::{BinaryOp, Expr, ExprKind, UnaryOp};
 use tsa_types_expressions::function_of;
 use tsa_types_scope::Scope;
-use tsa_tree::expr::{BinaryOp, Expr, ExprKind, UnaryOp};
 
 /// The function that a name stands for, by its number.
 fn function_named(scope: &Scope<'_>, name: &[u8]) -> Option<u32>

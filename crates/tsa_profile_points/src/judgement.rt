@@ -19,11 +19,11 @@ use crate::premises::earlier;
 use std::alloc::Global;
 use tsa_base::NoMemory;
 use tsa_core_points::{Step, Walk};
-use tsa_types_scope::Scope;
-use tsa_profile_accesses::{Failure, NamedLock};
 use tsa_path::PathTable;
+use tsa_profile_accesses::{Failure, NamedLock};
 use tsa_tree::expr::Expr;
 use tsa_tree::stmt::{Action, Point};
+use tsa_types_scope::Scope;
 
 /// What is found of the points of a body so far.
 #[derive(Drop)]

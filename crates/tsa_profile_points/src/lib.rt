@@ -12,3 +12,6 @@ pub use calls::function_called;
 pub use judgement::{Judged, attribute_paths};
 pub use laws::calls_are_of_the_core;
 pub use points::{Around, Spot, calling};
+pub use tsa_profile_declarations::{
+    Heading, attributes_failure, given_failure, guards_failure, init_failure, named_locks,
+};

@@ -8,9 +8,9 @@ use std::alloc::Global;
 use std::marker::Model;
 use std::mem::replace;
 use tsa_base::NoMemory;
-use tsa_profile_accesses::{Access, Footprint, NamedLock};
 use tsa_path::{InternRefusal, PathTable, substitute};
 use tsa_place_model::Path;
+use tsa_profile_accesses::{Access, Footprint, NamedLock};
 
 /// Paths, each once, whether there was no room for one, and room for what a point reads and writes. Contracts see the list of the paths, or
 /// none where there was no room.

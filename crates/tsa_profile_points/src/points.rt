@@ -15,18 +15,17 @@ ghost use Rattle.tsa_profile_accesses.specs.Expressions.{expression};
 ghost use Rattle.tsa_profile_accesses.specs.Premises.{first};
 
 use crate::premises::{earlier, failure_if};
-use tsa_profile_accesses::{Body, Failure, Footprint, NamedLocks, ProfileCode, Standing, is_truth};
-use tsa_profile_declarations::{init_failure, is_small};
-use tsa_profile_guards::{reads, writes};
 use tsa_base::{NoMemory, Span};
 use tsa_place_layout::{Layout, declared_thing};
-use tsa_types_scope::Scope;
+use tsa_place_paths::Sight;
+use tsa_profile_accesses::{Body, Failure, Footprint, NamedLocks, ProfileCode, Standing, is_truth};
+use tsa_profile_declarations::{init_failure, is_small, reads, writes};
 use tsa_tree::decl::{Decl, Init};
 use tsa_tree::expr::{BinaryOp, Expr};
 use tsa_tree::kind::{Kind, ThingType};
 use tsa_tree::number::Number;
 use tsa_tree::stmt::{Action, Point};
-use tsa_place_paths::Sight;
+use tsa_types_scope::Scope;
 
 /// What the points of a body stand in: the layout of the unit, the locks that the functions name which are declared so far, by their
 /// numbers, whether the function of the body tries, and which of its locals never change, by their numbers.
@@ -100,8 +99,13 @@ pub fn calling<'t>(action: &Action<'t>) -> Option<&'t Expr<'t>>
 impl<'w, 'a> Spot<'w, 'a> {
     /// What an expression sees there: a thread works it out.
     pub fn body(self) -> Body<'w, 'a>
-        ensures { result ≡ record { sight = record { scope = self.entry.scope; stable = self.entry.around.stable }; layout =
-            self.entry.around.layout; attributes = self.entry.around.attributes; is_run = true } }
+        ensures { result ≡ record {
+          sight = record { scope = self.entry.scope; stable = self.entry.around.stable };
+          layout =
+              self.entry.around.layout;
+          attributes = self.entry.around.attributes;
+          is_run = true;
+        } }
     {
         Body {
             sight: Sight {
@@ -199,8 +203,7 @@ impl<'w, 'a> Spot<'w, 'a> {
 
     /// Whether what a function gives back that tries may be neither 0 nor 1.
     fn value_misfits(self, expr: &Expr<'_>) -> Result<bool, NoMemory>
-        ensures { IfOk result (λ misfits. misfits ≡ spec_value_misfits (around_of self.entry.around) self.entry.scope.now (shape expr.now))
-            }
+        ensures { IfOk result (λ misfits. misfits ≡ spec_value_misfits (around_of self.entry.around) self.entry.scope.now (shape expr.now)) }
     {
         if self.around.tries {
             Ok(is_no_truth(self.body().sight.value_at(expr)?))

@@ -14,7 +14,7 @@ use Rattle.tsa_tree.specs.units.Syntax.{UnitItem, structure_item, alias_item, en
 use Rattle.tsa_core.specs.Programs.{Bodied, Declared, bodied_function, declared_by, first_head}
 use Rattle.tsa_core.specs.Programs as program
 use Rattle.tsa_core.proofs.TypedTerms.{some_same}
-use Rattle.tsa_profile_context.specs.Units.{Unit, attributes_behind, attributes_by, unit_of}
+use Rattle.tsa_profile.specs.Units.{Unit, attributes_behind, attributes_by, unit_of}
 use Rattle.tsa_profile.proofs.FunctionScopes.{Bodies}
 use Rattle.tsa_profile.proofs.PathTables.{Reads, bodies_behind, or_first, own_body, reads_on}
 use Rattle.tsa_rules_bodies.specs.Sites.{Site, or_later, site_at, site_among}

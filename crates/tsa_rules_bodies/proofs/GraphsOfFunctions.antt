@@ -24,7 +24,7 @@ use Rattle.tsa_rules_bodies.specs.Finding.{IsFound}
 use Rattle.tsa_rules_bodies.specs.Knowing.{Knowledge}
 use Rattle.tsa_rules_bodies.specs.Laws.{StandsFor, body_at, result_at}
 use Rattle.tsa_rules_bodies.specs.Sites.{Site, site_of, within}
-use Rattle.tsa_profile_context.specs.Units.{unit_of}
+use Rattle.tsa_profile.specs.Units.{unit_of}
 use Rattle.tsa_rules_bodies.proofs.SiteLaws.{sites_are_of_the_program}
 use Rattle.tsa_rules_bodies.specs.Controls.{IsControlOf, IsGraphIn}
 

@@ -4,3 +4,11 @@ pub mod SiteLaws
 pub mod Passing
 pub mod Seeking
 pub mod GraphsOfFunctions
+pub use Rattle.tsa_profile.proofs.BodyWays
+pub use Rattle.tsa_profile.proofs.Laying
+pub use Rattle.tsa_profile.proofs.PathTables
+pub use Rattle.tsa_profile.proofs.ItemLists
+pub use Rattle.tsa_profile.proofs.EachOnce
+pub use Rattle.tsa_profile.proofs.FunctionPaths
+pub use Rattle.tsa_profile.proofs.FunctionScopes
+pub use Rattle.tsa_profile.proofs.ProfileAllows

@@ -17,7 +17,7 @@ use Rattle.tsa_tree.specs.types.Units.{behind_item}
 use Rattle.tsa_tree.specs.units.Shapes.{function_shape, item_shape, shape_with}
 use Rattle.tsa_tree.specs.units.Syntax.{body_item}
 use Rattle.tsa_core.specs.Programs.{Declared, attrs_of, unless_known}
-use Rattle.tsa_profile_context.specs.Units.{Unit, attributes_by, stable_of}
+use Rattle.tsa_profile.specs.Units.{Unit, attributes_by, stable_of}
 use Rattle.tsa_rules_bodies.specs.Knowing.{Knowledge, behind, entered, with_function, with_scope}
 
 nothing_more : (here : Scope) (k : Knowledge) → with_scope here k ≡ record { here = here; attributes = k.attributes ++ [] }

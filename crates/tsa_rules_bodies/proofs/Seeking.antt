@@ -15,7 +15,7 @@ use Rattle.tsa_tree.specs.units.Shapes.{item_shape, item_shapes}
 use Rattle.tsa_tree.specs.units.Syntax.{UnitItem, structure_item, alias_item, enumeration_item, global_item, function_item, body_item}
 use Rattle.tsa_core.specs.Programs.{Attr}
 use Rattle.tsa_core_environment.specs.Functions.{outside_of}
-use Rattle.tsa_profile_context.specs.Units.{Unit, attributes_behind, unit_of}
+use Rattle.tsa_profile.specs.Units.{Unit, attributes_behind, unit_of}
 use Rattle.tsa_rules_bodies.specs.Entering.{IsEntered, Enters, IsAt, Seeks}
 use Rattle.tsa_rules_bodies.specs.Finding.{IsFound}
 use Rattle.tsa_rules_bodies.specs.Knowing.{Knowledge, IsWithin, behind, entered}

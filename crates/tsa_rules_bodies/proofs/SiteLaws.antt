@@ -16,7 +16,7 @@ use Rattle.tsa_core.proofs.BodiesAgree.{bodies_agree}
 use Rattle.tsa_core.proofs.MappedLists.{map_at, map_length}
 use Rattle.tsa_core.proofs.TypedTerms.{some_same}
 use Rattle.tsa_profile_accesses.specs.Expressions.{attributes_at}
-use Rattle.tsa_profile_context.specs.Units.{attributes_by}
+use Rattle.tsa_profile.specs.Units.{attributes_by}
 use Rattle.tsa_rules.specs.Points.{attrs_called, or_no_function, points_of}
 use Rattle.tsa_rules.proofs.KeptTries.{try_variables_are_told_by_declarations}
 use Rattle.tsa_profile.proofs.AddedNames.{adds_inside}

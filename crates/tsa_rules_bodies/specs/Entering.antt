@@ -8,7 +8,7 @@ use Rattle.tsa_tree.specs.types.Symbols.{number_of}
 use Rattle.tsa_tree.specs.units.Syntax.{UnitItem, body_item}
 use Rattle.tsa_place_model.specs.LockPaths.{stable_in}
 use Rattle.tsa_core_environment.specs.Functions.{outside_of}
-use Rattle.tsa_profile_context.specs.Units.{Unit, stable_of}
+use Rattle.tsa_profile.specs.Units.{Unit, stable_of}
 use Rattle.tsa_rules_bodies.specs.Knowing.{Knowledge, behind, entered}
 use Rattle.tsa_rules_bodies.specs.Sites.{Site, site_at, within}
 use Rattle.tsa_rules_bodies.specs.declared.entries.Inside.{Inside}

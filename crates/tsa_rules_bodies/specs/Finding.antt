@@ -1,6 +1,6 @@
 -- The body that is asked for is given with what is known there.
 use Rattle.std.specs.Prelude.{ℕ, Option, Some, None}
-use Rattle.tsa_profile_context.specs.Units.{Unit}
+use Rattle.tsa_profile.specs.Units.{Unit}
 use Rattle.tsa_rules_bodies.specs.Entering.{IsOf}
 use Rattle.tsa_rules_bodies.specs.Sites.{Site}
 use Rattle.tsa_rules_bodies.specs.declared.search.BodySite.{BodySite}

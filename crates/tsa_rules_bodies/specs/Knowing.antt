@@ -7,7 +7,7 @@ use Rattle.tsa_tree.specs.types.Units.{outset, behind_item}
 use Rattle.tsa_tree.specs.units.Syntax.{UnitItem}
 use Rattle.tsa_core.specs.Programs.{Attr, first_head}
 use Rattle.tsa_core_environment.specs.Functions.{IsInside}
-use Rattle.tsa_profile_context.specs.Units.{Unit, attributes_behind, attributes_by}
+use Rattle.tsa_profile.specs.Units.{Unit, attributes_behind, attributes_by}
 
 -- names, and the attributes of the functions that are declared, by their numbers
 pub record Knowledge : Type 0 where

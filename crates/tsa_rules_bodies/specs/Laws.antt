@@ -11,7 +11,7 @@ use Rattle.tsa_core.specs.Meanings.{Call}
 use Rattle.tsa_core.specs.Programs.{Attr, Function, program_of}
 use Rattle.tsa_core.specs.Uses.{uses_of}
 use Rattle.tsa_profile_accesses.specs.Expressions.{attributes_at}
-use Rattle.tsa_profile_context.specs.Units.{stable_of, unit_of}
+use Rattle.tsa_profile.specs.Units.{stable_of, unit_of}
 use Rattle.tsa_rules.specs.Points.{attrs_called, points_of}
 use Rattle.tsa_rules.specs.TryVariables.{AreInOrder}
 use Rattle.tsa_rules_bodies.specs.Sites.{Site, within, site_of}

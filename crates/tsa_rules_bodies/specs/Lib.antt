@@ -4,3 +4,5 @@ pub mod Entering
 pub mod Finding
 pub mod Laws
 pub mod Controls
+pub use Rattle.tsa_profile.specs.Paths
+pub use Rattle.tsa_profile.specs.Units

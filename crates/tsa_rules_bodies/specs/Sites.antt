@@ -8,7 +8,7 @@ use Rattle.tsa_tree.specs.types.Symbols.{number_of}
 use Rattle.tsa_tree.specs.types.Units.{outset, behind_item}
 use Rattle.tsa_tree.specs.units.Syntax.{UnitItem, body_item}
 use Rattle.tsa_core.specs.Programs.{Attr}
-use Rattle.tsa_profile_context.specs.Units.{Unit, attributes_behind, unit_of}
+use Rattle.tsa_profile.specs.Units.{Unit, attributes_behind, unit_of}
 
 -- The body of a function: what is known by name in front of its item, the attributes of the functions that are declared up to it and with
 -- it, and the item.

@@ -8,10 +8,10 @@ ghost use Rattle.tsa_graph.specs.Graphs.{IsGraph};
 ghost use Rattle.tsa_tree.specs.statements.Shapes.{stmt_shapes};
 ghost use Rattle.tsa_tree.specs.units.Shapes.{item_shapes};
 
+use crate::{Inside, Knowledge, site_in};
 use std::alloc::Global;
 use tsa_base::NoMemory;
 use tsa_graph::{Graph, graph_of_body};
-use crate::{Inside, Knowledge, site_in};
 use tsa_place::Places;
 use tsa_types::Typed;
 

@@ -2,8 +2,8 @@
 ghost use Rattle.std.specs.Prelude.{◌≡◌, None, true, is_some, IfOk};
 ghost use Rattle.tsa_base.specs.declared.token.Span.{Span as Close};
 ghost use Rattle.tsa_core_environment.specs.Functions.{outside_of};
-ghost use Rattle.tsa_profile_context.specs.Judging.{unit_at};
-ghost use Rattle.tsa_profile_context.specs.Units.{Unit as Given};
+ghost use Rattle.tsa_profile.specs.Judging.{unit_at};
+ghost use Rattle.tsa_profile.specs.Units.{Unit as Given};
 ghost use Rattle.tsa_rules_bodies.specs.Entering.{Enters, IsEntered};
 ghost use Rattle.tsa_rules_bodies.specs.Knowing.{IsWithin, behind};
 ghost use Rattle.tsa_rules_bodies.specs.Knowing.{Knowledge as Known};
@@ -18,10 +18,10 @@ ghost use Rattle.tsa_tree.specs.units.Syntax.{body_item};
 use crate::knowledge::{Knowledge, enter_head, pass, pass_function, stable_locals};
 use tsa_base::NoMemory;
 use tsa_core_environment::{Outside, leave};
-use tsa_profile_context::Ground;
-use tsa_types::function_number;
+use tsa_profile::Ground;
 use tsa_tree::item::{FnTree, Item};
 use tsa_tree::stmt::Stmt;
+use tsa_types::function_number;
 
 /// A body that is entered: its function by number and head, its statements, which of its locals never change, and what is left behind it.
 pub struct Inside<'a> {
@@ -54,8 +54,7 @@ pub fn enter_body<'a>(
 ) -> Result<Inside<'a>, NoMemory>
     requires typed { types.first (heads.head_premises known.old.here (head_shape head.now) true) ≡ None }
     requires body { is_some head.now.body ≡ true }
-    ensures { IfOk result (λ inside. IsEntered (unit_at ground.now) known.old (head_shape head.now) (stmt_shapes body.now) known.new inside)
-        }
+    ensures { IfOk result (λ inside. IsEntered (unit_at ground.now) known.old (head_shape head.now) (stmt_shapes body.now) known.new inside) }
 {
     let number = function_number(&known.scope, head)?;
     let stable = stable_locals(ground, head)?;

@@ -3,8 +3,8 @@ ghost use Rattle.std.specs.Prelude.{◌≡◌, None, is_some, IfOk, OnOk};
 ghost use Rattle.tsa_core.specs.Programs.{attrs_of};
 ghost use Rattle.tsa_core_environment.specs.Functions.{outside_of};
 ghost use Rattle.tsa_profile_accesses.specs.Expressions.{attributes_at};
-ghost use Rattle.tsa_profile_context.specs.Judging.{unit_at};
-ghost use Rattle.tsa_profile_context.specs.Units.{Unit as Given, stable_of};
+ghost use Rattle.tsa_profile.specs.Judging.{unit_at};
+ghost use Rattle.tsa_profile.specs.Units.{Unit as Given, stable_of};
 ghost use Rattle.tsa_rules_bodies.specs.Knowing.{behind, entered, outset_of, with_function};
 ghost use Rattle.tsa_tree.specs.declarations.Shapes.{head_shape};
 ghost use Rattle.tsa_tree.specs.types.Heads as heads;
@@ -17,12 +17,11 @@ use std::alloc::Global;
 use std::marker::Model;
 use tsa_base::NoMemory;
 use tsa_core_environment::{Outside, enter, know_item, leave};
-use tsa_profile_context::Ground;
-use tsa_profile_accesses::{NamedLock, NamedLocks};
-use tsa_profile_declarations::named_locks;
-use tsa_types_scope::Scope;
-use tsa_tree::item::{FnTree, Item};
 use tsa_place_paths::Sight;
+use tsa_profile::{Ground, named_locks};
+use tsa_profile_accesses::{NamedLock, NamedLocks};
+use tsa_tree::item::{FnTree, Item};
+use tsa_types_scope::Scope;
 
 /// What is known by name, and the locks that the declared functions name, by their numbers.
 pub struct Knowledge<'a> {
@@ -86,8 +85,7 @@ fn keep_locks<'a>(
     head: &FnTree<'a>,
     stable: &[bool],
 ) -> Result<(), NoMemory>
-    ensures { OnOk result (known.new ≡ with_function (attrs_of (stable_in stable.now) known.old.here (head_shape head.now).attrs) known.old)
-        }
+    ensures { OnOk result (known.new ≡ with_function (attrs_of (stable_in stable.now) known.old.here (head_shape head.now).attrs) known.old) }
 {
     let sight = Sight {
         scope: &known.scope,

@@ -12,3 +12,4 @@ pub use entries::{Inside, enter_body, enter_item, leave_body};
 pub use knowledge::{Knowledge, outset, pass};
 pub use laws::sites_are_of_the_program;
 pub use search::{BodySite, site, site_in};
+pub use tsa_profile::Fit;

@@ -1,12 +1,12 @@
 //! The body of a function by its number.
 ghost use Rattle.std.specs.Prelude.{◌≡◌, [], None, Ok, Some, option_map, IfOk};
 ghost use Rattle.tsa_place_model.specs.Units.{placed_in};
-ghost use Rattle.tsa_profile_context.specs.Judging.{unit_at};
+ghost use Rattle.tsa_profile.specs.Judging.{unit_at};
 ghost use Rattle.tsa_rules_bodies.specs.Entering.{IsAt, Seeks};
 ghost use Rattle.tsa_rules_bodies.specs.Finding.{IsFound};
 ghost use Rattle.tsa_rules_bodies.specs.Knowing.{outset_of};
 ghost use Rattle.tsa_rules_bodies.specs.Sites.{site_of};
-ghost use Rattle.tsa_profile_context.specs.Units.{unit_of};
+ghost use Rattle.tsa_profile.specs.Units.{unit_of};
 ghost use Rattle.tsa_tree.specs.types.Premises as types;
 ghost use Rattle.tsa_tree.specs.types.Units as typed;
 ghost use Rattle.tsa_tree.specs.units.Shapes.{item_shape, item_shapes};
@@ -17,9 +17,9 @@ use std::alloc::Global;
 use tsa_base::NoMemory;
 use tsa_core_environment::Bodies;
 use tsa_place::Places;
-use tsa_profile_context::Ground;
-use tsa_types::Typed;
+use tsa_profile::Ground;
 use tsa_tree::item::Item;
+use tsa_types::Typed;
 
 /// The body of a function, with what is known where its statements begin.
 #[derive(Drop)]

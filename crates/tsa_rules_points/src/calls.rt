@@ -8,10 +8,10 @@ ghost use Rattle.tsa_profile_accesses.specs.Locks.{tries};
 ghost use Rattle.tsa_tree.specs.statements.Shapes.{action_shape};
 
 use crate::visit::Visit;
-use tsa_profile_points::{Spot, calling, function_called};
-use tsa_types_scope::Scope;
 use tsa_profile_accesses::{NamedLock, NamedLocks};
+use tsa_profile_points::{Spot, calling, function_called};
 use tsa_tree::stmt::Action;
+use tsa_types_scope::Scope;
 
 /// The function that a point calls, by its number.
 fn callee_at(scope: &Scope<'_>, action: &Action<'_>) -> Option<u32>

@@ -10,10 +10,10 @@ ghost use Rattle.tsa_tree.specs.statements.Shapes.{action_shape};
 
 use crate::visit::Visit;
 use tsa_base::NoMemory;
-use tsa_profile_points::calling;
-use tsa_profile_guards::{reads, writes};
-use tsa_rules_table::{Marks, Numbers};
 use tsa_profile_accesses::{Footprint, Standing};
+use tsa_profile_guards::{reads, writes};
+use tsa_profile_points::calling;
+use tsa_rules_table::{Marks, Numbers};
 use tsa_tree::expr::Expr;
 use tsa_tree::stmt::Action;
 

@@ -1,7 +1,7 @@
 //! What is noted of the points of a body.
 
-use tsa_rules_table::{Marks, Numbers};
 use tsa_rules_roles::Roles;
+use tsa_rules_table::{Marks, Numbers};
 use tsa_tree::kind::Kind;
 
 /// What the points of a body are to the rules, by their numbers: their roles, the functions that they call, and a row of marks for each;

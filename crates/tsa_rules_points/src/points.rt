@@ -15,15 +15,15 @@ use crate::marking::Marking;
 use crate::notes::{Noted, Notes};
 use crate::visit::Visit;
 use tsa_base::NoMemory;
-use tsa_profile_points::{Around, Spot};
-use tsa_place_layout::declared_thing;
-use tsa_rules_table::{Marks, Numbers};
 use tsa_core_points::{Step, Walk};
-use tsa_rules_roles::{Roles, duty_at};
-use tsa_types_scope::Scope;
+use tsa_place_layout::declared_thing;
 use tsa_profile_accesses::Footprint;
+use tsa_profile_points::{Around, Spot};
+use tsa_rules_roles::{Roles, duty_at};
+use tsa_rules_table::{Marks, Numbers};
 use tsa_tree::kind::Kind;
 use tsa_tree::stmt::Action;
+use tsa_types_scope::Scope;
 
 /// What is around the body whose points are noted, and the kind of what its function gives.
 #[derive(Clone, Copy)]

@@ -11,10 +11,10 @@ ghost use Rattle.tsa_rules_roles.specs.ValueAnswers.{subject_of};
 
 use crate::gist::{Gist, gist_at};
 use crate::worth::Worth;
-use tsa_types_scope::Scope;
 use tsa_tree::expr::{BinaryOp, Expr, ExprKind, UnaryOp};
 use tsa_tree::kind::Kind;
 use tsa_tree::number::Number;
+use tsa_types_scope::Scope;
 
 /// What a test looks at: the answer of the call that is made at its point, or a local by its number.
 #[derive(Clone, Copy)]

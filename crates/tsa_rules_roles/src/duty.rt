@@ -6,9 +6,9 @@ ghost use Rattle.tsa_rules.specs.Conditions.{answer_of};
 ghost use Rattle.tsa_rules_roles.specs.Duties.{Tells};
 
 use crate::answers::{Told, answer_told, test_told};
-use tsa_types_scope::Scope;
 use tsa_tree::kind::Kind;
 use tsa_tree::stmt::Action;
+use tsa_types_scope::Scope;
 
 /// What a point does for the rules.
 #[derive(Clone, Copy)]

@@ -11,13 +11,17 @@ ghost use Rattle.tsa_rules_roles.specs.Worths.{binary_gist, binary_worth as spec
 ghost use Rattle.tsa_rules_roles.specs.Worths.{worth_of};
 
 use crate::worth::{Worth, joined_worth, prefix_worth};
-use tsa_types_operators::{binary_type, element_type, is_integer_kind, is_pointer_kind, prefix_type, value};
-use tsa_types_expressions::{entry_type, member_type, number_type, number_value, owner, result_type};
-use tsa_types_scope::Scope;
 use tsa_tree::expr::{BinaryOp, Expr, ExprKind, UnaryOp};
 use tsa_tree::kind::{ExpressionType, Kind, ThingType};
 use tsa_tree::meaning::{Entry, Meaning};
 use tsa_tree::number::Number;
+use tsa_types_expressions::{
+    entry_type, member_type, number_type, number_value, owner, result_type,
+};
+use tsa_types_operators::{
+    binary_type, element_type, is_integer_kind, is_pointer_kind, prefix_type, value,
+};
+use tsa_types_scope::Scope;
 
 /// The type of an expression, and what its value is.
 #[derive(Clone, Copy)]
@@ -51,8 +55,7 @@ fn unknown() -> Gist
 
 /// A number.
 fn number(value: u32, unsigned: bool) -> Gist
-    ensures { result ≡ record { expression = spec_number_type value unsigned; worth = worth.Number (Ok (spec_number_value value unsigned)) }
-        }
+    ensures { result ≡ record { expression = spec_number_type value unsigned; worth = worth.Number (Ok (spec_number_value value unsigned)) } }
 {
     Gist {
         expression: number_type(value, unsigned),

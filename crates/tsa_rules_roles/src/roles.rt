@@ -8,11 +8,11 @@ ghost use Rattle.tsa_rules_roles.specs.ProgramDuties.{AreRoles, Grows};
 ghost use Rattle.tsa_rules_roles.specs.Variables.{variable_after, variable_in};
 
 use crate::variables::{Variable, make_room, put, variable_of};
+use crate::{Duty, Looked};
 use std::alloc::Global;
 use std::marker::Model;
 use tsa_base::NoMemory;
 use tsa_rules::{Asked, Role, Test};
-use crate::{Duty, Looked};
 
 /// What each point of a body does for the rules, and the numbers of its try variables. Contracts see what the points do, where of the
 /// locals only try variables are declared.

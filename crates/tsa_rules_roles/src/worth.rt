@@ -3,9 +3,9 @@ ghost use Rattle.std.specs.Prelude.{◌≡◌, option_map};
 ghost use Rattle.tsa_rules_roles.specs.Worths.{joined_worth as spec_joined_worth, number_behind as spec_number_behind};
 ghost use Rattle.tsa_rules_roles.specs.Worths.{prefix_worth as spec_prefix_worth};
 
-use tsa_types_expressions::{worked_binary, worked_prefix};
 use tsa_tree::expr::{BinaryOp, UnaryOp};
 use tsa_tree::number::{Number, Trap};
+use tsa_types_expressions::{worked_binary, worked_prefix};
 
 /// What the value of an expression is.
 #[derive(Clone, Copy)]

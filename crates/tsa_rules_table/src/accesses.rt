@@ -9,8 +9,8 @@ use crate::note::{Note, Side};
 use crate::notes::copy;
 use crate::numbers::Numbers;
 use tsa_base::NoMemory;
-use tsa_profile_accesses::Access;
 use tsa_place_model::Path;
+use tsa_profile_accesses::Access;
 
 impl Marks {
     /// Notes the same of each guard of an access.

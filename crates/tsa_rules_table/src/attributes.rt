@@ -14,9 +14,9 @@ use crate::numbers::Numbers;
 use std::alloc::Global;
 use tsa_base::NoMemory;
 use tsa_path::substitute;
-use tsa_rules::Claim;
-use tsa_profile_accesses::NamedLock;
 use tsa_place_model::Path;
+use tsa_profile_accesses::NamedLock;
+use tsa_rules::Claim;
 
 /// What a lock's attribute claims.
 fn claim_of(lock: &NamedLock) -> Claim

@@ -13,7 +13,7 @@ use Rattle.tsa_rules.specs.Attributes.{lock_kind_of, local_kinds}
 use Rattle.tsa_rules.specs.Cases.{kept_of, lock_of}
 use Rattle.tsa_rules.specs.Marks.{mark_of}
 use Rattle.tsa_rules.specs.Points.{points_of}
-use Rattle.tsa_profile_context.specs.Units.{stable_of, unit_of}
+use Rattle.tsa_rules_bodies.specs.Units.{stable_of, unit_of}
 use Rattle.tsa_profile_points.specs.Bodies.{Around}
 use Rattle.tsa_rules_view.specs.declared.kind.LockKind.{LockKind as CodeKind}
 use Rattle.tsa_rules_view.specs.Kinds.{kind_in as kind_in_unit, kind_of, kinds_of, is_taken_again}

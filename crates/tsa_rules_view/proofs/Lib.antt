@@ -13,3 +13,4 @@ pub mod BodyViews
 pub mod RuleNumbers
 pub mod ViewsOfFunctions
 pub mod HandedResults
+pub use Rattle.tsa_rules_bodies.proofs.EachOnce

@@ -8,10 +8,10 @@ use Rattle.tsa_place_model.specs.Calls.{Layout}
 use Rattle.tsa_core.specs.Bodies.{Body}
 use Rattle.tsa_core.specs.Programs.{Function, LockKind, Program, lock_kinds, program_of}
 use Rattle.tsa_profile_points.specs.Ways.{each_once, unless_many}
-use Rattle.tsa_profile_context.specs.Units.{unit_of}
+use Rattle.tsa_rules_bodies.specs.Units.{unit_of}
 use Rattle.tsa_path.specs.PathTables.{AreDifferent, path_limit, with_path}
 use Rattle.tsa_path.proofs.Numbers.{table_holds_different_paths}
-use Rattle.tsa_profile.specs.Paths.{paths_if, paths_of, ways_of}
+use Rattle.tsa_rules_bodies.specs.Paths.{paths_if, paths_of, ways_of}
 use Rattle.tsa_rules_bodies.specs.Entering.{IsOf}
 use Rattle.tsa_rules_bodies.specs.declared.BodySite.{BodySite}
 use Rattle.tsa_rules_bodies.specs.Finding.{IsFound}

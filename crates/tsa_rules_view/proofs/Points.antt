@@ -21,10 +21,10 @@ use Rattle.tsa_core_points.proofs.PointsOfCore.{placed_are_known, points_are_of_
 use Rattle.tsa_rules.specs.Attributes.{all_as_called}
 use Rattle.tsa_rules.specs.Marks.{mark_by, mark_of}
 use Rattle.tsa_rules.specs.Points.{attrs_at, attrs_called, local_begun, or_idle, or_unused, point_at, points_of, uses_at}
-use Rattle.tsa_profile_context.specs.Units.{stable_of, unit_of}
+use Rattle.tsa_rules_bodies.specs.Units.{stable_of, unit_of}
 use Rattle.tsa_profile_points.specs.Bodies.{Around}
 use Rattle.tsa_profile_points.specs.Ways.{called_at}
-use Rattle.tsa_profile.proofs.BodyWays.{called_same}
+use Rattle.tsa_rules_bodies.proofs.BodyWays.{called_same}
 use Rattle.tsa_rules_table.specs.Rows.{Rows, mark_in}
 use Rattle.tsa_rules_points.proofs.Begun.{begun_is}
 use Rattle.tsa_rules_points.specs.Marking.{IsRowOf}
@@ -34,7 +34,7 @@ use Rattle.tsa_rules_bodies.specs.Laws as site
 use Rattle.tsa_rules_bodies.specs.Sites.{Site, within}
 use Rattle.tsa_place_model.specs.LockPaths.{stable_in}
 use Rattle.tsa_rules_view.specs.Views.{number_called}
-use Rattle.tsa_profile.proofs.PathTables.{map_both}
+use Rattle.tsa_rules_bodies.proofs.PathTables.{map_both}
 
 -- the attributes of what is called, by the call and by its function's number
 called_by_number : (known : List (List Attr)) (c : Option Call) → site.called_attributes known c ≡ called_attributes known (option_map (λ x. x.function) c)

@@ -23,7 +23,7 @@ use Rattle.tsa_profile_accesses.specs.Expressions.{attributes_at}
 use Rattle.tsa_rules_bodies.specs.Knowing.{Knowledge}
 use Rattle.tsa_rules_bodies.specs.Laws.{StandsFor}
 use Rattle.tsa_rules_bodies.specs.Sites.{Site}
-use Rattle.tsa_profile_context.specs.Units.{unit_of}
+use Rattle.tsa_rules_bodies.specs.Units.{unit_of}
 use Rattle.tsa_rules_view.specs.declared.build.Unit.{Unit}
 use Rattle.tsa_rules_view.specs.declared.content.RuleView.{RuleView}
 use Rattle.tsa_rules_view.specs.Parts.{kinds_along, param_kinds}

@@ -5,3 +5,5 @@ pub mod Structs
 pub mod Laws
 pub mod Examples
 pub mod BodyViews
+pub use Rattle.tsa_rules_bodies.specs.Controls
+pub use Rattle.tsa_rules_bodies.specs.Paths

@@ -11,7 +11,7 @@ use Rattle.tsa_rules.specs.Cases.{case_of, lock_of, role_of}
 use Rattle.tsa_rules.specs.Points.{points_of}
 use Rattle.tsa_rules_view.specs.Kinds.{kind_of}
 use Rattle.tsa_rules_view.specs.declared.kind.LockKind.{LockKind as Kind}
-use Rattle.tsa_profile.specs.Paths.{paths_if}
+use Rattle.tsa_rules_bodies.specs.Paths.{paths_if}
 use Rattle.tsa_rules_table.specs.Rows.{mark_in, rows_in}
 use Rattle.tsa_rules_roles.specs.Roles.{begin_in, role_in}
 use Rattle.tsa_rules_view.specs.declared.content.RuleView.{RuleView}

@@ -18,16 +18,16 @@ ghost use Rattle.tsa_place_model.specs.LockPaths.{stable_in};
 use crate::content::RuleView;
 use crate::parts::{are_few, kinds_of, own_marks, param_kinds};
 use crate::walks::{begin_walk, end_walk};
-use tsa_base::NoMemory;
-use tsa_rules_bodies::{Inside, Knowledge};
-use tsa_profile_accesses::NamedLocks;
-use tsa_place_layout::{Layout, declared_thing};
 use crate::{Leads, LockKind};
+use tsa_base::NoMemory;
+use tsa_core_points::{Step, body_steps};
+use tsa_path::PathTable;
+use tsa_place_layout::{Layout, declared_thing};
+use tsa_profile_accesses::NamedLocks;
 use tsa_profile_points::Around;
+use tsa_rules_bodies::{Inside, Knowledge};
 use tsa_rules_points::{Frame, Noted, notes_of};
 use tsa_rules_table::{Marks, Numbers};
-use tsa_path::PathTable;
-use tsa_core_points::{Step, body_steps};
 use tsa_types_scope::Scope;
 
 /// The layout of a typed unit, and the kinds of locks that its structs are.
@@ -54,8 +54,7 @@ fn notes_along<'a>(
     ensures noted { IfOk result (λ noted. AreDifferent paths.now
         → AreNoted (around_of frame.entry.around) frame.entry.kind paths.now (points_along (walk scope.old []) (map step_shape steps.now))
         noted) }
-    ensures scope { OnOk result (scope.new ≡ with_locals scope.old.locals (walk_behind (walk scope.old []) (map step_shape steps.now)).here)
-        }
+    ensures scope { OnOk result (scope.new ≡ with_locals scope.old.locals (walk_behind (walk scope.old []) (map step_shape steps.now)).here) }
 {
     let locals = scope.next_local();
     let numbers = Numbers::copy_of(scope.allocator(), paths)?;

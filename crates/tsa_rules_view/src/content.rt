@@ -4,8 +4,8 @@ ghost use Rattle.tsa_rules_roles.specs.Roles.{tries_in};
 ghost use Rattle.tsa_rules.specs.Sets.{pending_places};
 
 use crate::LockKind;
-use tsa_rules_table::{Marks, Numbers};
 use tsa_rules_points::Notes;
+use tsa_rules_table::{Marks, Numbers};
 
 /// All that the rules go by in a function: its paths by their numbers, the kind of the lock to which each leads and what the function says
 /// of it, and what its points do and say of each path.

@@ -1,7 +1,7 @@
 //! What walks bring to the points of a unit's functions.
 ghost use Rattle.std.specs.Prelude.{◌≡◌, ◌<◌, ◌↔◌, ℕ, List, Some, length, option_map, slice_get, IsTrue};
 ghost use Rattle.tsa_core.specs.Programs.{Function, program_of};
-ghost use Rattle.tsa_profile.specs.Paths.{paths_if};
+ghost use Rattle.tsa_rules_bodies.specs.Paths.{paths_if};
 ghost use Rattle.tsa_rules.specs.Points.{points_of};
 ghost use Rattle.tsa_rules.specs.Sets.{Has};
 ghost use Rattle.tsa_rules.specs.declared.status.Status.{Status};

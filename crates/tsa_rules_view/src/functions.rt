@@ -8,13 +8,12 @@ ghost use Rattle.tsa_rules_view.specs.Views.{IsViewIn};
 
 use crate::build::Unit;
 use crate::content::RuleView;
+use crate::lock_kinds;
 use std::alloc::Global;
 use tsa_base::NoMemory;
-use tsa_rules_bodies::{BodySite, site_in};
-use tsa_profile::Fit;
-use tsa_place::Places;
-use crate::lock_kinds;
 use tsa_path::PathTable;
+use tsa_place::Places;
+use tsa_rules_bodies::{BodySite, Fit, site_in};
 
 impl<'w, 'a> Unit<'w, 'a> {
     /// The view of the body of a site, by the paths of its function.

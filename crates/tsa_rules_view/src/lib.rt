@@ -20,3 +20,4 @@ pub use facts::Facts;
 pub use kind::{LockKind, is_reentrant, kind_at, lock_kinds};
 pub use laws::{lock_kinds_are_as_written, lock_kinds_are_of_the_program};
 pub use structure::Leads;
+pub use tsa_rules_bodies::{Fit, graph_of};

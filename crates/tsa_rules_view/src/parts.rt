@@ -10,13 +10,13 @@ ghost use Rattle.tsa_tree.specs.declarations.Shapes.{param_shape, param_shapes};
 ghost use Rattle.tsa_tree.specs.types.DeclaredTypes.{thing_type};
 ghost use Rattle.tsa_rules_view.specs.Parts.{kinds_along, param_kinds as spec_param_kinds};
 
+use crate::{Leads, LockKind, kind_at};
 use std::alloc::Global;
 use tsa_base::NoMemory;
-use tsa_profile_accesses::NamedLock;
 use tsa_place_layout::declared_thing;
-use crate::{Leads, LockKind, kind_at};
-use tsa_rules_table::{Marks, Numbers};
+use tsa_profile_accesses::NamedLock;
 use tsa_rules_roles::Roles;
+use tsa_rules_table::{Marks, Numbers};
 use tsa_tree::item::Param;
 use tsa_tree::kind::Kind;
 use tsa_types_scope::Scope;

@@ -11,11 +11,11 @@ ghost use Rattle.tsa_place_model.specs.Ways.{Way};
 
 use crate::content::RuleView;
 use crate::{LockKind, is_reentrant};
-use tsa_rules_table::{Marks, Numbers};
+use tsa_place_model::Path;
 use tsa_rules::{Case, Claim, Lock, Role};
+use tsa_rules_table::{Marks, Numbers};
 use tsa_tree::attr::AttrKind;
 use tsa_tree::kind::Kind;
-use tsa_place_model::Path;
 
 impl<'a> RuleView<'a> {
     /// How many paths there are.

@@ -9,8 +9,8 @@ use Rattle.tsa_profile_accesses.specs.declared.premise.ProfileCode.{ProfileCode}
 use Rattle.tsa_profile_accesses.specs.declared.premise.ProfileCode.TheVariants.{PF1, PF2, PF3, PF4, PF5, PF6, PF7, PF8, PF9, LM4, LM7}
 use Rattle.tsa_core.specs.Programs.{program_of}
 use Rattle.tsa_rules.specs.Warnings.{HasNoWarnings}
-use Rattle.tsa_warn.specs.WarningLines.{Warned}
-use Rattle.tsa_warn.proofs.Silence.{units_without_lines, units_without_warnings}
+use Rattle.tsa_tool_held.specs.WarningLines.{Warned}
+use Rattle.tsa_tool_held.proofs.Silence.{units_without_lines, units_without_warnings}
 use Rattle.tsa_tool.specs.Checks.{fit_in}
 use Rattle.tsa_tool.specs.Reports.{IsCheckOf, IsReportBy, OfUnit, Report, accepted, profile_status, refused_report, syntax_status}
 use Rattle.tsa_tool.specs.Reports.{warned_report}

@@ -2,7 +2,7 @@
 use Rattle.std.proofs.Common.{◌≡◌, ◌∙◌, ℕ, Bool, true, false, List, length, Result, Ok, Err, Some, None, nat_lt, sym, ap}
 use Rattle.tsa_base.specs.declared.limits.TheConstants.{INPUT_LIMIT}
 use Rattle.tsa_tree.specs.units.Syntax.{UnitItem}
-use Rattle.tsa_warn.proofs.OneText.{warned_once}
+use Rattle.tsa_tool_held.proofs.OneText.{warned_once}
 use Rattle.tsa_tool_held.proofs.HeldOnce.{held_once}
 use Rattle.tsa_tool.specs.Checks.{fit_in, tree_in}
 use Rattle.tsa_tool.specs.Reports.{IsAnswerTo, IsCheckOf, IsHeldOf, IsPrintOf, IsReportBy, OfUnit, OneReportIsRight, Report, warned_report}

@@ -10,7 +10,7 @@ use Rattle.tsa_expr.specs.declared.refusal.SyntaxCode.TheVariants.{SY1, AT1, AT2
 use Rattle.tsa_profile_accesses.specs.declared.premise.ProfileCode.{ProfileCode}
 use Rattle.tsa_profile_accesses.specs.declared.premise.ProfileCode.TheVariants.{PF1, PF2, PF3, PF4, PF5, PF6, PF7, PF8, PF9, LM4, LM7}
 use Rattle.tsa_sound_accepted.specs.terms.Units.{IsInProfile}
-use Rattle.tsa_warn.specs.WarningLines.{Warned}
+use Rattle.tsa_tool_held.specs.WarningLines.{Warned}
 use Rattle.tsa_sound_accepted.proofs.AcceptedUnits.{units_without_warnings_are_sound}
 use Rattle.tsa_tool.specs.Checks.{fit_in}
 use Rattle.tsa_tool.specs.Reports.{IsCheckOf, IsReport, IsReportBy, OfUnit, Report, accepted, profile_status, refused_report, status_number}

@@ -9,7 +9,7 @@ use Rattle.tsa_print.specs.UnitPieces.{canonical_unit}
 use Rattle.tsa_tree.specs.units.Syntax.{UnitItem}
 use Rattle.tsa_tool.specs.Checks.{fit_in, tree_in}
 use Rattle.tsa_tool_held.specs.Held.{IsHeld}
-use Rattle.tsa_warn.specs.WarningLines.{IsWarned, Warned}
+use Rattle.tsa_tool_held.specs.WarningLines.{IsWarned, Warned}
 use Rattle.tsa_base.specs.declared.token.LexCode.{LexCode}
 use Rattle.tsa_base.specs.declared.token.LexCode.TheVariants.{LX1, LX2, LX3, LX4, LX5}
 use Rattle.tsa_expr.specs.declared.refusal.SyntaxCode.{SyntaxCode}

@@ -6,7 +6,7 @@ ghost use Rattle.tsa_tool.specs.Reports.{IsCheckOf, IsPrintOf, OfUnit, status_nu
 ghost use Rattle.tsa_tool.specs.Reports.{refused_report, lex_text, syntax_text, syntax_status, type_text, profile_text, profile_status};
 ghost use Rattle.tsa_tool.specs.Reports.{line};
 ghost use Rattle.tsa_tool.specs.Answer.{report_of};
-ghost use Rattle.tsa_warn.specs.OneBody.{warned_of};
+ghost use Rattle.tsa_tool_held.specs.OneBody.{warned_of};
 ghost use Rattle.tsa_tree.specs.units.Shapes.{HaveTheirPoints, item_shapes};
 ghost use Rattle.std.specs.Fmt.{decimal};
 ghost use Rattle.tsa_base.specs.Places.{place_at, place_text};
@@ -17,7 +17,7 @@ use std::alloc::Global;
 use tsa_base::{LexCode, LineStarts, NoMemory};
 use tsa_expr::SyntaxCode;
 use tsa_profile_accesses::ProfileCode;
-use tsa_warn::{Ready, UnitLines, unit_lines};
+use tsa_tool_held::{Ready, UnitLines, unit_lines};
 use tsa_tree::premise::TypeCode;
 
 /// How an answer ends the program.

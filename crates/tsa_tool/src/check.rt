@@ -23,11 +23,11 @@ use tsa_print::print_unit;
 use tsa_profile::{Fit, fit};
 use tsa_profile_accesses::ProfileCode;
 use tsa_profile_context::ProfileRefusal;
-use tsa_warn::Ready;
+use tsa_tool_held::Ready;
 use tsa_tree::Parsed;
 use tsa_tree::premise::TypeCode;
-use tsa_types_expressions::TypeRefusal;
 use tsa_types::{Typed, type_check};
+use tsa_types_expressions::TypeRefusal;
 use tsa_unit::parse;
 
 /// Why a unit is refused, with a line of its own: a byte that makes it no tokens, a token or a function that its syntax refuses, a node

@@ -2,9 +2,9 @@
 #![tactic(auto)]
 
 mod answer;
-mod exchange;
 mod check;
 mod command;
+mod exchange;
 mod laws;
 mod top;
 

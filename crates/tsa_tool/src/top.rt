@@ -8,8 +8,8 @@ ghost use Rattle.tsa_tool.specs.Runs.{OfInput, IsAnswer, Answers, ReadsItsInput,
 ghost use Rattle.tsa_tool.specs.Units.{SpellsSoundUnit};
 ghost use Rattle.tsa_tool.specs.declared.command.Command.TheVariants.{Check};
 
-use crate::exchange::{Trouble, ask};
 use crate::command::command_from;
+use crate::exchange::{Trouble, ask};
 use std::alloc::Global;
 use tsa_base::{Sink, Source};
 

@@ -8,7 +8,7 @@ use Rattle.tsa_rules.proofs.SetBits.{sets_are_their_statuses}
 use Rattle.tsa_warn_text.specs.Orders.{IsToldBefore, texts_of}
 use Rattle.tsa_warn_text.specs.Ranks.{numbers_of}
 use Rattle.tsa_warn_text.proofs.Telling.{not_both_are_told_first}
-use Rattle.tsa_warn_bodies.specs.Bodies.{BodyText}
+use Rattle.tsa_warn.specs.Bodies.{BodyText}
 use Rattle.tsa_tool_held.specs.Held.{Account, IsAccountHeld, IsBodyHeld, IsOrder, IsPathLine, IsPointText, IsSetAt, account, paths_in}
 use Rattle.tsa_tool_held.specs.Held.{set_line}
 use Rattle.tsa_tool_held.specs.Pieces.{Pieces}

@@ -6,3 +6,5 @@ pub mod HeldOnce
 pub mod HeldLine
 pub mod Paging
 pub mod Trying
+pub use Rattle.tsa_warn.proofs.OneText
+pub use Rattle.tsa_warn.proofs.Silence

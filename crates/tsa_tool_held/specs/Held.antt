@@ -17,8 +17,8 @@ use Rattle.tsa_rules.specs.Walks.{ReachAt, course_of}
 use Rattle.tsa_warn_text.specs.DeclaredNames.{text_by}
 use Rattle.tsa_warn_text.specs.Orders.{IsToldBefore, texts_of}
 use Rattle.tsa_warn_text.specs.Ranks.{numbers_of}
-use Rattle.tsa_warn_bodies.specs.Bodies.{BodyText, bodies_of, names_of}
-use Rattle.tsa_profile.specs.Paths.{paths_of}
+use Rattle.tsa_warn.specs.Bodies.{BodyText, bodies_of, names_of}
+use Rattle.tsa_warn.specs.Paths.{paths_of}
 use Rattle.tsa_warn.specs.Lines.{held_line}
 use Rattle.tsa_tool_held.specs.Pieces.{Pieces}
 

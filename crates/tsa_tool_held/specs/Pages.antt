@@ -3,7 +3,7 @@ use Rattle.std.specs.Prelude.{◌≡◌, length, map}
 use Rattle.tsa_tree.specs.statements.Shapes.{point_shape}
 use Rattle.tsa_rules.specs.Points.{points_of}
 use Rattle.tsa_warn_text.specs.Orders.{texts_of}
-use Rattle.tsa_flow_function.specs.Flows.{IsFlowOf}
+use Rattle.tsa_warn.specs.Flows.{IsFlowOf}
 use Rattle.tsa_tool_held.specs.Held.{Account, IsOrder, paths_in, tries_in}
 use Rattle.tsa_tool_held.specs.declared.held.Page.{Page}
 

@@ -3,11 +3,11 @@ ghost use Rattle.std.specs.Prelude.{◌≡◌, ◌≤◌, ◌<◌, ◌++◌, ℕ
 ghost use Rattle.std.specs.Io.KnownBytes.{Appends};
 ghost use Rattle.tsa_base.specs.Causes.{Rose};
 ghost use Rattle.tsa_base.specs.Transfer.{AppendsFront};
-ghost use Rattle.tsa_warn_bodies.specs.Bodies.{BodyText, IsToldBody};
-ghost use Rattle.tsa_warn_bodies.specs.BodyCourses.{course_of};
-ghost use Rattle.tsa_warn_bodies.specs.Courses.{course_outset};
+ghost use Rattle.tsa_warn.specs.Bodies.{BodyText, IsToldBody};
+ghost use Rattle.tsa_warn.specs.BodyCourses.{course_of};
+ghost use Rattle.tsa_warn.specs.Courses.{course_outset};
 ghost use Rattle.tsa_place_model.specs.Units.{placed_in};
-ghost use Rattle.tsa_profile_context.specs.Units.{unit_of};
+ghost use Rattle.tsa_warn.specs.Units.{unit_of};
 ghost use Rattle.tsa_tool_held.specs.Held.{Account, IsAccountHeld, IsBodyHeld, IsHeld, IsPathLine, IsPointText, paths_in};
 ghost use Rattle.tsa_tool_held.specs.Pages.{IsPageOf};
 ghost use Rattle.tsa_tree.specs.units.Shapes.{HaveTheirPoints, item_shapes};
@@ -17,12 +17,9 @@ use crate::refusal::WriteRefusal;
 use crate::tries::try_names;
 use std::alloc::Global;
 use tsa_base::{LineStarts, NoMemory, PushTrouble, Sink, write_all};
-use tsa_warn_bodies::{Course, Teller, ToldBody};
-use tsa_profile::Fit;
 use tsa_place::Places;
-use tsa_flow::UnitTables;
+use tsa_warn::{Course, Fit, Ready, Teller, ToldBody, UnitTables, push_place};
 use tsa_warn_text::{Held, push_held};
-use tsa_warn::{Ready, push_place};
 
 /// A body whose held sets are written: what is told of it, its paths in the order in which they are told, the names of its try variables,
 /// and where lines begin.
@@ -235,8 +232,7 @@ pub fn write_held<O: Sink>(
 ) -> Result<(), WriteRefusal>
     requires { HaveTheirPoints ready.now.fit.typed.unit.now.items.now }
     ensures all { OnOk result ((lines : List ℕ)
-        × (IsHeld bytes.now (item_shapes ready.now.fit.typed.unit.now.items.now) lines × Appends (O.taken out.old) (O.taken out.new) lines))
-        }
+        × (IsHeld bytes.now (item_shapes ready.now.fit.typed.unit.now.items.now) lines × Appends (O.taken out.old) (O.taken out.new) lines)) }
     ensures front { OnErr result ((lines : List ℕ) → IsHeld bytes.now (item_shapes ready.now.fit.typed.unit.now.items.now) lines
         → AppendsFront (O.taken out.old) (O.taken out.new) lines) }
     ensures fault { IsErrOf result WriteRefusal.SinkFailed → Rose (O.faults out.old) (O.faults out.new) }

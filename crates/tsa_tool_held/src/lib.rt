@@ -7,3 +7,4 @@ mod tries;
 
 pub use held::write_held;
 pub use refusal::WriteRefusal;
+pub use tsa_warn::{Ready, UnitLines, unit_lines};

@@ -3,14 +3,14 @@ ghost use Rattle.std.specs.Prelude.{◌≡◌, ◌+◌, ◌++◌, List, map, IfO
 ghost use Rattle.tsa_core.specs.Programs.{Function, Program};
 ghost use Rattle.tsa_tool_held.specs.Held.{name_if_try, try_names_from};
 ghost use Rattle.tsa_tree.specs.statements.Shapes.{point_shape};
-ghost use Rattle.tsa_rules_view.specs.Views.{IsViewOf};
+ghost use Rattle.tsa_warn.specs.Views.{IsViewOf};
 ghost use Rattle.tsa_place_model.specs.Ways.{Way};
 
 use std::alloc::Global;
 use tsa_base::NoMemory;
 use tsa_rules::Role;
-use tsa_warn_bodies::ToldBody;
 use tsa_tree::stmt::{Action, Point};
+use tsa_warn::ToldBody;
 
 /// Notes the name of a try variable where a point begins one.
 fn note_try<'a>(names: &mut Vec<&'a [u8]>, point: &Point<'a>, role: Role) -> Result<(), NoMemory>

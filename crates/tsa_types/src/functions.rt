@@ -11,12 +11,12 @@ ghost use Rattle.tsa_tree.specs.types.Symbols.{meant_function as spec_meant_func
 ghost use Rattle.tsa_types.specs.Functions.{first_known};
 
 use tsa_base::NoMemory;
-use tsa_types_declarations::judge_type;
-use tsa_types_expressions::{TypeRefusal, View, judged};
-use tsa_types_scope::{FunctionTypes, Scope, Symbols};
 use tsa_tree::item::{FnTree, Param};
 use tsa_tree::kind::{Declaring, Kind, Resolved, ThingType};
 use tsa_tree::meaning::{Entry, Meaning};
+use tsa_types_declarations::judge_type;
+use tsa_types_expressions::{TypeRefusal, View, judged};
+use tsa_types_scope::{FunctionTypes, Scope, Symbols};
 
 /// Whether two kinds are the same.
 fn same_kind(a: Kind, b: Kind) -> bool

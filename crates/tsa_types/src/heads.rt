@@ -11,14 +11,14 @@ ghost use Rattle.tsa_tree.specs.types.Symbols.{param_name, names_in_param, names
 
 use crate::functions::declare_function;
 use tsa_base::NoMemory;
-use tsa_types_declarations::judge_type;
-use tsa_types_expressions::{TypeRefusal, View, judged};
-use tsa_types_scope::{Scope, Symbols, next_number};
 use tsa_tree::expr::Name;
 use tsa_tree::item::{FnTree, Param};
 use tsa_tree::kind::Declaring;
 use tsa_tree::meaning::{Entry, Meaning, Symbol};
 use tsa_tree::premise::Bearer;
+use tsa_types_declarations::judge_type;
+use tsa_types_expressions::{TypeRefusal, View, judged};
+use tsa_types_scope::{Scope, Symbols, next_number};
 
 /// A parameter by its function and its number, from 0; the parameters are the first locals.
 #[derive(Clone, Copy)]
@@ -62,8 +62,7 @@ fn declare_param<'a>(
     ensures judged { Judges (first (declared_premises scope.old Declaring.Thing (is_named_taken (param_shape param.now).name scope.old)
         param.now.span (param_shape param.now).ctype)) result }
     ensures behind { OnOk result (scope.new ≡ with_param local.number (param_shape param.now) scope.old) }
-    ensures names { OnOk result (symbols.new ≡ symbols.old ++ names_in_param scope.old local.function local.number (param_shape param.now))
-        }
+    ensures names { OnOk result (symbols.new ≡ symbols.old ++ names_in_param scope.old local.function local.number (param_shape param.now)) }
 {
     note_name(symbols, local, param.name)?;
     let view = View {

@@ -8,12 +8,12 @@ ghost use Rattle.tsa_tree.specs.types.Units.{names_in_unit};
 
 use crate::unit::judge;
 use std::alloc::Global;
-use tsa_types_expressions::TypeRefusal;
-use tsa_types_scope::Symbols;
 use tsa_tree::Parsed;
 use tsa_tree::expr::Name;
 use tsa_tree::item::UnitTree;
 use tsa_tree::meaning::Symbol;
+use tsa_types_expressions::TypeRefusal;
+use tsa_types_scope::Symbols;
 
 /// A unit of which no node fails a premise of types, and what its names mean.
 #[derive(Drop)]

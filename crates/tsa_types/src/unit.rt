@@ -16,14 +16,14 @@ use crate::functions::function_number;
 use crate::heads::declare_head;
 use std::alloc::Global;
 use tsa_base::NoMemory;
-use tsa_types_statements::Walk;
-use tsa_types_declarations::{declare_alias, declare_enum, declare_global, declare_struct};
-use tsa_types_simple::{Around, collect_all_labels};
-use tsa_types_expressions::{TypeRefusal, View};
-use tsa_types_scope::{Cases, Names, Scope, Symbols, outset};
 use tsa_tree::item::{FnTree, Item};
 use tsa_tree::kind::ThingType;
 use tsa_tree::stmt::Stmt;
+use tsa_types_declarations::{declare_alias, declare_enum, declare_global, declare_struct};
+use tsa_types_expressions::{TypeRefusal, View};
+use tsa_types_scope::{Cases, Names, Scope, Symbols, outset};
+use tsa_types_simple::{Around, collect_all_labels};
+use tsa_types_statements::Walk;
 
 /// The statements of a body in a function that gives a result, where its parameters are known.
 fn body_statements<'a>(
@@ -35,8 +35,7 @@ fn body_statements<'a>(
     ensures judged { Judges (first (statements_premises (outermost function gives (stmt_shapes body.now)) walk.old.scope
         (stmt_shapes body.now))) result }
     ensures behind { OnOk result (walk.new.scope ≡ behind_all walk.old.scope (stmt_shapes body.now)) }
-    ensures names { OnOk result (walk.new.symbols ≡ walk.old.symbols ++ names_in_statements walk.old.scope function (stmt_shapes body.now))
-        }
+    ensures names { OnOk result (walk.new.symbols ≡ walk.old.symbols ++ names_in_statements walk.old.scope function (stmt_shapes body.now)) }
 {
     let mut labels = Names::new(walk.scope.allocator());
     collect_all_labels(&mut labels, body)?;

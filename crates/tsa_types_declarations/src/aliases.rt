@@ -10,11 +10,11 @@ ghost use Rattle.tsa_tree.specs.types.Units.{item_premises, behind_item};
 ghost use Rattle.tsa_tree.specs.units.Syntax.{alias_item};
 
 use crate::declarations::judge_type;
-use tsa_types_scope::{Scope, Symbols};
-use tsa_types_expressions::{TypeRefusal, View, judged};
 use tsa_tree::item::AliasDef;
 use tsa_tree::kind::{Declaring, ThingType};
 use tsa_tree::meaning::{Entry, Meaning};
+use tsa_types_expressions::{TypeRefusal, View, judged};
+use tsa_types_scope::{Scope, Symbols};
 
 /// What a name of a type is known as.
 pub fn a_type_name(thing: ThingType) -> Entry

@@ -8,11 +8,11 @@ ghost use Rattle.tsa_tree.specs.types.Scopes.{context_of};
 ghost use Rattle.tsa_tree.specs.types.Symbols.{names_in_given};
 
 use tsa_base::{NoMemory, Span};
-use tsa_types_scope::Symbols;
-use tsa_types_expressions::{View, Written, first_of, typed_failure};
 use tsa_tree::decl::CType;
 use tsa_tree::kind::Declaring;
 use tsa_tree::premise::Failure;
+use tsa_types_expressions::{View, Written, first_of, typed_failure};
+use tsa_types_scope::Symbols;
 
 /// The written type of what is declared: what it comes to, and whether that may not be declared so.
 #[derive(Clone, Copy)]

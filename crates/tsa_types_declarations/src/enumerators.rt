@@ -13,15 +13,15 @@ ghost use Rattle.tsa_types_declarations.specs.Enumerators.{worth_by, own_premise
 
 use crate::aliases::a_type_name;
 use tsa_base::{NoMemory, Span};
-use tsa_types_expressions::{Found, TypeRefusal, View, at, refused};
-use tsa_types_scope::{Scope, Symbols};
-use tsa_types_operators::single;
 use tsa_tree::expr::Name;
 use tsa_tree::item::{EnumDef, Enumerator};
 use tsa_tree::kind::Kind;
 use tsa_tree::meaning::{Entry, Meaning, Symbol, Tag};
 use tsa_tree::number::Number;
 use tsa_tree::premise::{Failure, TypeCode};
+use tsa_types_expressions::{Found, TypeRefusal, View, at, refused};
+use tsa_types_operators::single;
+use tsa_types_scope::{Scope, Symbols};
 
 /// A constant as an `int`, where it fits.
 pub fn int_value(value: Option<Number>) -> Option<i32>
@@ -206,8 +206,7 @@ pub fn declare_enum<'a>(
         (enumerator_shapes def.now.values.now) def.now.span)) result }
     ensures behind { OnOk result (scope.new ≡ behind_enum scope.old (option_map name_shape def.now.alias)
         (enumerator_shapes def.now.values.now)) }
-    ensures names { OnOk result (symbols.new ≡ symbols.old ++ names_in_enumerators scope.old (pos 0) (enumerator_shapes def.now.values.now))
-        }
+    ensures names { OnOk result (symbols.new ≡ symbols.old ++ names_in_enumerators scope.old (pos 0) (enumerator_shapes def.now.values.now)) }
 {
     if is_declared_elsewhere(scope, def) {
         return Err(refused(at(TypeCode::TY2, def.span)));

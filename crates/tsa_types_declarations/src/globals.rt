@@ -14,13 +14,13 @@ ghost use Rattle.tsa_tree.specs.units.Syntax.{global_item};
 use crate::declarations::{Typing, judge_type};
 use crate::initialisers::initialiser;
 use tsa_base::NoMemory;
-use tsa_types_scope::{Scope, Symbols};
-use tsa_types_expressions::{TypeRefusal, View, first_of, judged};
-use tsa_types_operators::{place, struct_of};
 use tsa_tree::decl::{Decl, Init};
 use tsa_tree::kind::{Declaring, ThingType};
 use tsa_tree::meaning::{Entry, Meaning, Symbol};
 use tsa_tree::premise::{Bearer, Failure};
+use tsa_types_expressions::{TypeRefusal, View, first_of, judged};
+use tsa_types_operators::{place, struct_of};
+use tsa_types_scope::{Scope, Symbols};
 
 /// What a global is to attributes: one that is a lock and no array bears the order of locks too.
 fn bearer_of(scope: &Scope<'_>, thing: ThingType) -> Bearer

@@ -11,12 +11,12 @@ ghost use Rattle.tsa_types_declarations.specs.Cells.{is_fixed_pointer as spec_fi
 
 use crate::parts::{part_at, parts_count};
 use tsa_base::{NoMemory, Span};
-use tsa_types_expressions::{Constant, Found, View, at, first_of};
-use tsa_types_scope::{Scope, Symbols};
-use tsa_types_operators::{goes_to, is_integer_kind};
 use tsa_tree::decl::Init;
 use tsa_tree::kind::{Kind, ThingType};
 use tsa_tree::premise::{Failure, TypeCode};
+use tsa_types_expressions::{Constant, Found, View, at, first_of};
+use tsa_types_operators::{goes_to, is_integer_kind};
+use tsa_types_scope::{Scope, Symbols};
 
 /// Whether it is null, the number 0, or the address of a place of a global before one of a number.
 fn is_fixed_pointer(own: u32, found: Found) -> bool

@@ -2,9 +2,9 @@
 ghost use Rattle.std.specs.Prelude.{◌≡◌, option_map, slice_get, length};
 ghost use Rattle.tsa_tree.specs.types.Initialisers.{elements, parts_of_kind, parts_of_thing, parts_of, or_no_parts};
 
-use tsa_types_scope::Scope;
-use tsa_types_operators::single;
 use tsa_tree::kind::{Kind, ThingType};
+use tsa_types_operators::single;
+use tsa_types_scope::Scope;
 
 /// How many members a kind has that is a struct.
 fn kind_count(scope: &Scope<'_>, kind: Kind) -> Option<usize>

@@ -15,9 +15,6 @@ ghost use Rattle.tsa_tree.specs.types.Symbols.{names_in_attributes, names_in_mem
 use crate::aliases::a_type_name;
 use crate::declarations::judge_type;
 use tsa_base::NoMemory;
-use tsa_types_scope::{Names, Scope, Symbols};
-use tsa_types_expressions::{TypeRefusal, View, at, first_of, judged, refused};
-use tsa_types_operators::single;
 use tsa_tree::attr::Attr;
 use tsa_tree::decl::Decl;
 use tsa_tree::expr::Name;
@@ -25,6 +22,9 @@ use tsa_tree::item::StructDef;
 use tsa_tree::kind::{Declaring, Kind, ThingType};
 use tsa_tree::meaning::Tag;
 use tsa_tree::premise::{Bearer, Failure, TypeCode};
+use tsa_types_expressions::{TypeRefusal, View, at, first_of, judged, refused};
+use tsa_types_operators::single;
+use tsa_types_scope::{Names, Scope, Symbols};
 
 /// The attributes of a member, in which those before it are known first: what is wrong with them. Their names are noted.
 fn guards<'a>(

@@ -9,10 +9,10 @@ ghost use Rattle.tsa_tree.specs.types.Premises.{or_else};
 use crate::constants::{Constant, Found, called};
 use crate::verdicts::at;
 use tsa_base::Span;
-use tsa_types_operators::{goes_to, struct_of, target};
 use tsa_tree::kind::{ExpressionType, Kind, ThingType};
 use tsa_tree::meaning::{Entry, Meaning};
 use tsa_tree::premise::{Failure, TypeCode};
+use tsa_types_operators::{goes_to, struct_of, target};
 
 /// The struct whose member stands behind a point or an arrow.
 pub fn owner(arrow: bool, t: ExpressionType) -> Option<u32>

@@ -3,16 +3,16 @@ ghost use Rattle.std.specs.Prelude.{◌≡◌};
 ghost use Rattle.tsa_tree.specs.types.Attributes.{stands_on as spec_stands_on};
 
 use crate::accesses::first_of;
-use crate::expressions::View;
 use crate::constants::Found;
+use crate::expressions::View;
 use crate::verdicts::at;
 use tsa_base::{NoMemory, Span};
-use tsa_types_operators::{struct_of, target};
-use tsa_types_scope::Symbols;
 use tsa_tree::attr::{Attr, AttrKind};
 use tsa_tree::expr::Expr;
 use tsa_tree::kind::ExpressionType;
 use tsa_tree::premise::{Bearer, Failure, TypeCode};
+use tsa_types_operators::{struct_of, target};
+use tsa_types_scope::Symbols;
 
 /// `capability` stands on structs, `guarded_by` on members and globals, `acquired_before` and `acquired_after` on globals of
 /// lock type that are no arrays, and the others on functions.
@@ -114,8 +114,7 @@ impl<'w, 'a> View<'w, 'a> {
         bearer: Bearer,
         attrs: &[Attr<'_>],
     ) -> Result<Option<Failure>, NoMemory>
-        ensures judged { IfOk result (λ failure. failure ≡ first (attributes_premises self.entry.scope.now bearer (attr_shapes attrs.now)))
-            }
+        ensures judged { IfOk result (λ failure. failure ≡ first (attributes_premises self.entry.scope.now bearer (attr_shapes attrs.now))) }
         ensures names { OnOk result (symbols.new ≡ symbols.old ++ names_in_attributes (context_of self.entry.scope.now) self.entry.function
             (attr_shapes attrs.now)) }
     {

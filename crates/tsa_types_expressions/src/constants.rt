@@ -5,10 +5,10 @@ ghost use Rattle.tsa_tree.specs.types.Constants.{number_value as spec_number_val
 ghost use Rattle.tsa_tree.specs.types.Expressions.{entry_type as spec_entry_type, number_type as spec_number_type};
 ghost use Rattle.tsa_tree.specs.types.Expressions.{result_type as spec_result_type};
 
-use tsa_types_operators::{place, single, value};
 use tsa_tree::kind::{ExpressionType, Kind};
 use tsa_tree::meaning::{Entry, Meaning};
 use tsa_tree::number::{Number, Trap};
+use tsa_types_operators::{place, single, value};
 
 /// What an expression is as a constant of a global's initialiser, a length, an enumerator or a case (C11 6.6).
 #[derive(Clone, Copy)]

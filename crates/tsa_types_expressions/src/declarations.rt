@@ -7,18 +7,18 @@ ghost use Rattle.tsa_tree.specs.types.DeclaredTypes.{length_in as spec_length_in
 ghost use Rattle.tsa_tree.specs.types.DeclaredTypes.{is_nothing as spec_is_nothing, unknown_tag};
 ghost use Rattle.tsa_types_expressions.specs.Lengths.{told_of as spec_told_of, name_premises};
 
-use crate::expressions::View;
 use crate::constants::Found;
+use crate::expressions::View;
 use crate::verdicts::at;
 use tsa_base::{NoMemory, Span};
-use tsa_types_operators::single;
-use tsa_types_scope::Symbols;
 use tsa_tree::decl::{BaseType, CType};
 use tsa_tree::expr::Expr;
 use tsa_tree::kind::{Declaring, Kind, Resolved, ThingType};
 use tsa_tree::meaning::{Entry, Meaning, Tag};
 use tsa_tree::number::Number;
 use tsa_tree::premise::{Failure, TypeCode};
+use tsa_types_operators::single;
+use tsa_types_scope::Symbols;
 
 /// A length that was judged: how many elements there are, 1 where that is refused, and what is wrong with it.
 #[derive(Clone, Copy)]

@@ -7,11 +7,11 @@ use crate::accesses::{
 use crate::constants::{Found, null, number};
 use crate::verdicts::{at, binary_verdict, index_verdict, name_verdict, prefix_verdict};
 use tsa_base::{NoMemory, Span};
-use tsa_types_scope::{Scope, Symbols};
 use tsa_tree::expr::{Expr, ExprKind, Name};
 use tsa_tree::kind::ThingType;
 use tsa_tree::meaning::{Entry, Meaning, Symbol};
 use tsa_tree::premise::{Failure, TypeCode};
+use tsa_types_scope::{Scope, Symbols};
 
 /// What an expression sees: what is known where it stands, and the number of the function that it stands in, or 0 outside of all.
 #[derive(Clone, Copy)]

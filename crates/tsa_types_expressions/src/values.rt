@@ -2,13 +2,13 @@
 ghost use Rattle.std.specs.Prelude.{◌≡◌, IfOk};
 ghost use Rattle.tsa_types_expressions.specs.Found.{found_value};
 
-use crate::expressions::View;
 use crate::constants::Found;
+use crate::expressions::View;
 use tsa_base::NoMemory;
-use tsa_types_scope::Symbols;
 use tsa_tree::expr::Expr;
 use tsa_tree::number::Number;
 use tsa_tree::premise::Failure;
+use tsa_types_scope::Symbols;
 
 /// What an expression is worth by what it was found to be; what has no type has no value.
 pub fn value_of(found: Result<Found, Failure>) -> Option<Number>

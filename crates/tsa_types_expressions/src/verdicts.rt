@@ -10,12 +10,15 @@ ghost use Rattle.tsa_tree.specs.types.Initialisers.{is_index as spec_is_index};
 
 use crate::constants::{Constant, Found, named};
 use tsa_base::Span;
-use tsa_types_operators::{binary_type, breaks_binary, breaks_index, breaks_prefix, element_type, operate, operate_prefix, prefix_type, truth};
 use tsa_tree::expr::{BinaryOp, UnaryOp};
 use tsa_tree::kind::ExpressionType;
 use tsa_tree::meaning::Entry;
 use tsa_tree::number::{Number, Trap};
 use tsa_tree::premise::{Failure, TypeCode};
+use tsa_types_operators::{
+    binary_type, breaks_binary, breaks_index, breaks_prefix, element_type, operate, operate_prefix,
+    prefix_type, truth,
+};
 
 /// A premise that fails at a place.
 pub fn at(code: TypeCode, span: Span) -> Failure

@@ -8,12 +8,12 @@ ghost use Rattle.tsa_types_simple.specs.Cases.{case_by};
 
 use std::marker::Model;
 use tsa_base::Span;
-use tsa_types_expressions::{Found, at, value_of};
-use tsa_types_scope::{Cases, Names};
 use tsa_tree::expr::Name;
 use tsa_tree::kind::ThingType;
 use tsa_tree::number::Number;
 use tsa_tree::premise::{Failure, TypeCode};
+use tsa_types_expressions::{Found, at, value_of};
+use tsa_types_scope::{Cases, Names};
 
 /// The function's number and result, the labels of its body, whether a loop is round a statement, and of the switch round it, where one is,
 /// its cases and where its first default stands.
@@ -108,8 +108,16 @@ impl<'t, 'a> Around<'t, 'a> {
     pub fn in_a_switch<'s>(&self, cases: &'s Cases, default: Option<u32>) -> Around<'s, 'a>
     where
         't: 's,
-        ensures { result ≡ record { function = self.now.function; result = self.now.result; labels = self.now.labels; in_loop =
-            self.now.in_loop; in_switch = true; cases = cases.now; default = default } }
+        ensures { result ≡ record {
+          function = self.now.function;
+          result = self.now.result;
+          labels = self.now.labels;
+          in_loop =
+              self.now.in_loop;
+          in_switch = true;
+          cases = cases.now;
+          default = default;
+        } }
     {
         Around {
             function: self.function,

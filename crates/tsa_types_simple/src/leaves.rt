@@ -10,11 +10,11 @@ ghost use Rattle.tsa_types_simple.specs.Leaves.{alone_premises, alone_names};
 
 use crate::verdicts::{Target, assignment_failure};
 use tsa_base::NoMemory;
-use tsa_types_expressions::{Found, View};
-use tsa_types_scope::Symbols;
 use tsa_tree::expr::Expr;
 use tsa_tree::premise::Failure;
 use tsa_tree::stmt::{Stmt, StmtKind};
+use tsa_types_expressions::{Found, View};
+use tsa_types_scope::Symbols;
 
 /// An expression that may be left out. Its names are noted.
 #[tactic(auto, using(tsa_types_expressions::proofs::SymbolLaws::notes))]
@@ -43,8 +43,7 @@ pub fn simple(
     symbols: &mut Symbols,
     stmt: &Stmt<'_>,
 ) -> Result<Option<Failure>, NoMemory>
-    ensures judged { IfOk result (λ failure. failure ≡ first (alone_premises view.entry.scope.now (stmt_shape stmt.now.kind stmt.now.span)))
-        }
+    ensures judged { IfOk result (λ failure. failure ≡ first (alone_premises view.entry.scope.now (stmt_shape stmt.now.kind stmt.now.span))) }
     ensures names { OnOk result (symbols.new ≡ symbols.old
         ++ alone_names view.entry.scope.now view.entry.function (stmt_shape stmt.now.kind stmt.now.span)) }
 {

@@ -10,13 +10,13 @@ ghost use Rattle.tsa_tree.specs.types.Symbols.{names_in_init, names_in_items, na
 ghost use Rattle.tsa_types_simple.specs.Locals.{local_by, value_breaks};
 
 use tsa_base::{NoMemory, Span};
-use tsa_types_operators::goes_to;
-use tsa_types_expressions::{Found, View, Written, at, first_of, typed_failure};
-use tsa_types_scope::{Scope, Symbols};
 use tsa_tree::decl::{Decl, Init};
 use tsa_tree::kind::{Declaring, Resolved, ThingType};
 use tsa_tree::meaning::{Entry, Meaning, Symbol};
 use tsa_tree::premise::{Bearer, Failure, TypeCode};
+use tsa_types_expressions::{Found, View, Written, at, first_of, typed_failure};
+use tsa_types_operators::goes_to;
+use tsa_types_scope::{Scope, Symbols};
 
 /// What the initialiser of a local comes to: whether it can't go to it, and the first premise that fails in it.
 #[derive(Clone, Copy)]

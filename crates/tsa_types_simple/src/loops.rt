@@ -11,11 +11,11 @@ use crate::leaves::{given, simple};
 use crate::locals::{Told, declare_local};
 use crate::verdicts::tested;
 use tsa_base::{NoMemory, Span};
-use tsa_types_expressions::{Found, View, first_of};
-use tsa_types_scope::{Scope, Symbols};
 use tsa_tree::expr::Expr;
 use tsa_tree::premise::Failure;
 use tsa_tree::stmt::{Stmt, StmtKind};
+use tsa_types_expressions::{Found, View, first_of};
+use tsa_types_scope::{Scope, Symbols};
 
 /// A `for` before its body.
 #[derive(Clone, Copy)]

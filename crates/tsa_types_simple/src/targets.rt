@@ -8,10 +8,10 @@ ghost use Rattle.tsa_tree.specs.types.Targets.{with_label, labels_behind, labels
 ghost use Rattle.tsa_tree.specs.types.Targets.{or_place as spec_or_place, default_in, default_in_all};
 
 use tsa_base::NoMemory;
-use tsa_types_expressions::View;
-use tsa_types_scope::{Cases, Names};
 use tsa_tree::number::Number;
 use tsa_tree::stmt::{Stmt, StmtKind};
+use tsa_types_expressions::View;
+use tsa_types_scope::{Cases, Names};
 
 /// A further label, where none of its name is known.
 fn note_label<'a>(labels: &mut Names<'a, u32>, text: &'a [u8], place: u32) -> Result<(), NoMemory>

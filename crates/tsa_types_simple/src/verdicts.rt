@@ -6,11 +6,11 @@ ghost use Rattle.tsa_tree.specs.types.Simple.{written_type as spec_written_type,
 ghost use Rattle.tsa_types_expressions.specs.Parts.{found_thing};
 
 use tsa_base::Span;
-use tsa_types_operators::{binary_type, breaks_binary, goes_to, is_integer, is_scalar};
-use tsa_types_expressions::{Found, at, thing_of};
 use tsa_tree::expr::BinaryOp;
 use tsa_tree::kind::{ExpressionType, Kind, ThingType};
 use tsa_tree::premise::{Failure, TypeCode};
+use tsa_types_expressions::{Found, at, thing_of};
+use tsa_types_operators::{binary_type, breaks_binary, goes_to, is_integer, is_scalar};
 
 /// Whether what an assignment makes can't go to its left side.
 fn assignment_breaks(

@@ -6,11 +6,11 @@ ghost use Rattle.tsa_tree.specs.types.Statements.{leaf_premises};
 ghost use Rattle.tsa_tree.specs.types.Symbols.{names_in_leaf};
 
 use tsa_base::NoMemory;
-use tsa_types_simple::{Around, given, return_failure, simple};
-use tsa_types_expressions::View;
-use tsa_types_scope::Symbols;
 use tsa_tree::premise::Failure;
 use tsa_tree::stmt::{Stmt, StmtKind};
+use tsa_types_expressions::View;
+use tsa_types_scope::Symbols;
+use tsa_types_simple::{Around, given, return_failure, simple};
 
 /// A statement that has no other in it. Its names are noted.
 #[tactic(auto, using(tsa_types_simple::proofs::SimpleLaws::leaves, tsa_types_expressions::proofs::SymbolLaws::notes))]

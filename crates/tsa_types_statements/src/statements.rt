@@ -4,13 +4,15 @@ ghost use Rattle.std.specs.Prelude.{◌≡◌, ◌++◌, IfOk, OnOk};
 use crate::leaves::leaf;
 use crate::walk::Walk;
 use tsa_base::{NoMemory, Span};
-use tsa_types_simple::{Around, ForHead, Key, collect_cases, declare_local, first_default, for_head, switched, tested};
-use tsa_types_expressions::{TypeRefusal, View, first_of, judged, refused};
-use tsa_types_scope::{Cases, Symbols};
 use tsa_tree::decl::Decl;
 use tsa_tree::expr::Expr;
 use tsa_tree::premise::Failure;
 use tsa_tree::stmt::{Stmt, StmtKind};
+use tsa_types_expressions::{TypeRefusal, View, first_of, judged, refused};
+use tsa_types_scope::{Cases, Symbols};
+use tsa_types_simple::{
+    Around, ForHead, Key, collect_cases, declare_local, first_default, for_head, switched, tested,
+};
 
 /// The test of a `do`, and where the statement begins.
 #[derive(Clone, Copy)]
@@ -57,8 +59,7 @@ impl<'a> Walk<'a> {
         ensures judged { IfOk result (λ failure. failure
             ≡ first (tested_premises (context_of self.old.scope) is_scalar span (shape test.now))) }
         ensures kept { OnOk result (self.new.scope ≡ self.old.scope) }
-        ensures names { OnOk result (self.new.symbols ≡ self.old.symbols ++ names_in (context_of self.old.scope) function (shape test.now))
-            }
+        ensures names { OnOk result (self.new.symbols ≡ self.old.symbols ++ names_in (context_of self.old.scope) function (shape test.now)) }
     {
         let view = View {
             scope: &self.scope,
@@ -79,8 +80,7 @@ impl<'a> Walk<'a> {
         ensures judged { IfOk result (λ failure. failure
             ≡ first (tested_premises (context_of self.old.scope) is_integer span (shape value.now))) }
         ensures kept { OnOk result (self.new.scope ≡ self.old.scope) }
-        ensures names { OnOk result (self.new.symbols ≡ self.old.symbols ++ names_in (context_of self.old.scope) function (shape value.now))
-            }
+        ensures names { OnOk result (self.new.symbols ≡ self.old.symbols ++ names_in (context_of self.old.scope) function (shape value.now)) }
     {
         let view = View {
             scope: &self.scope,
@@ -110,8 +110,7 @@ impl<'a> Walk<'a> {
     fn evaluate(&mut self, function: u32, expr: &Expr<'_>) -> Result<(), TypeRefusal>
         ensures judged { Judges (first (premises_of (context_of self.old.scope) (shape expr.now))) result }
         ensures kept { OnOk result (self.new.scope ≡ self.old.scope) }
-        ensures names { OnOk result (self.new.symbols ≡ self.old.symbols ++ names_in (context_of self.old.scope) function (shape expr.now))
-            }
+        ensures names { OnOk result (self.new.symbols ≡ self.old.symbols ++ names_in (context_of self.old.scope) function (shape expr.now)) }
     {
         let view = View {
             scope: &self.scope,

@@ -15,14 +15,14 @@ use crate::text::Text;
 use bumpalo::Bump;
 use std::alloc::Global;
 use tsa_decl::{begin_item, keep_function};
-use tsa_expr::{Aliases, Reader, SyntaxRefusal};
-use tsa_unit_simple::mark;
 use tsa_decl_declarators::{in_arena, open_brace};
-use tsa_unit_heads::TextReader;
-use tsa_unit_statements::statements;
+use tsa_expr::{Aliases, Reader, SyntaxRefusal};
 use tsa_tree::item::{FnTree, Item};
 use tsa_tree::sign::Sign;
 use tsa_tree::stmt::{Action, Point, Stmt};
+use tsa_unit_heads::TextReader;
+use tsa_unit_simple::mark;
+use tsa_unit_statements::statements;
 
 /// One item at the end of a list: nothing for a tag alone, and several for several globals.
 #[tactic(auto, using(crate::proofs::FunctionLaws::items))]

@@ -21,8 +21,8 @@ use crate::text::Text;
 use bumpalo::Bump;
 use std::alloc::Global;
 use tsa_base::Token;
-use tsa_expr::{Aliases, SyntaxCode, SyntaxRefusal};
 use tsa_decl_declarators::{in_arena, kept_in};
+use tsa_expr::{Aliases, SyntaxCode, SyntaxRefusal};
 use tsa_tree::Parsed;
 use tsa_tree::item::{Item, UnitTree};
 

@@ -12,12 +12,12 @@ ghost use Rattle.tsa_unit_simple.specs.Outcomes.{test_at};
 ghost use Rattle.tsa_unit_heads.specs.Heads.{IsOpened, IsUnpointed, ended_at, seen_head, seen_marked};
 
 use crate::text::TextReader;
-use tsa_expr::{Reader, SyntaxRefusal};
-use tsa_unit_simple::{Part, Value, colon, for_init, for_step, mark, test, value_or_none};
 use tsa_decl_declarators::open;
+use tsa_expr::{Reader, SyntaxRefusal};
 use tsa_tree::expr::{Expr, Name};
 use tsa_tree::sign::{Keyword, Sign};
 use tsa_tree::stmt::{Action, Point, Stmt};
+use tsa_unit_simple::{Part, Value, colon, for_init, for_step, mark, test, value_or_none};
 
 /// What stands before a body that ends its statement, with the numbers of the points there.
 #[derive(Clone, Copy)]

@@ -8,11 +8,11 @@ ghost use Rattle.tsa_expr.specs.Source.{input};
 
 use crate::text::TextReader;
 use tsa_base::Span;
-use tsa_expr::SyntaxRefusal;
-use tsa_unit_simple::mark;
 use tsa_decl_declarators::kept_in;
+use tsa_expr::SyntaxRefusal;
 use tsa_tree::expr::Expr;
 use tsa_tree::stmt::{Action, Point};
+use tsa_unit_simple::mark;
 
 impl<'a, 't> TextReader<'a, 't> {
     /// The point of a `for`: that of its test, or of the constant 1 at its word, of three bytes (C11 6.8.5.3p2).

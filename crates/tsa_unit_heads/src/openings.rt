@@ -13,9 +13,11 @@ ghost use Rattle.tsa_unit_simple.specs.Readings.{seen_statement};
 use crate::heads::{Headed, case_head, default_head, switch_head, while_head};
 use crate::text::TextReader;
 use tsa_expr::{Reader, SyntaxRefusal};
-use tsa_unit_simple::{Read, break_statement, continue_statement, goto, return_statement, simple_statement};
 use tsa_tree::sign::{Keyword, Sign};
 use tsa_tree::stmt::Point;
+use tsa_unit_simple::{
+    Read, break_statement, continue_statement, goto, return_statement, simple_statement,
+};
 
 impl<'a, 't> TextReader<'a, 't> {
     /// What stands before the body that ends a statement, where it begins with a keyword.

@@ -9,8 +9,8 @@ ghost use Rattle.tsa_attr.specs.Readings.{passed};
 ghost use Rattle.tsa_unit_simple.specs.Outcomes.{test_at, value_or_none_at};
 ghost use Rattle.tsa_unit_simple.specs.Readings.{seen_tested, seen_value};
 
-use tsa_expr::{Reader, SyntaxCode, SyntaxRefusal, refuse};
 use tsa_decl_declarators::{kept_in, open, semicolon};
+use tsa_expr::{Reader, SyntaxCode, SyntaxRefusal, refuse};
 use tsa_tree::expr::Expr;
 use tsa_tree::sign::{Keyword, Sign};
 

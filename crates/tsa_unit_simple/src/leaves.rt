@@ -14,8 +14,8 @@ use crate::points::{Deed, Read, alone, mark};
 use crate::simple::{SimpleKind, read_simple};
 use bumpalo::Bump;
 use tsa_base::Span;
-use tsa_expr::{Reader, Reading, SyntaxRefusal};
 use tsa_decl_declarators::{kept_in, name, semicolon};
+use tsa_expr::{Reader, Reading, SyntaxRefusal};
 use tsa_tree::sign::Sign;
 use tsa_tree::stmt::{Action, Point, Stmt, StmtKind};
 

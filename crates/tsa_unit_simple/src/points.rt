@@ -5,8 +5,8 @@ ghost use Rattle.tsa_unit_simple.specs.PointNumbers.{IsPointed, IsAlone};
 use bumpalo::Bump;
 use std::alloc::Allocator;
 use tsa_base::Span;
-use tsa_expr::SyntaxRefusal;
 use tsa_decl_declarators::{keep, kept_in};
+use tsa_expr::SyntaxRefusal;
 use tsa_tree::decl::Decl;
 use tsa_tree::stmt::{Action, Point, Stmt, StmtKind};
 

@@ -13,11 +13,11 @@ ghost use Rattle.tsa_unit_simple.specs.PointNumbers.{ArePointed, IsPointed, Arms
 ghost use Rattle.tsa_unit_simple.specs.Readings.{seen_statement};
 
 use tsa_base::Span;
+use tsa_decl_declarators::semicolon;
 use tsa_expr::{Reader, SyntaxRefusal};
+use tsa_tree::stmt::{Point, Stmt, StmtKind};
 use tsa_unit_heads::{Head, Marked, marked_test};
 use tsa_unit_simple::{Body, Read, while_word};
-use tsa_decl_declarators::semicolon;
-use tsa_tree::stmt::{Point, Stmt, StmtKind};
 
 /// The arms of an `if`, the second where there is one, and the token after them.
 #[derive(Clone, Copy)]
@@ -83,8 +83,11 @@ pub fn headed_with_body<'a>(
     body: Body<'a>,
 ) -> Read<'a>
     requires { 0 < body.next }
-    ensures is { seen_statement result ≡ (ended head.entry (stmt_shape body.entry.stmt.now.kind body.entry.stmt.now.span)
-        (span_over (input reader.entry) start body.entry.next), body.entry.next) }
+    ensures is { seen_statement result ≡ (
+      ended head.entry (stmt_shape body.entry.stmt.now.kind body.entry.stmt.now.span)
+          (span_over (input reader.entry) start body.entry.next),
+      body.entry.next,
+    ) }
     ensures next_is { result.next ≡ body.entry.next }
     ensures pointed { (first middle last : List point_type) → IsOpened (span_at (input reader.entry) start) first middle head.entry
         → IsPointed middle last body.entry.stmt.now → IsPointed first last result.stmt }
@@ -105,8 +108,11 @@ pub fn if_with_arms<'a>(
     arms: Arms<'a>,
 ) -> Read<'a>
     requires { 0 < arms.next }
-    ensures is { seen_statement result ≡ (if_with (shape marked.entry.test) arms.entry.yes.now arms.entry.no
-        (span_over (input reader.entry) start arms.entry.next), arms.entry.next) }
+    ensures is { seen_statement result ≡ (
+      if_with (shape marked.entry.test) arms.entry.yes.now arms.entry.no
+          (span_over (input reader.entry) start arms.entry.next),
+      arms.entry.next,
+    ) }
     ensures next_is { result.next ≡ arms.entry.next }
     ensures pointed { (first middle between last : List point_type) → IsMarked first middle marked.entry
         → IsPointed middle between arms.entry.yes.now → ArmsPointed between last arms.entry.no → IsPointed first last result.stmt }

@@ -21,12 +21,15 @@ ghost use Rattle.tsa_unit_simple.specs.Readings.{seen_body, seen_statement};
 use crate::closings::{Arms, block_of, do_with_test, headed_with_body, if_with_arms};
 use std::alloc::Global;
 use tsa_base::NESTING_LIMIT;
-use tsa_expr::{Reader, SyntaxCode, SyntaxRefusal, refuse};
-use tsa_unit_heads::{Head, Headed, Marked, TextReader, leaf_statement, marked_test};
-use tsa_unit_simple::{Body, Read, begins_statement, begins_type, closes_block, empty, in_body, is_else_at, locals, simple_statement};
 use tsa_decl_declarators::{in_arena_before, keep, open_brace};
+use tsa_expr::{Reader, SyntaxCode, SyntaxRefusal, refuse};
 use tsa_tree::sign::{Keyword, Sign};
 use tsa_tree::stmt::{Point, Stmt};
+use tsa_unit_heads::{Head, Headed, Marked, TextReader, leaf_statement, marked_test};
+use tsa_unit_simple::{
+    Body, Read, begins_statement, begins_type, closes_block, empty, in_body, is_else_at, locals,
+    simple_statement,
+};
 
 /// A statement that was read stands after the others, and the token after it is given; a refusal is handed on.
 fn keep_statement<'a>(

@@ -6,8 +6,8 @@ use Rattle.tsa_tree.specs.types.Symbols.{number_of}
 use Rattle.tsa_tree.specs.types.Units.{behind_item}
 use Rattle.tsa_tree.specs.units.Syntax.{UnitItem, structure_item, alias_item, enumeration_item, global_item, function_item, body_item}
 use Rattle.tsa_core.specs.Programs.{Attr}
-use Rattle.tsa_profile_context.specs.Units.{Unit, attributes_behind}
-use Rattle.tsa_rules_bodies.specs.Sites.{Site, or_later, site_among, site_at}
+use Rattle.tsa_warn_bodies.specs.Units.{Unit, attributes_behind}
+use Rattle.tsa_warn_bodies.specs.Sites.{Site, or_later, site_among, site_at}
 use Rattle.tsa_warn_bodies.specs.Bodies.{BodyText, bodies_from, body_by, body_text}
 
 -- a body of a number among some

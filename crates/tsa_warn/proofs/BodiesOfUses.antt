@@ -4,7 +4,7 @@ use Rattle.tsa_core.specs.Bodies.{Body, Point}
 use Rattle.tsa_core.specs.Programs.{Function}
 use Rattle.tsa_core.specs.Uses.{Uses}
 use Rattle.tsa_core.proofs.MappedLists.{map_length}
-use Rattle.tsa_profile.specs.Paths.{points_in}
+use Rattle.tsa_warn_function.specs.Paths.{points_in}
 use Rattle.tsa_rules.specs.Points.{points_of}
 
 points_are : (f : Function) (o : Option Body) → f.body ≡ o → points_of f ≡ points_in o

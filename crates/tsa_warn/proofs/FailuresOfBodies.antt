@@ -10,11 +10,11 @@ use Rattle.tsa_rules.specs.Points.{points_of}
 use Rattle.tsa_rules.specs.Warnings.{Warning}
 use Rattle.tsa_warn_function.specs.Failures.{FailsThere}
 use Rattle.tsa_warn_function.proofs.OfBodies.{rules_fail_at_points_of_bodies}
-use Rattle.tsa_profile_context.specs.Units.{unit_of}
-use Rattle.tsa_profile.specs.Paths.{paths_of}
-use Rattle.tsa_rules_bodies.specs.Laws.{StandsFor, body_at, result_at}
-use Rattle.tsa_rules_bodies.specs.Sites.{Site, site_of, within}
-use Rattle.tsa_rules_bodies.proofs.SiteLaws.{sites_are_of_the_program}
+use Rattle.tsa_warn_bodies.specs.Units.{unit_of}
+use Rattle.tsa_warn_function.specs.Paths.{paths_of}
+use Rattle.tsa_warn_bodies.specs.Laws.{StandsFor, body_at, result_at}
+use Rattle.tsa_warn_bodies.specs.Sites.{Site, site_of, within}
+use Rattle.tsa_warn_bodies.proofs.SiteLaws.{sites_are_of_the_program}
 use Rattle.tsa_warn.proofs.PathsOfFunctions.{rules_fail_for_paths}
 use Rattle.tsa_warn_bodies.specs.Bodies.{bodies_of}
 use Rattle.tsa_warn.specs.Laws.{IsToldIn, RulesThatFailAreTold}

@@ -8,7 +8,7 @@ use Rattle.tsa_warn_function.specs.declared.failure.RuleFailure.{RuleFailure}
 use Rattle.tsa_warn_function.specs.Orders.{AreToldInOrder, Precedes}
 use Rattle.tsa_warn_function.proofs.Telling.{not_both_are_first}
 use Rattle.tsa_warn_bodies.specs.Bodies.{BodyText, names_of}
-use Rattle.tsa_profile.specs.Paths.{paths_of}
+use Rattle.tsa_warn_function.specs.Paths.{paths_of}
 use Rattle.tsa_warn.specs.WarningLines.{AreWarned, IsBodyWarned, Warned, both, lines_of}
 use Rattle.tsa_warn.proofs.SortedOnce.{sorted_once}
 use Rattle.tsa_base.proofs.Options.{some_same as same}

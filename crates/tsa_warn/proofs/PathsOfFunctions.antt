@@ -17,8 +17,8 @@ use Rattle.tsa_rules.specs.Points.{attrs_at, attrs_called, is_guarded_by, or_idl
 use Rattle.tsa_rules.specs.StatusLaws.{IsUnnamed}
 use Rattle.tsa_rules.proofs.OtherPaths.{rules_speak_of_named_paths}
 use Rattle.tsa_warn.specs.CoverageLaws.{RulesFailForPathsOfFunctions}
-use Rattle.tsa_profile.specs.Paths.{called, called_in, paths_of, point_ways, points_in, points_ways, ways_of}
-use Rattle.tsa_profile.proofs.EachOnce.{comes}
+use Rattle.tsa_warn_function.specs.Paths.{called, called_in, paths_of, point_ways, points_in, points_ways, ways_of}
+use Rattle.tsa_warn_function.proofs.EachOnce.{comes}
 
 module _ (c : Way) where
   abbrev among : List Way → Bool

@@ -6,7 +6,7 @@ use Rattle.tsa_tree.specs.declared.item.Item.TheVariants as item
 use Rattle.tsa_tree.specs.units.Shapes.{HaveTheirPoints, item_shape, item_shapes}
 use Rattle.tsa_tree.specs.types.Units.{behind_item}
 use Rattle.tsa_tree.specs.units.Syntax.{UnitItem}
-use Rattle.tsa_profile_context.specs.Units.{unit_of}
+use Rattle.tsa_warn_bodies.specs.Units.{unit_of}
 use Rattle.tsa_warn_bodies.specs.Bodies.{BodyText, IsToldBody, Tells, bodies_from, bodies_of, body_by}
 use Rattle.tsa_warn_bodies.specs.Courses.{Course, IsInFrontOf, course_behind, course_outset}
 use Rattle.tsa_warn_bodies.specs.declared.body_rows.ToldBody.{ToldBody}

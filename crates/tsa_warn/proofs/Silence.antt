@@ -6,7 +6,7 @@ use Rattle.tsa_rules.specs.Warnings.{HasNoWarnings, Warning}
 use Rattle.tsa_warn_function.specs.Failures.{FailsThere}
 use Rattle.tsa_warn_function.specs.declared.failure.RuleFailure.{RuleFailure}
 use Rattle.tsa_warn_bodies.specs.Bodies.{BodyText, bodies_of, names_of}
-use Rattle.tsa_profile.specs.Paths.{paths_of}
+use Rattle.tsa_warn_function.specs.Paths.{paths_of}
 use Rattle.tsa_warn.specs.Laws.{UnitsWithoutLinesHaveNoWarnings, UnitsWithoutWarningsHaveNoLines}
 use Rattle.tsa_warn.specs.WarningLines.{AreWarned, IsBodyWarned, Warned, both, lines_of, no_lines}
 use Rattle.tsa_warn.proofs.FailuresOfBodies.{rules_that_fail_are_told}

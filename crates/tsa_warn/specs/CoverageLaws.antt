@@ -2,7 +2,7 @@
 use Rattle.std.specs.Prelude.{◌≡◌, ℕ, length, Some, slice_get}
 use Rattle.tsa_place_model.specs.Ways.{Way}
 use Rattle.tsa_core.specs.Programs.{Function, Program}
-use Rattle.tsa_profile.specs.Paths.{paths_of}
+use Rattle.tsa_warn_function.specs.Paths.{paths_of}
 use Rattle.tsa_rules.specs.declared.rule.Rule.{Rule}
 use Rattle.tsa_rules.specs.Points.{points_of}
 use Rattle.tsa_rules.specs.Walks.{Fails}

@@ -6,7 +6,7 @@ use Rattle.tsa_core.specs.Programs.{Function, program_of}
 use Rattle.tsa_rules.specs.Warnings.{FailsIn, HasNoWarnings, Warning}
 use Rattle.tsa_warn_function.specs.Failures.{FailsThere}
 use Rattle.tsa_warn_bodies.specs.Bodies.{BodyText, bodies_of}
-use Rattle.tsa_profile.specs.Paths.{paths_of}
+use Rattle.tsa_warn_function.specs.Paths.{paths_of}
 use Rattle.tsa_warn.specs.WarningLines.{IsWarned, Warned, no_lines}
 
 -- A rule that fails is told in the body of its function, for a path of that by its number.

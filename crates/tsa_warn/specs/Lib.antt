@@ -3,3 +3,10 @@ pub mod Laws
 pub mod WarningLines
 pub mod OneBody
 pub mod CoverageLaws
+pub use Rattle.tsa_warn_bodies.specs.Bodies
+pub use Rattle.tsa_warn_bodies.specs.BodyCourses
+pub use Rattle.tsa_warn_bodies.specs.Courses
+pub use Rattle.tsa_warn_function.specs.Flows
+pub use Rattle.tsa_warn_function.specs.Views
+pub use Rattle.tsa_warn_function.specs.Paths
+pub use Rattle.tsa_warn_bodies.specs.Units

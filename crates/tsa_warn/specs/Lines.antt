@@ -7,7 +7,7 @@ use Rattle.tsa_place_model.specs.Ways.{Way}
 use Rattle.tsa_core.specs.Programs.{Function, Program}
 use Rattle.tsa_rules.specs.Attributes.{lock_kind_of}
 use Rattle.tsa_warn_text.specs.Ranks.{PathText, told_by}
-use Rattle.tsa_rules_view.specs.Views.{text_of}
+use Rattle.tsa_warn_function.specs.Views.{text_of}
 use Rattle.tsa_warn_text.specs.HeldLines.{held_text}
 use Rattle.tsa_warn_text.specs.Lines.{warning_text}
 use Rattle.tsa_warn_function.specs.declared.failure.RuleFailure.{RuleFailure}

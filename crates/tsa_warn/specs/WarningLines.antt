@@ -8,7 +8,7 @@ use Rattle.tsa_warn_text.specs.Orders.{texts_of}
 use Rattle.tsa_warn_function.specs.declared.failure.RuleFailure.{RuleFailure}
 use Rattle.tsa_warn_function.specs.Orders.{AreToldInOrder}
 use Rattle.tsa_warn_bodies.specs.Bodies.{BodyText, bodies_of, names_of}
-use Rattle.tsa_profile.specs.Paths.{paths_of}
+use Rattle.tsa_warn_function.specs.Paths.{paths_of}
 use Rattle.tsa_warn.specs.Lines.{warning_line}
 
 pub record Warned : Type 0 where

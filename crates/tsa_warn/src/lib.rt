@@ -13,5 +13,7 @@ pub use laws::{
     rules_that_fail_are_told, units_without_lines_have_no_warnings,
     units_without_warnings_have_no_lines,
 };
+pub use tsa_warn_bodies::{Course, Teller, ToldBody, UnitTables};
+pub use tsa_warn_function::Fit;
 pub use unit::Ready;
 pub use warning_lines::{UnitLines, unit_lines};

@@ -3,8 +3,8 @@ ghost use Rattle.std.specs.Prelude.{◌≡◌, Ok};
 ghost use Rattle.tsa_place_model.specs.Units.{placed_in};
 ghost use Rattle.tsa_tree.specs.units.Shapes.{item_shapes};
 
-use tsa_profile::Fit;
 use tsa_place::Places;
+use tsa_warn_function::Fit;
 
 /// A unit in the profile with its places.
 pub struct Ready<'a> {

@@ -4,10 +4,10 @@ ghost use Rattle.std.specs.List.{flat_map};
 ghost use Rattle.tsa_warn_bodies.specs.Bodies.{BodyText, IsToldBody, Tells, body_by, names_of};
 ghost use Rattle.tsa_warn_bodies.specs.BodyCourses.{course_of};
 ghost use Rattle.tsa_warn_bodies.specs.Courses.{IsInFrontOf, course_behind, course_outset};
-ghost use Rattle.tsa_profile.specs.Paths.{paths_of};
+ghost use Rattle.tsa_warn_function.specs.Paths.{paths_of};
 ghost use Rattle.tsa_core.specs.Programs.{program_of};
 ghost use Rattle.tsa_place_model.specs.Units.{placed_in};
-ghost use Rattle.tsa_profile_context.specs.Units.{unit_of};
+ghost use Rattle.tsa_warn_bodies.specs.Units.{unit_of};
 ghost use Rattle.tsa_warn.specs.OneBody.{warned_of};
 ghost use Rattle.tsa_warn.specs.Lines.{warning_line};
 ghost use Rattle.tsa_warn.specs.WarningLines.{AreWarned, IsBodyWarned, IsWarned, Warned as Lines, both};
@@ -19,13 +19,11 @@ use crate::body::push_place;
 use crate::unit::Ready;
 use std::alloc::Global;
 use tsa_base::{LineStarts, NoMemory};
-use tsa_warn_bodies::{Course, Teller, ToldBody};
-use tsa_profile::Fit;
 use tsa_place::Places;
-use tsa_flow::UnitTables;
-use tsa_warn_text::{Subject, push_warning};
 use tsa_tree::item::Item;
-use tsa_warn_function::{RuleFailure, warnings_of};
+use tsa_warn_bodies::{Course, Teller, ToldBody, UnitTables};
+use tsa_warn_function::{Fit, RuleFailure, warnings_of};
+use tsa_warn_text::{Subject, push_warning};
 
 /// The lines of warnings, and how many they are.
 #[derive(Drop)]

@@ -18,10 +18,10 @@ use Rattle.tsa_core.specs.Programs.{Declared, Function, declared_by, declared_fu
 use Rattle.tsa_core.proofs.MappedLists.{map_at}
 use Rattle.tsa_profile_points.specs.Ways.{unless_many}
 use Rattle.tsa_path.specs.PathTables.{path_limit}
-use Rattle.tsa_profile.specs.Paths.{paths_if, paths_of}
+use Rattle.tsa_rules_bodies.specs.Paths.{paths_if, paths_of}
 use Rattle.tsa_profile_context.specs.Units.{attributes_behind, attributes_by, paths_at, points_in, unit_of}
-use Rattle.tsa_profile.proofs.FunctionPaths.{body_paths}
-use Rattle.tsa_profile.proofs.PathTables.{own_body}
+use Rattle.tsa_rules_bodies.proofs.FunctionPaths.{body_paths}
+use Rattle.tsa_rules_bodies.proofs.PathTables.{own_body}
 use Rattle.tsa_rules_bodies.specs.Entering.{IsEntered, IsOf}
 use Rattle.tsa_rules_bodies.specs.Sites.{Site}
 use Rattle.tsa_rules_bodies.specs.declared.entries.Inside.{Inside}

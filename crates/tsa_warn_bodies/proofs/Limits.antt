@@ -12,7 +12,7 @@ use Rattle.tsa_profile_accesses.specs.declared.premise.ProfileCode.TheVariants.{
 use Rattle.tsa_profile_accesses.specs.Premises.{failure_of, first, or_else, premise}
 use Rattle.tsa_profile_context.specs.Units.{Unit, attributes_behind, items_premises, paths_at, paths_limit, paths_limits, points_in}
 use Rattle.tsa_profile_context.specs.Units.{refusal_with, tries_limits, unit_of}
-use Rattle.tsa_profile.proofs.ProfileAllows.{none_of_both}
+use Rattle.tsa_rules_bodies.proofs.ProfileAllows.{none_of_both}
 
 -- which bodies stand elsewhere makes no difference to the limits
 same_limit : (outside : List ℕ) (items : List UnitItem) (behind : List (List Attr)) (here : Scope) (item : UnitItem)

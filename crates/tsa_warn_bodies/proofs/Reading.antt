@@ -8,8 +8,8 @@ use Rattle.tsa_tree.proofs.types.UnitNodes.{premises_tell_it}
 use Rattle.tsa_core.specs.Programs.{Declared, declared_by}
 use Rattle.tsa_profile_accesses.specs.Premises.{first}
 use Rattle.tsa_profile_context.specs.Units.{Unit, attributes_behind, attributes_by, paths_limits, unit_of}
-use Rattle.tsa_profile.proofs.FunctionScopes.{Bodies}
-use Rattle.tsa_profile.proofs.PathTables.{Reads, bodies_behind, none_came_yet, reads_on}
+use Rattle.tsa_rules_bodies.proofs.FunctionScopes.{Bodies}
+use Rattle.tsa_rules_bodies.proofs.PathTables.{Reads, bodies_behind, none_came_yet, reads_on}
 use Rattle.tsa_warn_bodies.specs.Courses.{Course, IsInFrontOf, course_along, course_behind, course_outset, params_by}
 use Rattle.tsa_warn_bodies.proofs.Limits.{limits_on}
 

@@ -13,10 +13,10 @@ use Rattle.tsa_rules.specs.Legends.{declared_labels, labels_of, local_labels, na
 use Rattle.tsa_warn_text.specs.DeclaredNames.{declared_texts, labels_with}
 use Rattle.tsa_warn_text.proofs.DeclaredLabels.{names_and_kinds}
 use Rattle.tsa_warn_text.specs.Orders.{texts_of}
-use Rattle.tsa_flow_function.specs.declared.function.FunctionFlow.{FunctionFlow}
-use Rattle.tsa_flow_function.specs.Flows.{IsFlowOf}
-use Rattle.tsa_flow_function.specs.Numbers.{IsFlowBy, IsFlowIn}
-use Rattle.tsa_profile.specs.Paths.{paths_of}
+use Rattle.tsa_flow.specs.FunctionFlow.{FunctionFlow}
+use Rattle.tsa_flow.specs.Flows.{IsFlowOf}
+use Rattle.tsa_flow.specs.Numbers.{IsFlowBy, IsFlowIn}
+use Rattle.tsa_rules_bodies.specs.Paths.{paths_of}
 use Rattle.tsa_rules_bodies.specs.Laws.{result_at}
 use Rattle.tsa_rules_bodies.specs.Sites.{within}
 use Rattle.tsa_rules_bodies.specs.declared.entries.Inside.{Inside}

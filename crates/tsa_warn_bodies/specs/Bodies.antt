@@ -14,8 +14,8 @@ use Rattle.tsa_rules.specs.Legends.{legend_of}
 use Rattle.tsa_rules.specs.Points.{points_of}
 use Rattle.tsa_path.specs.PathTexts.{Names}
 use Rattle.tsa_warn_text.specs.Orders.{texts_of}
-use Rattle.tsa_flow_function.specs.Flows.{IsFlowOf}
-use Rattle.tsa_profile.specs.Paths.{paths_of}
+use Rattle.tsa_flow.specs.Flows.{IsFlowOf}
+use Rattle.tsa_rules_bodies.specs.Paths.{paths_of}
 use Rattle.tsa_warn_bodies.specs.declared.body_rows.ToldBody.{ToldBody}
 
 -- a body: the number and the name of its function, and its points with where they stand

@@ -11,10 +11,10 @@ use Rattle.tsa_core.specs.Programs.{Declared, Function, bodied_function, declare
 use Rattle.tsa_path.specs.PathTexts.{Label}
 use Rattle.tsa_rules.specs.Legends.{param_labels}
 use Rattle.tsa_warn_text.specs.DeclaredNames.{declared_texts, labels_with}
-use Rattle.tsa_flow_function.specs.declared.function.FunctionFlow.{FunctionFlow}
+use Rattle.tsa_flow.specs.FunctionFlow.{FunctionFlow}
 use Rattle.tsa_rules_bodies.specs.Entering.{IsOf}
 use Rattle.tsa_rules_bodies.specs.Laws.{StandsFor}
-use Rattle.tsa_profile.specs.Paths.{paths_if, paths_of}
+use Rattle.tsa_rules_bodies.specs.Paths.{paths_if, paths_of}
 use Rattle.tsa_rules_bodies.specs.Sites.{Site, within}
 use Rattle.tsa_profile_context.specs.Units.{unit_of}
 use Rattle.tsa_rules_bodies.specs.declared.entries.Inside.{Inside}

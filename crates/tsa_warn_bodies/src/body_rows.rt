@@ -13,11 +13,10 @@ ghost use Rattle.tsa_tree.specs.units.Syntax.{UnitItem};
 
 use crate::course::Course;
 use tsa_base::NoMemory;
-use tsa_flow_function::FunctionFlow;
+use tsa_flow::{FunctionFlow, Pass};
 use tsa_rules_bodies::{Inside, enter_item, leave_body, pass};
-use tsa_flow::Pass;
-use tsa_warn_text::{FunctionNames, PathTexts, body_names};
 use tsa_tree::item::{FnTree, Item};
+use tsa_warn_text::{FunctionNames, PathTexts, body_names};
 
 /// What is told of a body: the function, what walks bring to its points, and the texts of its paths.
 pub struct ToldBody<'a> {

@@ -16,8 +16,8 @@ use Rattle.tsa_rules.specs.Points.{points_of}
 use Rattle.tsa_rules.specs.Walks.{Fails, on_a_walk, where_edges_meet}
 use Rattle.tsa_rules.proofs.Tests.{left_part, right_part}
 use Rattle.tsa_rules_table.specs.Rows.{is_place, Rows}
-use Rattle.tsa_rules_view.specs.declared.content.RuleView.{RuleView}
-use Rattle.tsa_rules_view.specs.Views.{case_in, IsViewOf}
+use Rattle.tsa_flow_function.specs.RuleView.{RuleView}
+use Rattle.tsa_flow_function.specs.Views.{case_in, IsViewOf}
 use Rattle.tsa_warn_function.specs.declared.failure.RuleFailure.{RuleFailure}
 use Rattle.tsa_warn_function.specs.declared.spot.TheConstants.{MARK_RULES}
 use Rattle.tsa_warn_function.specs.Adding.{Adds}

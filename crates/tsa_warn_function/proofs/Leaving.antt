@@ -12,8 +12,8 @@ use Rattle.tsa_rules.specs.Points.{points_of}
 use Rattle.tsa_rules.specs.Statuses.{same_status}
 use Rattle.tsa_rules.proofs.CaseFailures.{failures}
 use Rattle.tsa_rules.proofs.Tests.{left_part}
-use Rattle.tsa_rules_view.specs.declared.content.RuleView.{RuleView}
-use Rattle.tsa_rules_view.specs.Views.{case_in, IsViewOf}
+use Rattle.tsa_flow_function.specs.RuleView.{RuleView}
+use Rattle.tsa_flow_function.specs.Views.{case_in, IsViewOf}
 use Rattle.tsa_warn_function.specs.declared.failure.RuleFailure.{RuleFailure}
 use Rattle.tsa_warn_function.specs.Passes.{IsOfReturns}
 

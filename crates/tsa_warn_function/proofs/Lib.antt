@@ -9,3 +9,4 @@ pub mod AllPasses
 pub mod MarkRules
 pub mod ListGrowth
 pub mod Notes
+pub use Rattle.tsa_flow_function.proofs.EachOnce

@@ -16,3 +16,4 @@ pub use failure_laws::rules_fail_at_points_of_bodies;
 pub use failures::failures_of;
 pub use laws::failures_are_told_in_one_order;
 pub use order::warnings_of;
+pub use tsa_flow_function::Fit;

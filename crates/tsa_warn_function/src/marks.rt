@@ -9,8 +9,8 @@ ghost use Rattle.tsa_place_model.specs.Ways.{Way};
 use crate::failure::RuleFailure;
 use crate::spot::spot_of;
 use tsa_base::NoMemory;
-use tsa_rules_table::Entry;
 use tsa_flow_function::FunctionFlow;
+use tsa_rules_table::Entry;
 
 /// Notes what fails of the rules that are asked of marks at the point of a mark and for its path, where they are of the function.
 fn note_mark(

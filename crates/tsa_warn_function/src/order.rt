@@ -9,11 +9,11 @@ ghost use Rattle.tsa_warn_function.specs.Comparisons.{failure_cmp};
 ghost use Rattle.tsa_warn_function.specs.Orders.{AreToldInOrder};
 ghost use Rattle.tsa_place_model.specs.Ways.{Way};
 
+use crate::{RuleFailure, failures_of};
 use std::alloc::Global;
 use std::cmp::Ordering;
 use tsa_base::NoMemory;
 use tsa_flow_function::FunctionFlow;
-use crate::{RuleFailure, failures_of};
 use tsa_warn_text::PathTexts;
 
 /// How two rules that fail compare: by their points, then by the numbers of the rules, and last by the ranks of the paths.

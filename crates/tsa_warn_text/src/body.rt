@@ -11,9 +11,9 @@ use crate::locals::declared_names;
 use crate::parameters::param_names;
 use tsa_base::NoMemory;
 use tsa_path::Named;
-use tsa_types_scope::Scope;
 use tsa_tree::item::{FnTree, Param};
 use tsa_tree::kind::Kind;
+use tsa_types_scope::Scope;
 
 /// What the locals of a function with a body are named by their numbers: its parameters, of which some may be named by the first
 /// declaration alone, and then the locals that the body declares, which have these kinds.

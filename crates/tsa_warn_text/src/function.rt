@@ -4,9 +4,9 @@ ghost use Rattle.tsa_path.specs.Labels.{label};
 ghost use Rattle.tsa_rules.specs.Legends.{names_in};
 
 use crate::labels::label_of_part;
+use tsa_path::{Named, PathNames};
 use tsa_place_layout::Layout;
 use tsa_place_model::Holder;
-use tsa_path::{Named, PathNames};
 
 /// The names of globals and members by the layout of a unit, and those of the locals of one of its functions.
 #[derive(Clone, Copy)]

@@ -4,8 +4,8 @@ ghost use Rattle.tsa_path.specs.Labels.{label};
 ghost use Rattle.tsa_path.specs.WrittenLocks.{struct_in};
 ghost use Rattle.tsa_rules.specs.Legends as legends;
 
-use tsa_place_layout::Part;
 use tsa_path::Named;
+use tsa_place_layout::Part;
 use tsa_tree::kind::Kind;
 
 /// The struct that a kind is, or to which it points.

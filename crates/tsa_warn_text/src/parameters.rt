@@ -7,10 +7,10 @@ ghost use Rattle.tsa_tree.specs.types.DeclaredTypes.{thing_type};
 
 use crate::labels::label_of;
 use tsa_base::NoMemory;
-use tsa_place_layout::declared_thing;
 use tsa_path::Named;
-use tsa_types_scope::Scope;
+use tsa_place_layout::declared_thing;
 use tsa_tree::item::Param;
+use tsa_types_scope::Scope;
 
 /// The name of a parameter: that of the body, or that of the first declaration where the body has none.
 fn param_name<'a>(in_body: &Param<'a>, first: &Param<'a>) -> &'a [u8]

@@ -12,8 +12,8 @@ use crate::text::PathText;
 use std::alloc::Global;
 use std::marker::Model;
 use tsa_base::NoMemory;
-use tsa_rules_table::Numbers;
 use tsa_path::PathNames;
+use tsa_rules_table::Numbers;
 
 /// The paths of a function with their texts, by their numbers, and the order in which they are told. Contracts see what each path is told
 /// by.

@@ -21,9 +21,9 @@ use Rattle.tsa_core.proofs.UnitScopes.{item_alike}
 use Rattle.tsa_profile_accesses.specs.Premises.{first}
 use Rattle.tsa_profile_guards.proofs.NoneFails.{none_of_both}
 use Rattle.tsa_profile_points.specs.Bodies.{points_premises}
-use Rattle.tsa_profile_context.specs.Units as profile
-use Rattle.tsa_profile_context.specs.Units.{around, attributes_behind, heads_premises, points_in, refusal_of_profile, tries_limits}
-use Rattle.tsa_profile_context.specs.Units.{paths_limits, unit_of}
+use Rattle.tsa_profile.specs.Units as profile
+use Rattle.tsa_profile.specs.Units.{around, attributes_behind, heads_premises, points_in, refusal_of_profile, tries_limits}
+use Rattle.tsa_profile.specs.Units.{paths_limits, unit_of}
 use Rattle.tsa_sound_accepted.proofs.entered.HeadScopes.{split_first}
 
 module _ (all : List UnitItem) where

@@ -38,7 +38,7 @@ use Rattle.tsa_profile_declarations.specs.Declarations.{argument, attribute_argu
 use Rattle.tsa_profile_declarations.specs.Declarations.{is_order, misfits, way, ways_behind, with_way}
 use Rattle.tsa_profile_guards.proofs.NoneFails.{none_of_both, none_of_first}
 use Rattle.tsa_profile_accesses.specs.Expressions.{View, own, parts}
-use Rattle.tsa_profile_context.specs.Units.{unit_of, view_of}
+use Rattle.tsa_profile.specs.Units.{unit_of, view_of}
 use Rattle.tsa_sound.specs.CallFacts.{IsOutside, first_pointed, of_lock}
 use Rattle.tsa_sound_accepted.proofs.called.LockParameters.{known_last, parameter_way}
 use Rattle.tsa_sound_accepted.proofs.called.AttributeKinds.{change_is}

@@ -31,7 +31,7 @@ use Rattle.tsa_profile_declarations.specs.Declarations.{attribute_arguments, att
 use Rattle.tsa_profile_declarations.specs.Declarations.{param_premises, tries_otherwise, ways_behind}
 use Rattle.tsa_profile_guards.proofs.NoneFails.{none_of_both, none_of_first}
 use Rattle.tsa_profile_accesses.specs.Expressions.{View}
-use Rattle.tsa_profile_context.specs.Units.{unit_of, view_of}
+use Rattle.tsa_profile.specs.Units.{unit_of, view_of}
 use Rattle.tsa_profile.proofs.HeadsRun.{head_stands}
 use Rattle.tsa_sound.specs.CallFacts.{IsOutside, of_environment}
 use Rattle.tsa_sound_accepted.proofs.called.CallTypes.{clash}

@@ -34,9 +34,9 @@ use Rattle.tsa_profile_points.specs.Bodies.{Around, point_premises, points_premi
 use Rattle.tsa_core_points.specs.CoreLaws.{known_of, seen_at}
 use Rattle.tsa_profile_accesses.specs.Expressions.{attributes_at}
 use Rattle.tsa_core_points.specs.Points.{PlacedPoint, placed, placed_all}
-use Rattle.tsa_profile_context.specs.Units as profile
-use Rattle.tsa_profile_context.specs.Units.{Unit, around, attributes_behind, attributes_by, heads_premises, own_attributes, paths_limits}
-use Rattle.tsa_profile_context.specs.Units.{points_in, refusal_of_profile, stable_of, tries_limits, unit_of}
+use Rattle.tsa_profile.specs.Units as profile
+use Rattle.tsa_profile.specs.Units.{Unit, around, attributes_behind, attributes_by, heads_premises, own_attributes, paths_limits}
+use Rattle.tsa_profile.specs.Units.{points_in, refusal_of_profile, stable_of, tries_limits, unit_of}
 use Rattle.tsa_core_points.proofs.PointsOfCore.{placed_are_known, points_are_of_the_core, uses_are_of_the_core}
 use Rattle.tsa_profile.proofs.AddedNames.{adds_inside}
 use Rattle.tsa_profile.proofs.BodyWays as ways

@@ -41,8 +41,8 @@ use Rattle.tsa_profile_accesses.specs.declared.premise.ProfileCode.TheVariants.{
 use Rattle.tsa_profile_declarations.specs.Declarations.{attribute_premises, head_premises, is_int, is_nothing, param_premises}
 use Rattle.tsa_profile_guards.proofs.NoneFails.{none_of_both, none_of_first}
 use Rattle.tsa_profile_accesses.specs.Expressions.{View}
-use Rattle.tsa_profile_context.specs.Units as profile
-use Rattle.tsa_profile_context.specs.Units.{attributes_by, items_premises, paths_limits, tries_limits, unit_of}
+use Rattle.tsa_profile.specs.Units as profile
+use Rattle.tsa_profile.specs.Units.{attributes_by, items_premises, paths_limits, tries_limits, unit_of}
 use Rattle.tsa_sound.specs.BodyFacts.{BodyFacts, GivesAnAnswer, IsScalar, MentionsParameters}
 use Rattle.tsa_sound_accepted.specs.terms.Units.{IsInProfile}
 use Rattle.tsa_sound_accepted.specs.entered.Laws.{BodiesMayBeEntered}

@@ -29,8 +29,8 @@ use Rattle.tsa_profile_accesses.specs.Premises.{first}
 use Rattle.tsa_profile_guards.proofs.NoneFails.{none_of_both}
 use Rattle.tsa_profile_points.specs.Bodies.{Around, points_premises}
 use Rattle.tsa_core_points.specs.Points.{placed_all}
-use Rattle.tsa_profile_context.specs.Units as profile
-use Rattle.tsa_profile_context.specs.Units.{Unit, around, attributes_behind, attributes_by, heads_premises, points_in, unit_of}
+use Rattle.tsa_profile.specs.Units as profile
+use Rattle.tsa_profile.specs.Units.{Unit, around, attributes_behind, attributes_by, heads_premises, points_in, unit_of}
 use Rattle.tsa_profile.proofs.FunctionScopes.{Bodies, Stands, body_told, one_meant}
 use Rattle.tsa_profile.proofs.PathTables.{Reads, bodies_behind, head_told, none_came_yet, own_body, reads_on}
 

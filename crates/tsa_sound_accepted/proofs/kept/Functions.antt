@@ -11,7 +11,7 @@ use Rattle.tsa_core.specs.Programs.{program_of}
 use Rattle.tsa_core.proofs.MappedLists.{map_at, map_length}
 use Rattle.tsa_core.proofs.ProgramKinds.{program_layout}
 use Rattle.tsa_rules.specs.Points.{function_at, or_no_function, points_of}
-use Rattle.tsa_profile_context.specs.Units.{refusal_of_profile}
+use Rattle.tsa_profile.specs.Units.{refusal_of_profile}
 use Rattle.tsa_profile.specs.Paths.{paths_of}
 use Rattle.tsa_profile.proofs.FunctionPaths.{functions_are}
 use Rattle.tsa_sound_accepted.specs.kept.Laws.{LocalsAreSetApart, SetsApart, UnitsKeepTheirRows}

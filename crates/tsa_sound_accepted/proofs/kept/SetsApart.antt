@@ -30,7 +30,7 @@ use Rattle.tsa_core.proofs.EachScope.{each_point}
 use Rattle.tsa_core.proofs.MappedLists.{map_at, map_length}
 use Rattle.tsa_rules.specs.Points.{is_a_try, local_begun, mentions, or_idle, point_at, try_variable_at, try_variables}
 use Rattle.tsa_rules.proofs.KeptTries.{try_variables_are_told_by_declarations}
-use Rattle.tsa_profile_context.specs.Units.{refusal_of_profile}
+use Rattle.tsa_profile.specs.Units.{refusal_of_profile}
 use Rattle.tsa_profile.specs.Paths.{paths_of}
 use Rattle.tsa_sound.specs.Facts.{IsUnmentioned, set_by}
 use Rattle.tsa_sound_accepted.proofs.laid.Laying.{places_are_laid_out}

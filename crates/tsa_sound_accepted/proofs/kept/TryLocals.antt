@@ -50,9 +50,9 @@ use Rattle.tsa_profile_declarations.specs.Declarations.{is_int}
 use Rattle.tsa_core_points.specs.CoreLaws.{known_of, seen, seen_at}
 use Rattle.tsa_profile_accesses.specs.Expressions.{attributes_at, callee, expression, is_try_call, lacks_a_path, of_callee, own, parts}
 use Rattle.tsa_core_points.specs.Points.{PlacedPoint, placed, placed_all}
-use Rattle.tsa_profile_context.specs.Units as profile
-use Rattle.tsa_profile_context.specs.Units.{Unit, around, attributes_behind, attributes_by, heads_premises, own_attributes, paths_limits}
-use Rattle.tsa_profile_context.specs.Units.{points_in, refusal_of_profile, stable_of, tries_limits, unit_of}
+use Rattle.tsa_profile.specs.Units as profile
+use Rattle.tsa_profile.specs.Units.{Unit, around, attributes_behind, attributes_by, heads_premises, own_attributes, paths_limits}
+use Rattle.tsa_profile.specs.Units.{points_in, refusal_of_profile, stable_of, tries_limits, unit_of}
 use Rattle.tsa_core_points.proofs.PointsOfCore.{placed_are_known}
 use Rattle.tsa_profile.proofs.AddedNames.{adds_inside}
 use Rattle.tsa_profile.proofs.BodyWays as ways

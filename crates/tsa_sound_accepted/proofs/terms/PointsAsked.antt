@@ -32,8 +32,8 @@ use Rattle.tsa_profile_points.specs.Bodies.{Around, view_at, begins_a_try, stand
 use Rattle.tsa_profile_points.specs.Bodies as profile
 use Rattle.tsa_profile_accesses.specs.Expressions.{expression}
 use Rattle.tsa_core_points.specs.Points.{placed, placed_simple, placed_init, placed_step, placed_test, placed_for, placed_in, placed_all}
-use Rattle.tsa_profile_context.specs.Units as unit
-use Rattle.tsa_profile_context.specs.Units.{around, attributes_behind, heads_premises, item_premises, items_premises, points_in}
+use Rattle.tsa_profile.specs.Units as unit
+use Rattle.tsa_profile.specs.Units.{around, attributes_behind, heads_premises, item_premises, items_premises, points_in}
 use Rattle.tsa_profile_guards.proofs.NoneFails.{none_of_both, none_of_first}
 use Rattle.tsa_sound_accepted.proofs.terms.CellsAsked.{IsAsked, asked}
 use Rattle.tsa_sound_accepted.proofs.terms.ScopesKept.{guards_kept}

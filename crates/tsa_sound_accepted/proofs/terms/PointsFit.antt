@@ -36,8 +36,8 @@ use Rattle.tsa_core.proofs.ProgramKinds.{programs_well_kinded}
 use Rattle.tsa_core.proofs.ScopesBelong.{Each, scopes_belong}
 use Rattle.tsa_core.proofs.SignaturesFit.{SoundBody, body_sound}
 use Rattle.tsa_core.proofs.UsesOfCells.{points_load_cells, points_load_just}
-use Rattle.tsa_profile_context.specs.Units as profile
-use Rattle.tsa_profile_context.specs.Units.{items_premises, paths_limits, tries_limits, unit_of}
+use Rattle.tsa_profile.specs.Units as profile
+use Rattle.tsa_profile.specs.Units.{items_premises, paths_limits, tries_limits, unit_of}
 use Rattle.tsa_profile_guards.proofs.NoneFails.{none_of_both}
 use Rattle.tsa_profile.specs.Paths.{paths_of}
 use Rattle.tsa_profile.proofs.UnitsRun.{profiles_are_runnable}

@@ -14,7 +14,7 @@ use Rattle.tsa_path.specs.Sameness.{same_way}
 use Rattle.tsa_rules.specs.KeptRows.{AreKept}
 use Rattle.tsa_rules.specs.Points.{attrs_at, function_at, mentions, point_at, points_of, try_variables}
 use Rattle.tsa_rules.specs.Warnings.{HasNoWarnings}
-use Rattle.tsa_profile_context.specs.Units.{refusal_of_profile}
+use Rattle.tsa_profile.specs.Units.{refusal_of_profile}
 use Rattle.tsa_profile.specs.Paths.{paths_of}
 use Rattle.tsa_sound.specs.Facts.{IsAmong, IsUnmentioned, set_by}
 use Rattle.tsa_sound_accepted.specs.kept.Visits.{rows_of}

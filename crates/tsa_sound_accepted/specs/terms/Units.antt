@@ -7,7 +7,7 @@ use Rattle.tsa_place_model.specs.Calls.{Layout}
 use Rattle.tsa_core.specs.Meanings.{Call}
 use Rattle.tsa_core.specs.Programs.{Program, program_of}
 use Rattle.tsa_place_model.specs.Leading.{HasPlaces}
-use Rattle.tsa_profile_context.specs.Units.{refusal_of_profile}
+use Rattle.tsa_profile.specs.Units.{refusal_of_profile}
 use Rattle.tsa_profile.specs.Paths.{paths_of}
 use Rattle.tsa_rules.specs.Points.{function_at, point_at, uses_at}
 use Rattle.tsa_sound.specs.BodyFacts.{AllLead}

@@ -1,7 +1,7 @@
 use Rattle.std.proofs.Common.{◌∙◌, sym}
 use Rattle.tsa_tree.proofs.types.UnitNodes.{premises_tell_it}
 use Rattle.tsa_tree.specs.units.Shapes.{item_shapes}
-use Rattle.tsa_rules_view.proofs.NewView.{locks_are}
+use Rattle.tsa_flow_function.proofs.NewView.{locks_are}
 use Rattle.tsa_flow.proofs.tables.tables_in.Goals as goal
 
 pub new-requires : goal.new-requires

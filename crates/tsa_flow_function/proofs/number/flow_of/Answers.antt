@@ -4,7 +4,7 @@ use Rattle.tsa_core.specs.Programs.{program_of}
 use Rattle.tsa_rules_table.specs.Rows.{rows_in}
 use Rattle.tsa_rules.specs.Points.{edges_of, points_of}
 use Rattle.tsa_tree.specs.units.Shapes.{item_shapes}
-use Rattle.tsa_rules_bodies.specs.Controls.{IsGraphIn}
+use Rattle.tsa_rules_view.specs.Controls.{IsGraphIn}
 use Rattle.tsa_rules_view.specs.Views.{IsViewIn}
 use Rattle.tsa_flow_function.proofs.FunctionNumbers.{flow_there, found, is_between, is_graph}
 use Rattle.tsa_flow_function.proofs.number.flow_of.Goals as goal

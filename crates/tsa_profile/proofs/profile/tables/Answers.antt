@@ -4,8 +4,8 @@ use Rattle.tsa_tree.proofs.types.UnitNodes.{premises_tell_it}
 use Rattle.tsa_tree.specs.types.Units.{outset, refusal_of_types}
 use Rattle.tsa_tree.specs.units.Shapes.{item_shapes}
 use Rattle.tsa_core.specs.Programs.{program_of}
-use Rattle.tsa_profile_context.specs.Tables.{tables_of_all}
-use Rattle.tsa_profile_context.specs.Units.{unit_of}
+use Rattle.tsa_profile_items.specs.Tables.{tables_of_all}
+use Rattle.tsa_profile_items.specs.Units.{unit_of}
 use Rattle.tsa_profile.proofs.Laying.{laid}
 use Rattle.tsa_profile.proofs.PathTables.{paths_are_those_of_the_core}
 use Rattle.tsa_profile.proofs.profile.tables.Goals as goal

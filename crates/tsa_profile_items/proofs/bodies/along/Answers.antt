@@ -5,7 +5,7 @@ use Rattle.tsa_core_points.specs.Steps.{step_shape}
 use Rattle.tsa_core_points.specs.Walks.{points_along, walk}
 use Rattle.tsa_profile_accesses.specs.Locks.{tries}
 use Rattle.tsa_profile_accesses.specs.Expressions.{attributes_at}
-use Rattle.tsa_profile_points.specs.Bodies.{Around, is_try_variable}
+use Rattle.tsa_profile_context.specs.Bodies.{Around, is_try_variable}
 use Rattle.tsa_profile_context.specs.declared.context.Ground.{Ground}
 use Rattle.tsa_profile_context.specs.Judging.{unit_at}
 use Rattle.tsa_profile_items.proofs.bodies.along.Goals as goal

@@ -9,8 +9,8 @@ use Rattle.tsa_core_points.specs.Walks.{points_along, walk, walk_behind}
 use Rattle.tsa_profile_accesses.specs.declared.premise.ProfileCode.TheVariants.{LM4, LM7}
 use Rattle.tsa_profile_accesses.specs.Premises.{first, or_else, premise}
 use Rattle.tsa_profile_accesses.specs.Expressions.{attributes_at}
-use Rattle.tsa_profile_points.specs.Bodies.{is_try_variable, points_premises}
-use Rattle.tsa_profile_points.specs.Ways.{function_paths}
+use Rattle.tsa_profile_context.specs.Bodies.{is_try_variable, points_premises}
+use Rattle.tsa_profile_context.specs.Ways.{function_paths}
 use Rattle.tsa_profile_context.specs.Judging.{around_at}
 use Rattle.tsa_profile_items.proofs.Behind.{all_found, none_told}
 use Rattle.tsa_profile_context.proofs.Sequences.{judged_fails, judged_holds}

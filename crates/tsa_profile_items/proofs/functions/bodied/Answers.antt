@@ -7,7 +7,7 @@ use Rattle.tsa_tree.specs.types.Symbols.{number_of}
 use Rattle.tsa_place_model.specs.LockPaths.{stable_in}
 use Rattle.tsa_core_environment.specs.Functions.{outside_of}
 use Rattle.tsa_profile_accesses.specs.Premises.{first}
-use Rattle.tsa_profile_points.specs.Bodies.{points_premises}
+use Rattle.tsa_profile_context.specs.Bodies.{points_premises}
 use Rattle.tsa_profile_context.specs.Judging.{declared_attributes, entered, unit_at, with_scope}
 use Rattle.tsa_profile_context.specs.Units.{around, heads_premises, points_in}
 use Rattle.tsa_profile_items.proofs.Behind.{body_found, inside_still, premises_are}

@@ -10,7 +10,7 @@ use Rattle.tsa_profile_context.specs.Judging.{Knowledge, behind, unit_at, with_s
 use Rattle.tsa_profile_context.specs.Units.{Unit, attributes_behind, item_premises}
 use Rattle.tsa_profile_items.proofs.Behind.{alias_behind, enum_behind, global_behind, struct_behind}
 use Rattle.tsa_profile_items.proofs.items.item.Goals as goal
-use Rattle.tsa_profile_declarations.proofs.Firsts.{nothing_fails}
+use Rattle.tsa_profile_context.proofs.Firsts.{nothing_fails}
 
 abbrev told : Unit → Knowledge → Item → Option Failure
 told u k x = first (item_premises u k.attributes (attributes_behind u k.attributes k.here (item_shape x)) k.here (item_shape x))

@@ -1,7 +1,7 @@
 use Rattle.std.proofs.Common.{[], refl, slice_get, subst}
 use Rattle.tsa_tree.specs.units.Shapes.{item_shapes}
 use Rattle.tsa_core.specs.Programs.{program_of}
-use Rattle.tsa_profile_context.specs.Units.{unit_of}
+use Rattle.tsa_profile.specs.Units.{unit_of}
 use Rattle.tsa_rules_bodies.specs.Finding.{IsFound}
 use Rattle.tsa_rules_bodies.specs.Sites.{site_of}
 use Rattle.tsa_rules_bodies.proofs.GraphsOfFunctions.{graph_nowhere, graph_there}

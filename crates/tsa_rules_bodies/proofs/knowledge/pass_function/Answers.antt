@@ -3,7 +3,7 @@ use Rattle.tsa_tree.specs.declarations.Shapes.{head_shape}
 use Rattle.tsa_tree.specs.types.Scopes.{with_locals}
 use Rattle.tsa_place_model.specs.LockPaths.{stable_in}
 use Rattle.tsa_core_environment.proofs.BodyLists.{head_told}
-use Rattle.tsa_profile_context.specs.Judging.{unit_at}
+use Rattle.tsa_profile.specs.Judging.{unit_at}
 use Rattle.tsa_rules_bodies.specs.Knowing.{entered, with_scope}
 use Rattle.tsa_rules_bodies.proofs.Passing.{function_behind}
 use Rattle.tsa_rules_bodies.proofs.knowledge.pass_function.Goals as goal

@@ -5,8 +5,8 @@ use Rattle.tsa_tree.proofs.types.UnitNodes.{premises_tell_it}
 use Rattle.tsa_tree.specs.types.Premises.{first}
 use Rattle.tsa_tree.specs.types.Units.{items_premises, outset}
 use Rattle.tsa_tree.specs.units.Shapes.{item_shape, item_shapes}
-use Rattle.tsa_profile_context.specs.Judging.{unit_at}
-use Rattle.tsa_profile_items.proofs.ItemLists.{item_typed, typed_next}
+use Rattle.tsa_profile.specs.Judging.{unit_at}
+use Rattle.tsa_profile.proofs.ItemLists.{item_typed, typed_next}
 use Rattle.tsa_rules_bodies.specs.Entering.{IsAt, Seeks}
 use Rattle.tsa_rules_bodies.specs.Sites.{site_among, site_of}
 use Rattle.tsa_rules_bodies.proofs.Seeking.{found_there, none_left, none_sought, nowhere, passed_on, same_sites}

@@ -2,7 +2,7 @@ use Rattle.std.proofs.Common.{◌≡◌, None, drop}
 use Rattle.tsa_tree.specs.types.Premises as types
 use Rattle.tsa_tree.specs.types.Units as typed
 use Rattle.tsa_tree.specs.units.Shapes.{item_shapes}
-use Rattle.tsa_profile_context.specs.Judging.{unit_at}
+use Rattle.tsa_profile.specs.Judging.{unit_at}
 use Rattle.tsa_rules_bodies.specs.Sites.{site_among, site_of}
 use Rattle.tsa_rules_bodies.proofs.search.seek.Given as goal
 

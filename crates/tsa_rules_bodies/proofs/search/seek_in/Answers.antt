@@ -1,6 +1,6 @@
 use Rattle.std.proofs.Common.{subst}
 use Rattle.tsa_tree.specs.units.Shapes.{item_shape}
-use Rattle.tsa_profile_context.specs.Judging.{unit_at}
+use Rattle.tsa_profile.specs.Judging.{unit_at}
 use Rattle.tsa_rules_bodies.specs.Entering.{Enters}
 use Rattle.tsa_rules_bodies.proofs.Seeking.{left, sought}
 use Rattle.tsa_rules_bodies.proofs.search.seek_in.Goals as goal

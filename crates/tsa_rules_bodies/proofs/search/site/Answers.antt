@@ -1,6 +1,6 @@
 use Rattle.std.proofs.Common.{subst}
 use Rattle.tsa_tree.specs.units.Shapes.{item_shapes}
-use Rattle.tsa_profile_context.specs.Judging.{unit_at}
+use Rattle.tsa_profile.specs.Judging.{unit_at}
 use Rattle.tsa_rules_bodies.specs.Entering.{IsAt}
 use Rattle.tsa_rules_bodies.specs.Sites.{site_of}
 use Rattle.tsa_rules_bodies.proofs.Seeking.{is_found, none_found}

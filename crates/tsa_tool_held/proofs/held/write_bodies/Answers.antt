@@ -2,8 +2,8 @@ use Rattle.std.proofs.Common.{◌∙◌, ◌≤◌, arith, [], ◌∷◌, ◌++�
 use Rattle.std.proofs.Math.Seq.{drop-cons}
 use Rattle.std.proofs.lemmas.List.{drop_all}
 use Rattle.std.specs.Io.KnownBytes.{Appends}
-use Rattle.tsa_warn_bodies.specs.Bodies.{Tells, bodies_from, body_by}
-use Rattle.tsa_warn_bodies.specs.BodyCourses.{course_of}
+use Rattle.tsa_warn.specs.Bodies.{Tells, bodies_from, body_by}
+use Rattle.tsa_warn.specs.BodyCourses.{course_of}
 use Rattle.tsa_tree.specs.units.Shapes.{item_shape, item_shapes}
 use Rattle.tsa_tool_held.specs.Held.{IsBodyHeld}
 use Rattle.tsa_tool_held.specs.Pieces.{Pieces}

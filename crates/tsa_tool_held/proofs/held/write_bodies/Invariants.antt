@@ -1,7 +1,7 @@
 use Rattle.std.proofs.Common.{◌≤◌, ℕ, List}
 use Rattle.std.specs.Io.KnownBytes.{Appends}
-use Rattle.tsa_warn_bodies.specs.Bodies.{BodyText}
-use Rattle.tsa_warn_bodies.specs.BodyCourses.{course_of}
+use Rattle.tsa_warn.specs.Bodies.{BodyText}
+use Rattle.tsa_warn.specs.BodyCourses.{course_of}
 use Rattle.tsa_tree.specs.units.Shapes.{item_shapes}
 use Rattle.tsa_tool_held.specs.Held.{IsBodyHeld}
 use Rattle.tsa_tool_held.specs.Pieces.{Pieces}

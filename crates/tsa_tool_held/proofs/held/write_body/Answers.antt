@@ -2,8 +2,8 @@ use Rattle.std.proofs.Common.{◌∙◌, map, sym, ap, subst}
 use Rattle.std.specs.List.Sorted.{IsPermutation}
 use Rattle.tsa_core.specs.Programs.{program_of}
 use Rattle.tsa_warn_text.specs.Ranks.{numbers_of}
-use Rattle.tsa_warn_bodies.specs.Bodies.{names_of}
-use Rattle.tsa_profile.specs.Paths.{paths_of}
+use Rattle.tsa_warn.specs.Bodies.{names_of}
+use Rattle.tsa_warn.specs.Paths.{paths_of}
 use Rattle.tsa_tool_held.specs.Held.{IsAccountHeld, account, try_names_from}
 use Rattle.tsa_tool_held.proofs.Fronts.{on_error, on_ok}
 use Rattle.tsa_tool_held.proofs.held.write_body.Goals as goal

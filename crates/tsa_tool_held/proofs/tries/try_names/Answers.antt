@@ -1,5 +1,5 @@
 use Rattle.std.proofs.Common.{◌∙◌, sym, subst}
-use Rattle.tsa_rules_view.specs.Views.{IsViewOf}
+use Rattle.tsa_warn.specs.Views.{IsViewOf}
 use Rattle.tsa_tool_held.proofs.Trying.{no_more, one_more_name}
 use Rattle.tsa_tool_held.proofs.tries.try_names.Goals as goal
 

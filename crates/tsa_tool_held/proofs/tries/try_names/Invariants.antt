@@ -1,7 +1,7 @@
 use Rattle.std.proofs.Common.{◌≡◌, ◌++◌, List, drop, map}
 use Rattle.tsa_core.specs.Programs.{Function, Program}
 use Rattle.tsa_tree.specs.statements.Shapes.{point_shape}
-use Rattle.tsa_rules_view.specs.Views.{IsViewOf}
+use Rattle.tsa_warn.specs.Views.{IsViewOf}
 use Rattle.tsa_place_model.specs.Ways.{Way}
 use Rattle.tsa_tool_held.specs.Held.{try_names_from}
 use Rattle.tsa_tool_held.proofs.tries.try_names.Given as goal

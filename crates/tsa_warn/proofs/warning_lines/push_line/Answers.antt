@@ -3,10 +3,10 @@ use Rattle.tsa_core.specs.Programs.{program_of}
 use Rattle.tsa_warn_text.specs.Orders.{texts_of}
 use Rattle.tsa_warn_text.specs.Ranks.{told_by}
 use Rattle.tsa_rules.specs.Attributes.{lock_kind_of}
-use Rattle.tsa_rules_view.specs.Views.{IsViewOf, text_of}
+use Rattle.tsa_warn_function.specs.Views.{IsViewOf, text_of}
 use Rattle.tsa_warn_text.specs.Lines.{warning_text}
 use Rattle.tsa_warn_bodies.specs.Bodies.{names_of}
-use Rattle.tsa_profile.specs.Paths.{paths_of}
+use Rattle.tsa_warn_function.specs.Paths.{paths_of}
 use Rattle.tsa_warn.specs.Lines.{place_of}
 use Rattle.tsa_warn.proofs.OneLine.{kind_is, warned_is}
 use Rattle.tsa_warn.proofs.warning_lines.push_line.Goals as goal

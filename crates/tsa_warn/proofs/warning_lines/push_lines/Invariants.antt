@@ -1,7 +1,7 @@
 use Rattle.std.proofs.Common.{◌≡◌, ◌++◌, List, drop}
 use Rattle.std.specs.List.{flat_map}
 use Rattle.tsa_warn_bodies.specs.Bodies.{BodyText, IsToldBody, names_of}
-use Rattle.tsa_profile.specs.Paths.{paths_of}
+use Rattle.tsa_warn_function.specs.Paths.{paths_of}
 use Rattle.tsa_core.specs.Programs.{program_of}
 use Rattle.tsa_warn_text.specs.Orders.{texts_of}
 use Rattle.tsa_tree.specs.units.Syntax.{UnitItem}

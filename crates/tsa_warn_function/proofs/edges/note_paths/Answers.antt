@@ -1,5 +1,5 @@
 use Rattle.std.proofs.Common.{◌≡◌, ◌∙◌, ap, arith, length}
-use Rattle.tsa_rules_view.specs.declared.content.RuleView.{RuleView}
+use Rattle.tsa_flow_function.specs.RuleView.{RuleView}
 use Rattle.tsa_warn_function.specs.Passes.{IsOfEdges}
 use Rattle.tsa_warn_function.proofs.Notes.{some_there}
 use Rattle.tsa_warn_function.proofs.Pathwise.{all_paths, edges_there, none_yet, path_more}

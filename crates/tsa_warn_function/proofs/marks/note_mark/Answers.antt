@@ -2,7 +2,7 @@ use Rattle.std.proofs.Common.{◌≡◌, ◌∙◌, ◌<◌, ap, arith, length}
 use Rattle.std.proofs.lemmas.Result.{on_ok_weaker}
 use Rattle.tsa_rules_table.specs.Rows.{rows_in}
 use Rattle.tsa_rules.specs.Points.{points_of}
-use Rattle.tsa_rules_view.specs.declared.content.RuleView.{RuleView}
+use Rattle.tsa_flow_function.specs.RuleView.{RuleView}
 use Rattle.tsa_warn_function.proofs.Notes.{of_mark, of_none, some_there}
 use Rattle.tsa_warn_function.proofs.marks.note_mark.Goals as goal
 use Rattle.tsa_warn_function.proofs.marks.note_mark.Goals.{else-entry-rows-via-then-entry-rows+else-entry-caps}

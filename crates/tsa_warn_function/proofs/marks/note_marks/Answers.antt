@@ -1,7 +1,7 @@
 use Rattle.std.proofs.Common.{◌∙◌, ℕ, ◌+◌, ◌≤◌, ap, arith, length, map, sym, subst, take}
 use Rattle.std.proofs.lemmas.List.{length-map, take_all}
 use Rattle.tsa_rules_table.specs.Rows.{entry_of, Rows}
-use Rattle.tsa_rules_view.specs.declared.content.RuleView.{RuleView}
+use Rattle.tsa_flow_function.specs.RuleView.{RuleView}
 use Rattle.tsa_warn_function.specs.Adding.{Adds}
 use Rattle.tsa_warn_function.specs.Passes.{IsOfMarks}
 use Rattle.tsa_warn_function.proofs.Notes.{fresh_place, mark_more, next_place, no_marks, none_there, some_there}

@@ -1,7 +1,7 @@
 use Rattle.std.proofs.Common.{◌≡◌, ◌∙◌, ◌<◌, ap, arith, length, subst}
 use Rattle.tsa_rules_table.specs.Rows.{rows_in}
 use Rattle.tsa_rules.specs.Points.{points_of}
-use Rattle.tsa_rules_view.specs.declared.content.RuleView.{RuleView}
+use Rattle.tsa_flow_function.specs.RuleView.{RuleView}
 use Rattle.tsa_warn_function.specs.Adding.{Adds}
 use Rattle.tsa_warn_function.proofs.Pathwise.{all_points, Before, no_points, point_more}
 use Rattle.tsa_warn_function.proofs.points.note_points.Goals as goal

@@ -1,7 +1,7 @@
 use Rattle.std.proofs.Common.{◌∙◌, ap, sym, true≢false}
 use Rattle.tsa_rules.specs.Cases.{is_leaving_in}
-use Rattle.tsa_rules_view.specs.declared.content.RuleView.{RuleView}
-use Rattle.tsa_rules_view.specs.Views.{case_in}
+use Rattle.tsa_flow_function.specs.RuleView.{RuleView}
+use Rattle.tsa_flow_function.specs.Views.{case_in}
 use Rattle.tsa_warn_function.proofs.Leaving.{leaves_there}
 use Rattle.tsa_warn_function.proofs.Pathwise.{no_return}
 use Rattle.tsa_warn_function.proofs.points.note_return.Goals as goal

@@ -1,5 +1,5 @@
 use Rattle.std.proofs.Common.{subst, sym}
-use Rattle.tsa_rules_view.specs.Views.{IsViewOf}
+use Rattle.tsa_flow_function.specs.Views.{IsViewOf}
 use Rattle.tsa_warn_function.proofs.spot.spot_of.Goals as goal
 
 pub returns-clause-is : goal.returns-clause-is

@@ -6,7 +6,7 @@ use Rattle.tsa_tree.specs.types.FirstFailing.{first_failing}
 use Rattle.tsa_tree.specs.types.Premises.{first}
 use Rattle.tsa_tree.specs.types.Units.{items_premises}
 use Rattle.tsa_tree.specs.units.Shapes.{item_shapes}
-use Rattle.tsa_profile_items.proofs.ItemLists.{item_typed, typed_next}
+use Rattle.tsa_rules_bodies.proofs.ItemLists.{item_typed, typed_next}
 use Rattle.tsa_profile_context.specs.Judging.{unit_at}
 use Rattle.tsa_rules_bodies.specs.Knowing.{outset_of}
 use Rattle.tsa_profile_context.specs.Units.{unit_of}

@@ -2,7 +2,7 @@ use Rattle.std.proofs.Common.{◌∙◌, ◌≡◌, None, Some, option_and_then,
 use Rattle.tsa_tree.specs.types.FirstFailing.{first_failing}
 use Rattle.tsa_tree.specs.units.Shapes.{item_shapes}
 use Rattle.tsa_core.specs.Programs.{program_of}
-use Rattle.tsa_profile.specs.Paths.{paths_if}
+use Rattle.tsa_rules_bodies.specs.Paths.{paths_if}
 use Rattle.tsa_flow.specs.Units.{told_at}
 use Rattle.tsa_flow.proofs.Passing.{is_body}
 use Rattle.tsa_flow.proofs.passage.Pass.tell.Goals as goal

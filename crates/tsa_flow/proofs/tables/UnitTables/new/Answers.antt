@@ -2,7 +2,7 @@ use Rattle.std.proofs.Common.{◌∙◌, sym, ap}
 use Rattle.tsa_tree.specs.types.FirstFailing.{first_failing}
 use Rattle.tsa_tree.specs.units.Shapes.{item_shapes}
 use Rattle.tsa_core.specs.Programs.{program_of}
-use Rattle.tsa_profile.proofs.Laying.{laid}
+use Rattle.tsa_rules_bodies.proofs.Laying.{laid}
 use Rattle.tsa_flow.proofs.tables.UnitTables.new.Goals as goal
 
 pub tables_in-requires-clause-typed : goal.tables_in-requires-clause-typed

@@ -2,7 +2,7 @@ use Rattle.std.proofs.Common.{◌∙◌, Some, option_map, slice_get, sym, ap, s
 use Rattle.tsa_tree.specs.units.Shapes.{item_shapes}
 use Rattle.tsa_core.specs.Programs.{program_of}
 use Rattle.tsa_flow_function.specs.Numbers.{IsFlowIn}
-use Rattle.tsa_rules_view.specs.Views.{IsViewIn}
+use Rattle.tsa_flow_function.specs.Views.{IsViewIn}
 use Rattle.tsa_flow.proofs.Telling.{view_in}
 use Rattle.tsa_flow.proofs.unit_flow.FlowedFacts.view.Goals as goal
 

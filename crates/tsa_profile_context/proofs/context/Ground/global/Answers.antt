@@ -4,7 +4,7 @@ use Rattle.tsa_tree.specs.declarations.Shapes.{decl_shape}
 use Rattle.tsa_tree.specs.types.Globals.{with_global}
 use Rattle.tsa_profile_accesses.specs.Premises.{first}
 use Rattle.tsa_profile_accesses.specs.NodeAnswers.{view_of}
-use Rattle.tsa_profile_declarations.specs.Declarations.{given_init, guard_premises}
+use Rattle.tsa_profile_points.specs.Declarations.{given_init, guard_premises}
 use Rattle.tsa_profile_context.specs.Judging.{unit_at}
 use Rattle.tsa_profile_context.proofs.GlobalJudged.{given, guards, view_is}
 use Rattle.tsa_profile_context.proofs.Sequences.{judged_fails, judged_holds, none_of_all, rest_of_both, some_of_both}

@@ -1,9 +1,9 @@
 use Rattle.std.proofs.Common.{◌∙◌, [], Some, option_map, sym, ap, subst}
 use Rattle.tsa_tree.specs.units.Shapes.{item_shapes}
 use Rattle.tsa_core.specs.Programs.{lock_kinds}
-use Rattle.tsa_profile_context.specs.Units.{unit_of}
+use Rattle.tsa_rules_bodies.specs.Units.{unit_of}
 use Rattle.tsa_rules_view.specs.Kinds.{kinds_of}
-use Rattle.tsa_profile.proofs.Laying.{laid}
+use Rattle.tsa_rules_bodies.proofs.Laying.{laid}
 use Rattle.tsa_rules_bodies.specs.Finding.{IsFound}
 use Rattle.tsa_rules_bodies.specs.Sites.{site_of}
 use Rattle.tsa_rules_view.proofs.HandedResults.{mapped}

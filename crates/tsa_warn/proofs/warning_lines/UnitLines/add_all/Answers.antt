@@ -1,6 +1,6 @@
 use Rattle.std.proofs.Common.{◌∙◌, ap}
 use Rattle.tsa_warn_bodies.specs.Courses.{course_outset}
-use Rattle.tsa_profile_context.specs.Units.{unit_of}
+use Rattle.tsa_warn_bodies.specs.Units.{unit_of}
 use Rattle.tsa_tree.specs.units.Shapes.{item_shapes}
 use Rattle.tsa_warn.proofs.warning_lines.UnitLines.add_all.Goals as goal
 

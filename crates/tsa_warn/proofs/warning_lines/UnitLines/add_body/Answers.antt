@@ -3,7 +3,7 @@ use Rattle.std.specs.List.{flat_map}
 use Rattle.tsa_core.specs.Programs.{program_of}
 use Rattle.tsa_warn_text.specs.Orders.{texts_of}
 use Rattle.tsa_warn_bodies.specs.Bodies.{names_of}
-use Rattle.tsa_profile.specs.Paths.{paths_of}
+use Rattle.tsa_warn_function.specs.Paths.{paths_of}
 use Rattle.tsa_warn.specs.Lines.{warning_line}
 use Rattle.tsa_warn.specs.WarningLines.{lines_of}
 use Rattle.tsa_warn.proofs.Lines.{added}

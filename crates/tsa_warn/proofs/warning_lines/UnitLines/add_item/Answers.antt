@@ -3,7 +3,7 @@ use Rattle.std.specs.Prelude.{IfOk, OnOk}
 use Rattle.tsa_warn_bodies.specs.Bodies.{Tells, body_by}
 use Rattle.tsa_warn_bodies.specs.BodyCourses.{course_of}
 use Rattle.tsa_warn_bodies.specs.Courses.{course_behind}
-use Rattle.tsa_profile_context.specs.Units.{unit_of}
+use Rattle.tsa_warn_bodies.specs.Units.{unit_of}
 use Rattle.tsa_tree.specs.units.Shapes.{item_shape, item_shapes}
 use Rattle.tsa_warn.proofs.Lines.{always_well, where_well}
 use Rattle.tsa_warn.proofs.warning_lines.UnitLines.add_item.Goals as goal
