@@ -26,9 +26,9 @@ use Rattle.tsa_rules_bodies.proofs.Seeking.{other_number, passed}
 use Rattle.tsa_rules_bodies.proofs.SiteLaws.{sites_are_of_the_program}
 use Rattle.tsa_flow_function.proofs.NewView.{has_body}
 use Rattle.tsa_rules_bodies.specs.Controls.{IsControlOf}
-use Rattle.tsa_flow_function.specs.declared.Graph.{Graph}
+use Rattle.tsa_graph.specs.declared.blocks.Graph.{Graph}
 use Rattle.tsa_flow_function.specs.Views.{IsViewOf}
-use Rattle.tsa_flow_function.specs.declared.RuleView.{RuleView}
+use Rattle.tsa_rules_view.specs.declared.content.RuleView.{RuleView}
 use Rattle.tsa_flow_function.specs.declared.function.FunctionFlow.{FunctionFlow}
 use Rattle.tsa_flow_function.specs.Numbers.{IsFlowBy, IsFlowIn}
 use Rattle.tsa_flow.specs.Units.{told_at, here, IsAhead, IsBodyOf, IsNext, IsTold, left, told}

@@ -7,7 +7,7 @@ use Rattle.tsa_rules.specs.Points.{edges_of, points_of}
 use Rattle.tsa_rules_view.specs.Paths.{paths_if}
 use Rattle.tsa_rules_view.proofs.NewView.{has_body}
 use Rattle.tsa_rules_view.specs.Controls.{IsControlOf, IsGraphIn}
-use Rattle.tsa_rules_view.specs.declared.Graph.{Graph}
+use Rattle.tsa_graph.specs.declared.blocks.Graph.{Graph}
 use Rattle.tsa_graph.specs.Graphs.{IsGraph}
 use Rattle.tsa_rules_view.specs.declared.content.RuleView.{RuleView}
 use Rattle.tsa_rules_view.specs.Views.{IsViewBy, IsViewIn, IsViewOf}
