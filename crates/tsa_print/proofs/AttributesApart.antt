@@ -10,7 +10,7 @@ use Rattle.tsa_tree.specs.declared.attr.AttrKind.TheVariants as attr
 use Rattle.tsa_tree.specs.attributes.Syntax.{Attribute, Taking, taking, a_text, one_expression, expressions, a_try}
 use Rattle.tsa_tree.specs.expressions.Syntax.{Expression, Identifier, Arguments, none, more}
 use Rattle.tsa_tree.specs.tokens.Signs.{Aliases}
-use Rattle.tsa_tree.specs.expressions.Sound.{is_sound, are_sound}
+use Rattle.tsa_tree.specs.expressions.Sound.{words_beside, is_sound, are_sound}
 use Rattle.tsa_tree.specs.attributes.Sound.{SoundTaken, SoundAttributes}
 use Rattle.tsa_tree.specs.declarations.Sound.{SoundName}
 use Rattle.tsa_print.specs.declared.mark.Mark.{Mark}
@@ -49,7 +49,7 @@ joins_word text ps good joins = joins_behind true (word text) ps good refl refl 
 pub joins_mark_before : (k : Mark) (ps : List Piece) → is_closed (mark k) ≡ true → Joins true ps → Joins true (mark k ∷ ps)
 joins_mark_before k ps closed joins = joins_behind true (mark k) ps refl closed refl joins
 
-pub joins_name : (aliases : Aliases) (name : Option Identifier) → SoundName aliases name → Joins true (name_pieces name)
+pub joins_name : (aliases : Aliases) (name : Option Identifier) → SoundName (words_beside aliases) name → Joins true (name_pieces name)
 joins_name aliases None sound = joins_none true
 joins_name aliases (Some name) sound = joins_word name.text [] (word_of_name aliases name.text sound) (joins_none true)
 
@@ -78,7 +78,7 @@ macro_is_word attr.AcquiredAfter = refl
 
 -- in each way of taking something, a text has bytes of a text, and expressions are sound
 text_good : (aliases : Aliases) (way : Taking) (text : List ℕ) (success : Option Bool) (args : Arguments) →
-    SoundTaken aliases way (Some text) success args → list_all is_text_byte text ≡ true
+    SoundTaken (words_beside aliases) way (Some text) success args → list_all is_text_byte text ≡ true
 text_good aliases a_text text None none sound = sound
 text_good aliases a_text text None (more x xs) sound = absurd sound
 text_good aliases a_text text (Some result) args sound = absurd sound
@@ -87,8 +87,8 @@ text_good aliases expressions text success args sound = absurd sound
 text_good aliases a_try text success args sound = absurd sound
 
 arguments_good : (aliases : Aliases) (way : Taking) (success : Option Bool) (args : Arguments) →
-    SoundTaken aliases way None success args → are_sound aliases args ≡ true
-arguments_good aliases one_expression None (more x none) sound = and_from (is_sound aliases x) true sound refl
+    SoundTaken (words_beside aliases) way None success args → are_sound (words_beside aliases) args ≡ true
+arguments_good aliases one_expression None (more x none) sound = and_from (is_sound (words_beside aliases) x) true sound refl
 arguments_good aliases expressions None (more x xs) sound = sound
 arguments_good aliases a_try (Some result) (more x xs) sound = sound
 arguments_good aliases a_text success args sound = absurd sound
@@ -101,7 +101,7 @@ arguments_good aliases a_try None args sound = absurd sound
 arguments_good aliases a_try (Some result) none sound = absurd sound
 
 joins_taken : (aliases : Aliases) (way : Taking) (text : Option (List ℕ)) (success : Option Bool) (args : Arguments) →
-    SoundTaken aliases way text success args → ArePlain (in_arguments args) → Joins true (taken text success args)
+    SoundTaken (words_beside aliases) way text success args → ArePlain (in_arguments args) → Joins true (taken text success args)
 joins_taken aliases way (Some text) success args sound plain =
     joins_behind true (quoted text) [] (text_good aliases way text success args sound) refl refl (joins_none true)
 joins_taken aliases way None (Some true) args sound plain =
@@ -113,7 +113,7 @@ joins_taken aliases way None (Some false) args sound plain =
 joins_taken aliases way None None args sound plain =
     joins_arguments aliases args (arguments_good aliases way None args sound) (plain_arguments args plain)
 
-pub joins_attributes : (aliases : Aliases) (attrs : List Attribute) → SoundAttributes aliases attrs → ArePlain (in_attributes attrs) →
+pub joins_attributes : (aliases : Aliases) (attrs : List Attribute) → SoundAttributes (words_beside aliases) attrs → ArePlain (in_attributes attrs) →
     Joins true (attributes_pieces attrs)
 joins_attributes aliases [] sound plain = joins_none true
 joins_attributes aliases (a ∷ others) sound plain =

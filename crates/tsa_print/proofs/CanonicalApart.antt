@@ -9,7 +9,7 @@ use Rattle.tsa_tree.specs.declared.expr.BinaryOp.{BinaryOp}
 use Rattle.tsa_tree.specs.declared.expr.BinaryOp.TheVariants as op
 use Rattle.tsa_tree.specs.tokens.Signs.{Aliases, level}
 use Rattle.tsa_tree.specs.expressions.Syntax.{Expression, Arguments, number, null, named, call, unary, binary, field, index, none, more}
-use Rattle.tsa_tree.specs.expressions.Sound.{is_name, is_sound, are_sound}
+use Rattle.tsa_tree.specs.expressions.Sound.{words_beside, is_name, is_sound, are_sound}
 use Rattle.tsa_print.specs.declared.mark.Mark.TheVariants as marks
 use Rattle.tsa_print.specs.Canonical.{Piece, word, numeral, quoted, operator, prefix, assigned, access, mark, binds_left, pieces, wrapped}
 use Rattle.tsa_print.specs.Canonical.{arguments, further}
@@ -157,7 +157,7 @@ joins_call text args good on_args =
 
 module _ (aliases : Aliases) where
   mutual
-    joins_pieces : (tree : Expression) (place : ℕ) → is_sound aliases tree ≡ true → has_plain_bases tree ≡ true →
+    joins_pieces : (tree : Expression) (place : ℕ) → is_sound (words_beside aliases) tree ≡ true → has_plain_bases tree ≡ true →
         Joins (number_last tree place) (pieces tree place)
     joins_pieces (number value unsigned span) place sound plain =
         joins_place (not (nat_lt 10 place)) (numeral value unsigned ∷ [])
@@ -189,13 +189,13 @@ module _ (aliases : Aliases) where
         (joins_loose (number_last base 11) (pieces base 11) (joins_pieces base 11 (both sound).0 (both plain).0))
         (joins_pieces at 0 (both sound).1 (both plain).1))
 
-    pub joins_arguments : (args : Arguments) → are_sound aliases args ≡ true → have_plain_bases args ≡ true → Joins true (arguments args)
+    pub joins_arguments : (args : Arguments) → are_sound (words_beside aliases) args ≡ true → have_plain_bases args ≡ true → Joins true (arguments args)
     joins_arguments none sound plain = joins_none true
     joins_arguments (more first rest) sound plain =
         joins_append true (pieces first 0) (further rest) refl (joins_pieces first 0 (both sound).0 (both plain).0)
         (joins_further rest (both sound).1 (both plain).1)
 
-    pub joins_further : (args : Arguments) → are_sound aliases args ≡ true → have_plain_bases args ≡ true → Joins true (further args)
+    pub joins_further : (args : Arguments) → are_sound (words_beside aliases) args ≡ true → have_plain_bases args ≡ true → Joins true (further args)
     joins_further none sound plain = joins_none true
     joins_further (more first rest) sound plain =
         joins_behind true (mark marks.Comma) (pieces first 0 ++ further rest) refl refl refl
@@ -203,7 +203,7 @@ module _ (aliases : Aliases) where
         (joins_further rest (both sound).1 (both plain).1))
 
 -- an expression goes well before any pieces but a `.`
-pub joins_expression : (aliases : Aliases) (tree : Expression) (place : ℕ) → is_sound aliases tree ≡ true → has_plain_bases tree ≡ true →
+pub joins_expression : (aliases : Aliases) (tree : Expression) (place : ℕ) → is_sound (words_beside aliases) tree ≡ true → has_plain_bases tree ≡ true →
     Joins true (pieces tree place)
 joins_expression aliases tree place sound plain = joins_loose (number_last tree place) (pieces tree place) (joins_pieces aliases tree place sound plain)
 

@@ -15,7 +15,7 @@ use Rattle.tsa_tree.specs.expressions.Spelling.{IsExpression, of_unary, of_binar
 use Rattle.tsa_tree.specs.expressions.Spelling.{of_index, of_number, of_null, of_name, of_call, of_parentheses, IsArguments, of_none}
 use Rattle.tsa_tree.specs.expressions.Spelling.{of_some, IsSeries, of_last, of_further}
 use Rattle.tsa_tree.specs.expressions.Answers.{an_expression, Spells}
-use Rattle.tsa_tree.specs.expressions.Sound.{is_name, is_sound, are_sound}
+use Rattle.tsa_tree.specs.expressions.Sound.{words_beside, is_name, is_sound, are_sound}
 use Rattle.tsa_grammar.specs.Reading.{all}
 use Rattle.tsa_print.specs.declared.mark.Mark.TheVariants as marks
 use Rattle.tsa_print.specs.Canonical.{Piece, word, numeral, operator, prefix, access, mark, wrapped, pieces, arguments, further}
@@ -187,58 +187,58 @@ module _ (aliases : Aliases) (ts : List Lexeme) where
       )
 
   mutual
-    pub expr : (t : Expression) (d k a : ℕ) → is_sound aliases t ≡ true → k ≤ 10 → Shows ts a (pieces t k) → Expr d k t a (a + length (pieces t k))
+    pub expr : (t : Expression) (d k a : ℕ) → is_sound (words_beside aliases) t ≡ true → k ≤ 10 → Shows ts a (pieces t k) → Expr d k t a (a + length (pieces t k))
     expr (number v u s) d k a ok le h = post_expr k (number v u s) (post_number v u s d a h)
     expr (null s) d k a ok le h = post_expr k (null s) (post_null s d a h)
     expr (named n s) d k a ok le h = post_expr k (named n s) (post_named n s d a ok h)
     expr (call f xs s) d k a ok le h =
-        let two = and_parts (is_name aliases f.text) (are_sound aliases xs) ok in
+        let two = and_parts (is_name aliases f.text) (are_sound (words_beside aliases) xs) ok in
         post_expr k (call f xs s) (post_call f xs s d a two.0 (λ d a. args xs d a two.1) h)
     expr (unary o e s) d k a ok le h =
         wrapped_expr (unary o e s) d k a (nat_lt 10 k) (prefix o ∷ pieces e 11)
         (λ d a sh. bare_unary o e s d 0 a (λ d a. post e d a ok) sh) (λ q sh. bare_unary o e s d k a (λ d a. post e d a ok) sh) h
     expr (binary o l r s) d k a ok le h =
         let low = level_below o in
-        let two = and_parts (is_sound aliases l) (is_sound aliases r) ok in
+        let two = and_parts (is_sound (words_beside aliases) l) (is_sound (words_beside aliases) r) ok in
         wrapped_expr (binary o l r s) d k a (nat_lt (level o) k) (pieces l (level o) ++ operator o ∷ pieces r (level o + 1))
         (λ d a sh. bare_binary o l r s d 0 a (omega arith) (λ a. expr l d (level o) a two.0 (omega arith))
         (λ a. expr r d (level o + 1) a two.1 (omega arith)) sh)
         (λ q sh. bare_binary o l r s d k a (ltb-false (level o) k q) (λ a. expr l d (level o) a two.0 (omega arith))
         (λ a. expr r d (level o + 1) a two.1 (omega arith)) sh) h
     expr (field b n arrow s) d k a ok le h =
-        let two = and_parts (is_sound aliases b) (is_name aliases n.text) ok in
+        let two = and_parts (is_sound (words_beside aliases) b) (is_name aliases n.text) ok in
         post_expr k (field b n arrow s) (post_field b n arrow s d a two.1 (λ a. post b d a two.0) h)
     expr (index b i s) d k a ok le h =
-        let two = and_parts (is_sound aliases b) (is_sound aliases i) ok in
+        let two = and_parts (is_sound (words_beside aliases) b) (is_sound (words_beside aliases) i) ok in
         post_expr k (index b i s) (post_index b i s d a (λ a. post b d a two.0) (λ d a. expr i d 0 a two.1 (omega arith)) h)
 
-    pub post : (t : Expression) (d a : ℕ) → is_sound aliases t ≡ true → Shows ts a (pieces t 11) → Post d t a (a + length (pieces t 11))
+    pub post : (t : Expression) (d a : ℕ) → is_sound (words_beside aliases) t ≡ true → Shows ts a (pieces t 11) → Post d t a (a + length (pieces t 11))
     post (number v u s) d a ok h = post_number v u s d a h
     post (null s) d a ok h = post_null s d a h
     post (named n s) d a ok h = post_named n s d a ok h
     post (call f xs s) d a ok h =
-        let two = and_parts (is_name aliases f.text) (are_sound aliases xs) ok in
+        let two = and_parts (is_name aliases f.text) (are_sound (words_beside aliases) xs) ok in
         post_call f xs s d a two.0 (λ d a. args xs d a two.1) h
     post (unary o e s) d a ok h =
         wrapped_post (unary o e s) d a (nat_lt 10 11) (prefix o ∷ pieces e 11) refl (λ d a sh. bare_unary o e s d 0 a (λ d a. post e d a ok) sh) h
     post (binary o l r s) d a ok h =
         let low = level_below o in
-        let two = and_parts (is_sound aliases l) (is_sound aliases r) ok in
+        let two = and_parts (is_sound (words_beside aliases) l) (is_sound (words_beside aliases) r) ok in
         wrapped_post (binary o l r s) d a (nat_lt (level o) 11) (pieces l (level o) ++ operator o ∷ pieces r (level o + 1))
         (lt-ltb (level o) 11 (omega arith))
         (λ d a sh. bare_binary o l r s d 0 a (omega arith) (λ a. expr l d (level o) a two.0 (omega arith))
         (λ a. expr r d (level o + 1) a two.1 (omega arith)) sh) h
     post (field b n arrow s) d a ok h =
-        let two = and_parts (is_sound aliases b) (is_name aliases n.text) ok in
+        let two = and_parts (is_sound (words_beside aliases) b) (is_name aliases n.text) ok in
         post_field b n arrow s d a two.1 (λ a. post b d a two.0) h
     post (index b i s) d a ok h =
-        let two = and_parts (is_sound aliases b) (is_sound aliases i) ok in
+        let two = and_parts (is_sound (words_beside aliases) b) (is_sound (words_beside aliases) i) ok in
         post_index b i s d a (λ a. post b d a two.0) (λ d a. expr i d 0 a two.1 (omega arith)) h
 
-    args : (xs : Arguments) (d a : ℕ) → are_sound aliases xs ≡ true → Shows ts a (arguments xs) → Args d xs a (a + length (arguments xs))
+    args : (xs : Arguments) (d a : ℕ) → are_sound (words_beside aliases) xs ≡ true → Shows ts a (arguments xs) → Args d xs a (a + length (arguments xs))
     args none d a ok h = (none, subst (λ n. IsArguments ts aliases all d none a n) (omega arith) of_none, refl)
     args (more t xs) d a ok h =
-        let ok_two = and_parts (is_sound aliases t) (are_sound aliases xs) ok in
+        let ok_two = and_parts (is_sound (words_beside aliases) t) (are_sound (words_beside aliases) xs) ok in
         let two = split ts a (pieces t 0) (further xs) h in
         let e = expr t d 0 a ok_two.0 (omega arith) two.0 in
         let r = rest xs d a (a + length (pieces t 0)) e.0 ok_two.1 e.1 two.1 in
@@ -249,11 +249,11 @@ module _ (aliases : Aliases) (ts : List Lexeme) where
           ap (λ x. more x (plain_arguments r.0)) e.2 ∙ ap (more (plain t)) r.2,
         )
 
-    pub rest : (xs : Arguments) (d a m : ℕ) (u : Expression) → are_sound aliases xs ≡ true → IsExpression ts aliases all d 0 u a m → Shows ts m (further xs)
+    pub rest : (xs : Arguments) (d a m : ℕ) (u : Expression) → are_sound (words_beside aliases) xs ≡ true → IsExpression ts aliases all d 0 u a m → Shows ts m (further xs)
         → (us : Arguments) × IsSeries ts aliases all d (more u us) a (m + length (further xs)) × (plain_arguments us ≡ plain_arguments xs)
     rest none d a m u ok e h = (none, subst (λ n. IsSeries ts aliases all d (more u none) a n) (omega arith) (of_last e), refl)
     rest (more t xs) d a m u ok e h =
-        let ok_two = and_parts (is_sound aliases t) (are_sound aliases xs) ok in
+        let ok_two = and_parts (is_sound (words_beside aliases) t) (are_sound (words_beside aliases) xs) ok in
         let two = split ts (m + 1) (pieces t 0) (further xs) h.1 in
         let f = expr t d 0 (m + 1) ok_two.0 (omega arith) two.0 in
         let r = rest xs d (m + 1) (m + 1 + length (pieces t 0)) f.0 ok_two.1 f.1 two.1 in
@@ -265,7 +265,7 @@ module _ (aliases : Aliases) (ts : List Lexeme) where
         )
 
 -- the tokens of an expression's pieces spell it up to spans, where its names are names
-pub pieces_spell : (aliases : Aliases) (tree : Expression) (ts : List Lexeme) → is_sound aliases tree ≡ true → AreTokens (pieces tree 0) ts →
+pub pieces_spell : (aliases : Aliases) (tree : Expression) (ts : List Lexeme) → is_sound (words_beside aliases) tree ≡ true → AreTokens (pieces tree 0) ts →
     (u : Expression) × Spells ts aliases all an_expression 0 u 0 (length ts) × (plain u ≡ plain tree)
 pieces_spell aliases tree ts ok h =
     let p = expr aliases ts tree 0 0 0 ok (omega arith) (shown (pieces tree 0) ts h) in

@@ -11,7 +11,7 @@ use Rattle.tsa_tree.specs.declarations.Syntax.{Base, int, unsigned, void, struct
 use Rattle.tsa_tree.specs.declarations.Syntax.{list, Initialisers, no_more, one_more, Declaration}
 use Rattle.tsa_tree.specs.expressions.Syntax.{Expression}
 use Rattle.tsa_tree.specs.tokens.Signs.{Aliases}
-use Rattle.tsa_tree.specs.expressions.Sound.{SoundExpression, SoundOptional, is_name}
+use Rattle.tsa_tree.specs.expressions.Sound.{words_beside, SoundExpression, SoundOptional, is_name}
 use Rattle.tsa_tree.specs.attributes.Sound.{SoundAttributes}
 use Rattle.tsa_tree.specs.declarations.Sound.{SoundBase, SoundType, SoundInitialiser, SoundInitialisers, SoundInit, SoundLocalInit}
 use Rattle.tsa_tree.specs.declarations.Sound.{SoundDeclarator, SoundMembers, SoundGlobal, SoundLocal}
@@ -35,7 +35,7 @@ use Rattle.tsa_print.proofs.Starts.{starts-pieces}
 tag_word : (text : List ℕ) → is_name [] text ≡ true → is_word text ≡ true
 tag_word text sound = word_of_name [] text sound
 
-joins_base : (aliases : Aliases) (base : Base) → SoundBase aliases base → Joins true (base_pieces base)
+joins_base : (aliases : Aliases) (base : Base) → SoundBase (words_beside aliases) base → Joins true (base_pieces base)
 joins_base aliases int sound = joins_word (codes "int") [] refl (joins_none true)
 joins_base aliases unsigned sound = joins_word (codes "unsigned") [] refl (joins_none true)
 joins_base aliases void sound = joins_word (codes "void") [] refl (joins_none true)
@@ -50,7 +50,7 @@ joins_const : (is_const : Bool) → Joins true (const_pieces is_const)
 joins_const true = joins_word (codes "const") [] refl (joins_none true)
 joins_const false = joins_none true
 
-joins_specifier : (aliases : Aliases) (t : DeclaredType) → SoundType aliases t → Joins true (specifier_pieces t)
+joins_specifier : (aliases : Aliases) (t : DeclaredType) → SoundType (words_beside aliases) t → Joins true (specifier_pieces t)
 joins_specifier aliases t sound =
     joins_append true (const_pieces t.base_const) (base_pieces t.base) refl (joins_const t.base_const) (joins_base aliases t.base sound.0)
 
@@ -73,7 +73,7 @@ star_before : (qs : List Piece) → behind_star qs ≡ true → (rs : List Piece
 star_before [] may rs = absurd (cc)
 star_before (q ∷ qs) may rs = may
 
-type_dot : (aliases : Aliases) (t : DeclaredType) → SoundType aliases t → begins_dot (type_pieces t) ≡ false
+type_dot : (aliases : Aliases) (t : DeclaredType) → SoundType (words_beside aliases) t → begins_dot (type_pieces t) ≡ false
 type_dot aliases t sound =
     dots_append (specifier_pieces t) (star_pieces t.pointer t.pointer_const) (joins_specifier aliases t sound).0 (star_dot t.pointer t.pointer_const)
 
@@ -82,7 +82,7 @@ dots_filled [] rs may dot = absurd (cc)
 dots_filled (q ∷ qs) rs may dot = dot
 
 -- a type goes well before pieces that may stand after its star
-pub joins_type : (aliases : Aliases) (t : DeclaredType) (qs : List Piece) → SoundType aliases t → behind_star qs ≡ true → Joins true qs →
+pub joins_type : (aliases : Aliases) (t : DeclaredType) (qs : List Piece) → SoundType (words_beside aliases) t → behind_star qs ≡ true → Joins true qs →
     Joins true (type_pieces t ++ qs)
 joins_type aliases t qs sound may joins = (
   dots_append (type_pieces t) qs (type_dot aliases t sound) joins.0,
@@ -95,7 +95,7 @@ joins_type aliases t qs sound may joins = (
 
 -- Declarations.
 
-joins_length : (aliases : Aliases) (length : Option Expression) → SoundOptional aliases length → ArePlain (in_optional length) →
+joins_length : (aliases : Aliases) (length : Option Expression) → SoundOptional (words_beside aliases) length → ArePlain (in_optional length) →
     Joins true (length_pieces length)
 joins_length aliases None sound plain = joins_none true
 joins_length aliases (Some x) sound plain =
@@ -104,20 +104,20 @@ joins_length aliases (Some x) sound plain =
 
 module _ (aliases : Aliases) where
   mutual
-    joins_initialiser : (x : Initialiser) → SoundInitialiser aliases x → ArePlain (in_initialiser x) → Joins true (initialiser_pieces x)
+    joins_initialiser : (x : Initialiser) → SoundInitialiser (words_beside aliases) x → ArePlain (in_initialiser x) → Joins true (initialiser_pieces x)
     joins_initialiser (value x) sound plain = joins_expression aliases x 0 sound (plain_first x [] plain).0
     joins_initialiser (list items span) sound plain =
         joins_loose false (initialiser_pieces (list items span)) (joins_between marks.OpenBrace marks.CloseBrace (initialisers_pieces items) refl refl
         (joins_initialisers items sound plain))
 
-    joins_initialisers : (items : Initialisers) → SoundInitialisers aliases items → ArePlain (in_initialisers items) → Joins true (initialisers_pieces items)
+    joins_initialisers : (items : Initialisers) → SoundInitialisers (words_beside aliases) items → ArePlain (in_initialisers items) → Joins true (initialisers_pieces items)
     joins_initialisers no_more sound plain = joins_none true
     joins_initialisers (one_more first rest) sound plain =
         let parts = plain_parts (in_initialiser first) (in_initialisers rest) plain in
         joins_append true (initialiser_pieces first) (further_pieces rest) refl (joins_initialiser first sound.0 parts.0)
         (joins_further_pieces rest sound.1 parts.1)
 
-    joins_further_pieces : (items : Initialisers) → SoundInitialisers aliases items → ArePlain (in_initialisers items) → Joins true (further_pieces items)
+    joins_further_pieces : (items : Initialisers) → SoundInitialisers (words_beside aliases) items → ArePlain (in_initialisers items) → Joins true (further_pieces items)
     joins_further_pieces no_more sound plain = joins_none true
     joins_further_pieces (one_more first rest) sound plain =
         let parts = plain_parts (in_initialiser first) (in_initialisers rest) plain in
@@ -126,18 +126,18 @@ module _ (aliases : Aliases) where
         (joins_further_pieces rest sound.1 parts.1))
 
 -- an expression after `=`
-pub joins_assigned : (aliases : Aliases) (o : Option BinaryOp) (x : Expression) → is_assigning o ≡ true → SoundExpression aliases x →
+pub joins_assigned : (aliases : Aliases) (o : Option BinaryOp) (x : Expression) → is_assigning o ≡ true → SoundExpression (words_beside aliases) x →
     has_plain_bases x ≡ true → Joins true (assigned o ∷ pieces x 0)
 joins_assigned aliases o x good sound plain =
     joins_before true (assigned o) (pieces x 0) good refl (starts_loose (pieces x 0) (starts-pieces x 0)) (joins_expression aliases x 0 sound plain)
 
-joins_init : (aliases : Aliases) (init : Option Initialiser) → SoundInit aliases init → ArePlain (in_init init) → Joins true (init_pieces init)
+joins_init : (aliases : Aliases) (init : Option Initialiser) → SoundInit (words_beside aliases) init → ArePlain (in_init init) → Joins true (init_pieces init)
 joins_init aliases None sound plain = joins_none true
 joins_init aliases (Some (value x)) sound plain = joins_assigned aliases None x refl sound (plain_first x [] plain).0
 joins_init aliases (Some (list items span)) sound plain =
     joins_before true (assigned None) (initialiser_pieces (list items span)) refl refl refl (joins_initialiser aliases (list items span) sound plain)
 
-joins_declaration : (aliases : Aliases) (d : Declaration) → SoundDeclarator aliases d → SoundAttributes aliases d.attrs → SoundInit aliases d.init →
+joins_declaration : (aliases : Aliases) (d : Declaration) → SoundDeclarator (words_beside aliases) d → SoundAttributes (words_beside aliases) d.attrs → SoundInit (words_beside aliases) d.init →
     ArePlain (in_declaration d) → Joins true (declaration_pieces d)
 joins_declaration aliases d declarator attrs init plain =
     let parts = plain_parts (in_optional d.ctype.length) (in_attributes d.attrs ++ in_init d.init) plain in
@@ -150,23 +150,23 @@ joins_declaration aliases d declarator attrs init plain =
     (joins_append true (attributes_pieces d.attrs) (init_pieces d.init) refl (joins_attributes aliases d.attrs attrs later.0)
     (joins_init aliases d.init init later.1))))
 
-pub joins_global : (aliases : Aliases) (d : Declaration) → SoundGlobal aliases d → ArePlain (in_declaration d) → Joins true (declaration_pieces d)
+pub joins_global : (aliases : Aliases) (d : Declaration) → SoundGlobal (words_beside aliases) d → ArePlain (in_declaration d) → Joins true (declaration_pieces d)
 joins_global aliases d sound plain = joins_declaration aliases d sound.0 sound.1 sound.2 plain
 
-local_init_sound : (aliases : Aliases) (init : Option Initialiser) → SoundLocalInit aliases init → SoundInit aliases init
+local_init_sound : (aliases : Aliases) (init : Option Initialiser) → SoundLocalInit (words_beside aliases) init → SoundInit (words_beside aliases) init
 local_init_sound aliases None sound = tt
 local_init_sound aliases (Some (value x)) sound = sound
 local_init_sound aliases (Some (list items span)) sound = absurd sound
 
-pub joins_local : (aliases : Aliases) (d : Declaration) → SoundLocal aliases d → ArePlain (in_declaration d) → Joins true (declaration_pieces d)
+pub joins_local : (aliases : Aliases) (d : Declaration) → SoundLocal (words_beside aliases) d → ArePlain (in_declaration d) → Joins true (declaration_pieces d)
 joins_local aliases d sound plain =
-    joins_declaration aliases d sound.0 (subst (λ attrs. SoundAttributes aliases attrs) (sym sound.1) tt) (local_init_sound aliases d.init sound.2) plain
+    joins_declaration aliases d sound.0 (subst (λ attrs. SoundAttributes (words_beside aliases) attrs) (sym sound.1) tt) (local_init_sound aliases d.init sound.2) plain
 
-pub joins_members : (aliases : Aliases) (ds : List Declaration) → SoundMembers aliases ds → ArePlain (in_declarations ds) → Joins true (members_pieces ds)
+pub joins_members : (aliases : Aliases) (ds : List Declaration) → SoundMembers (words_beside aliases) ds → ArePlain (in_declarations ds) → Joins true (members_pieces ds)
 joins_members aliases [] sound plain = joins_none true
 joins_members aliases (d ∷ others) sound plain =
     let parts = plain_parts (in_declaration d) (in_declarations others) plain in
     let first = sound.0 in
     joins_append true (declaration_pieces d) (mark marks.Semicolon ∷ members_pieces others) refl
-    (joins_declaration aliases d first.0 first.1 (subst (λ init. SoundInit aliases init) (sym first.2) tt) parts.0)
+    (joins_declaration aliases d first.0 first.1 (subst (λ init. SoundInit (words_beside aliases) init) (sym first.2) tt) parts.0)
     (joins_mark_before marks.Semicolon (members_pieces others) refl (joins_members aliases others sound.1 parts.1))

@@ -6,7 +6,7 @@ use Rattle.std.proofs.lemmas.List.{append_assoc}
 use Rattle.tsa_tree.specs.declarations.Syntax.{DeclaredType, Parameter, EnumConstant, Head}
 use Rattle.tsa_tree.specs.expressions.Syntax.{Expression, Identifier}
 use Rattle.tsa_tree.specs.tokens.Signs.{Aliases}
-use Rattle.tsa_tree.specs.expressions.Sound.{SoundOptional}
+use Rattle.tsa_tree.specs.expressions.Sound.{words_beside, SoundOptional}
 use Rattle.tsa_tree.specs.declarations.Sound.{SoundType, SoundName, SoundParameter, SoundEachParameter, SoundHead, SoundConstant}
 use Rattle.tsa_tree.specs.declarations.Sound.{SoundEachConstant, SoundConstants}
 use Rattle.tsa_print.specs.declared.mark.Mark.TheVariants as marks
@@ -22,13 +22,13 @@ use Rattle.tsa_print.proofs.Joins.{Joins, joins_none, joins_append}
 
 -- Parameters: after one without a name stands a comma or a parenthesis.
 
-joins_named : (aliases : Aliases) (t : DeclaredType) (name : Option Identifier) (qs : List Piece) → SoundType aliases t → SoundName aliases name →
+joins_named : (aliases : Aliases) (t : DeclaredType) (name : Option Identifier) (qs : List Piece) → SoundType (words_beside aliases) t → SoundName (words_beside aliases) name →
     behind_star qs ≡ true → Joins true qs → Joins true (type_pieces t ++ (name_pieces name ++ qs))
 joins_named aliases t None qs sound named may joins = joins_type aliases t qs sound may joins
 joins_named aliases t (Some name) qs sound named may joins =
     joins_type aliases t (word name.text ∷ qs) sound refl (joins_word name.text qs (word_of_name aliases name.text named) joins)
 
-joins_parameter : (aliases : Aliases) (p : Parameter) (qs : List Piece) → SoundParameter aliases p → behind_star qs ≡ true → Joins true qs →
+joins_parameter : (aliases : Aliases) (p : Parameter) (qs : List Piece) → SoundParameter (words_beside aliases) p → behind_star qs ≡ true → Joins true qs →
     Joins true (parameter_pieces p ++ qs)
 joins_parameter aliases p qs sound may joins =
     subst (λ ps. Joins true ps) (sym (append_assoc (type_pieces p.ctype) (name_pieces p.name) qs))
@@ -38,7 +38,7 @@ further_star : (ps : List Parameter) (qs : List Piece) → behind_star qs ≡ tr
 further_star [] qs may = may
 further_star (p ∷ others) qs may = refl
 
-joins_further_parameters : (aliases : Aliases) (ps : List Parameter) (qs : List Piece) → SoundEachParameter aliases ps → behind_star qs ≡ true →
+joins_further_parameters : (aliases : Aliases) (ps : List Parameter) (qs : List Piece) → SoundEachParameter (words_beside aliases) ps → behind_star qs ≡ true →
     Joins true qs → Joins true (further_parameters ps ++ qs)
 joins_further_parameters aliases [] qs sound may joins = joins
 joins_further_parameters aliases (p ∷ others) qs sound may joins =
@@ -47,7 +47,7 @@ joins_further_parameters aliases (p ∷ others) qs sound may joins =
     (joins_parameter aliases p (further_parameters others ++ qs) sound.0 (further_star others qs may)
     (joins_further_parameters aliases others qs sound.1 may joins)))
 
-joins_parameters : (aliases : Aliases) (ps : List Parameter) (qs : List Piece) → SoundEachParameter aliases ps → behind_star qs ≡ true →
+joins_parameters : (aliases : Aliases) (ps : List Parameter) (qs : List Piece) → SoundEachParameter (words_beside aliases) ps → behind_star qs ≡ true →
     Joins true qs → Joins true (parameters_pieces ps ++ qs)
 joins_parameters aliases [] qs sound may joins = joins_word (codes "void") qs refl joins
 joins_parameters aliases (p ∷ others) qs sound may joins =
@@ -55,7 +55,7 @@ joins_parameters aliases (p ∷ others) qs sound may joins =
     (joins_parameter aliases p (further_parameters others ++ qs) sound.0 (further_star others qs may)
     (joins_further_parameters aliases others qs sound.1 may joins))
 
-pub joins_head : (aliases : Aliases) (h : Head) → SoundHead aliases h → ArePlain (in_attributes h.attrs) → Joins true (head_pieces h)
+pub joins_head : (aliases : Aliases) (h : Head) → SoundHead (words_beside aliases) h → ArePlain (in_attributes h.attrs) → Joins true (head_pieces h)
 joins_head aliases h sound plain =
     let behind = mark marks.CloseParenthesis ∷ attributes_pieces h.attrs in
     let call = mark marks.OpenCall ∷ (parameters_pieces h.params ++ behind) in
@@ -67,15 +67,15 @@ joins_head aliases h sound plain =
 
 -- Enumerators.
 
-joins_value : (aliases : Aliases) (x : Option Expression) → SoundOptional aliases x → ArePlain (in_optional x) → Joins true (value_pieces x)
+joins_value : (aliases : Aliases) (x : Option Expression) → SoundOptional (words_beside aliases) x → ArePlain (in_optional x) → Joins true (value_pieces x)
 joins_value aliases None sound plain = joins_none true
 joins_value aliases (Some x) sound plain = joins_assigned aliases None x refl sound (plain_first x [] plain).0
 
-joins_constant : (aliases : Aliases) (c : EnumConstant) → SoundConstant aliases c → ArePlain (in_optional c.value) → Joins true (constant_pieces c)
+joins_constant : (aliases : Aliases) (c : EnumConstant) → SoundConstant (words_beside aliases) c → ArePlain (in_optional c.value) → Joins true (constant_pieces c)
 joins_constant aliases c sound plain =
     joins_word c.name.text (value_pieces c.value) (word_of_name aliases c.name.text sound.0) (joins_value aliases c.value sound.1 plain)
 
-joins_further_constants : (aliases : Aliases) (cs : List EnumConstant) → SoundEachConstant aliases cs → ArePlain (in_constants cs) →
+joins_further_constants : (aliases : Aliases) (cs : List EnumConstant) → SoundEachConstant (words_beside aliases) cs → ArePlain (in_constants cs) →
     Joins true (further_constants cs)
 joins_further_constants aliases [] sound plain = joins_none true
 joins_further_constants aliases (c ∷ others) sound plain =
@@ -84,7 +84,7 @@ joins_further_constants aliases (c ∷ others) sound plain =
     (joins_append true (constant_pieces c) (further_constants others) refl (joins_constant aliases c sound.0 parts.0)
     (joins_further_constants aliases others sound.1 parts.1))
 
-pub joins_constants : (aliases : Aliases) (cs : List EnumConstant) → SoundConstants aliases cs → ArePlain (in_constants cs) →
+pub joins_constants : (aliases : Aliases) (cs : List EnumConstant) → SoundConstants (words_beside aliases) cs → ArePlain (in_constants cs) →
     Joins true (constants_pieces cs)
 joins_constants aliases [] sound plain = joins_none true
 joins_constants aliases (c ∷ others) sound plain =

@@ -2,7 +2,7 @@
 use Rattle.std.proofs.Common.{length}
 use Rattle.std.proofs.lemmas.Bool.{and_parts, and_from}
 use Rattle.tsa_tree.specs.expressions.Answers.{an_expression}
-use Rattle.tsa_tree.specs.expressions.Sound.{is_sound}
+use Rattle.tsa_tree.specs.expressions.Sound.{words_beside, is_sound}
 use Rattle.tsa_tree.proofs.expressions.OneTree.{one_tree}
 use Rattle.tsa_tree.proofs.expressions.ReadSound.{read_is_sound}
 use Rattle.tsa_print.specs.Canonical.{pieces, canonical}
@@ -17,7 +17,7 @@ unfolding canonical
 writable_is_read_again aliases tree writable =
     let lexed = written_tokens (pieces tree 0) (canonical_apart aliases tree writable) in
     let tokens = lexed.0 in
-    let sound = (and_parts (is_sound aliases tree) (has_plain_bases tree) writable).0 in
+    let sound = (and_parts (is_sound (words_beside aliases) tree) (has_plain_bases tree) writable).0 in
     let spelled = pieces_spell aliases tree tokens sound lexed.2 in
     record {
       tokens = tokens;
@@ -30,4 +30,4 @@ writable_is_read_again aliases tree writable =
 
 pub read_is_writable : ReadIsWritable
 read_is_writable text tokens aliases p depth tree a b lexed spelled plain_bases =
-    and_from (is_sound aliases tree) (has_plain_bases tree) (read_is_sound text tokens aliases p depth tree a b lexed spelled) plain_bases
+    and_from (is_sound (words_beside aliases) tree) (has_plain_bases tree) (read_is_sound text tokens aliases p depth tree a b lexed spelled) plain_bases

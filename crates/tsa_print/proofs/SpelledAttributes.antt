@@ -10,6 +10,7 @@ use Rattle.tsa_tree.specs.attributes.Spelling.{of_macro, IsAttributes, of_no_gro
 use Rattle.tsa_tree.specs.expressions.Syntax.{Arguments, none, more, nowhere, plain_arguments}
 use Rattle.tsa_tree.specs.tokens.Signs.{Aliases, identifier_at}
 use Rattle.tsa_tree.specs.expressions.Spelling.{IsExpression}
+use Rattle.tsa_tree.specs.expressions.Sound.{words_beside}
 use Rattle.tsa_tree.specs.attributes.Sound.{SoundTaken, SoundAttributes}
 use Rattle.tsa_grammar.specs.Reading.{all}
 use Rattle.tsa_print.specs.declared.mark.Mark.TheVariants as marks
@@ -40,7 +41,7 @@ module _ (aliases : Aliases) (ts : List Lexeme) where
       (us : List Attribute) × IsAttributes ts aliases all d us a b × (map plain_attribute us ≡ map plain_attribute xs)
 
   taken_spelled : (d : ℕ) (k : AttrKind) (t : Taking) (text : Option (List ℕ)) (success : Option Bool) (args : Arguments) (a b : ℕ) → taking k ≡ t
-      → SoundTaken aliases t text success args → negative k args ≡ None
+      → SoundTaken (words_beside aliases) t text success args → negative k args ≡ None
       → Run ts (a + 1) (mark marks.OpenCall ∷ (taken text success args ++ mark marks.CloseParenthesis ∷ [])) b → Taken d k text success args a b
   taken_spelled d k a_text (Some text) None none a b e ok n h =
       let close = seen aliases ts (a + 1 + 1 + 1) (mark marks.CloseParenthesis) h.1.1.0 in
@@ -81,7 +82,7 @@ module _ (aliases : Aliases) (ts : List Lexeme) where
       )
   taken_spelled d k t text success args a b e ok n h = absurd ok
 
-  pub attributes_spelled : (d : ℕ) (xs : List Attribute) (a b : ℕ) → SoundAttributes aliases xs → Run ts a (attributes_pieces xs) b → Attributes d xs a b
+  pub attributes_spelled : (d : ℕ) (xs : List Attribute) (a b : ℕ) → SoundAttributes (words_beside aliases) xs → Run ts a (attributes_pieces xs) b → Attributes d xs a b
   attributes_spelled d [] a b ok h = subst (Attributes d [] a) h ([], of_no_group, refl)
   attributes_spelled d (x ∷ xs) a b ok h =
       let two = run_split ts a b (attribute_pieces x) (attributes_pieces xs) h in

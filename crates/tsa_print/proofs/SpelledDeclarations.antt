@@ -10,6 +10,7 @@ use Rattle.tsa_tree.specs.declarations.Spelling.{of_set}
 use Rattle.tsa_tree.specs.expressions.Syntax.{Expression, plain_name}
 use Rattle.tsa_tree.specs.declarations.Plain.{plain_type, plain_initialiser, plain_declaration}
 use Rattle.tsa_tree.specs.tokens.Signs.{Aliases, identifier_at, span_over}
+use Rattle.tsa_tree.specs.expressions.Sound.{words_beside}
 use Rattle.tsa_tree.specs.attributes.Sound.{SoundAttributes}
 use Rattle.tsa_tree.specs.declarations.Sound.{SoundDeclarator, SoundLocalInit, SoundMembers, SoundGlobal, SoundLocal}
 use Rattle.tsa_grammar.specs.Reading.{all}
@@ -45,7 +46,7 @@ module _ (aliases : Aliases) (ts : List Lexeme) where
     same_name : plain_name declarator.name ≡ plain_name x.name
     same_type : plain_type (made_of specified declarator.pointer declarator.pointer_const length) ≡ plain_type x.ctype
 
-  begun : (d : ℕ) (x : Declaration) (a b : ℕ) → SoundDeclarator aliases x → Run ts a (declaration_pieces x) b → Begun d x a b
+  begun : (d : ℕ) (x : Declaration) (a b : ℕ) → SoundDeclarator (words_beside aliases) x → Run ts a (declaration_pieces x) b → Begun d x a b
   begun d x a b ok h =
       let two = run_split ts a b (type_pieces x.ctype)
       (word x.name.text ∷ (length_pieces x.ctype.length ++ (attributes_pieces x.attrs ++ init_pieces x.init))) h in
@@ -77,7 +78,7 @@ module _ (aliases : Aliases) (ts : List Lexeme) where
       × IsDeclarators ts aliases all r d t (u ∷ []) m b
       × (plain_declaration u ≡ plain_declaration x)
 
-  declared : (r : Role) (d : ℕ) (x : Declaration) (a b : ℕ) → SoundDeclarator aliases x → SoundAttributes aliases x.attrs
+  declared : (r : Role) (d : ℕ) (x : Declaration) (a b : ℕ) → SoundDeclarator (words_beside aliases) x → SoundAttributes (words_beside aliases) x.attrs
       → ((n : ℕ) → Run ts n (init_pieces x.init) b → Init aliases ts r d x.init n b) → Run ts a (declaration_pieces x) b → Declared r d x a b
   declared r d x a b ok attrs_ok hi h = go (begun d x a b ok h)
     where
@@ -95,14 +96,14 @@ module _ (aliases : Aliases) (ts : List Lexeme) where
             declaration_plain u x g.same_name g.same_type attrs.2 i.2,
           )
 
-  pub global_spelled : (x : Declaration) (a b : ℕ) → SoundGlobal aliases x → Run ts a (declaration_pieces x) b → Declared a_global 0 x a b
+  pub global_spelled : (x : Declaration) (a b : ℕ) → SoundGlobal (words_beside aliases) x → Run ts a (declaration_pieces x) b → Declared a_global 0 x a b
   global_spelled x a b ok h = declared a_global 0 x a b ok.0 ok.1 (λ n r. init_spelled aliases ts x.init 0 n b ok.2 r) h
 
   abbrev pub Members : (d : ℕ) → List Declaration → (a b : ℕ) → Type 0
   Members d xs a b =
       (us : List Declaration) × IsMembers ts aliases all d us a b × (map plain_declaration us ≡ map plain_declaration xs)
 
-  pub members_spelled : (d : ℕ) (xs : List Declaration) (a b : ℕ) → SoundMembers aliases xs → Run ts a (members_pieces xs) b → Members d xs a b
+  pub members_spelled : (d : ℕ) (xs : List Declaration) (a b : ℕ) → SoundMembers (words_beside aliases) xs → Run ts a (members_pieces xs) b → Members d xs a b
   members_spelled d [] a b ok h = subst (Members d [] a) h ([], no_member, refl)
   members_spelled d (x ∷ xs) a b ok h =
       let two = run_split ts a b (declaration_pieces x) (mark marks.Semicolon ∷ members_pieces xs) h in
@@ -126,7 +127,7 @@ module _ (aliases : Aliases) (ts : List Lexeme) where
   no_attributes [] i a b e h = h
   no_attributes (x ∷ xs) i a b e h = cc
 
-  local_of : (d : ℕ) (x : Declaration) (i : Option Initialiser) (a b : ℕ) → x.attrs ≡ [] → x.init ≡ i → SoundLocalInit aliases i
+  local_of : (d : ℕ) (x : Declaration) (i : Option Initialiser) (a b : ℕ) → x.attrs ≡ [] → x.init ≡ i → SoundLocalInit (words_beside aliases) i
       → (g : Begun d x a b) → Run ts g.end (init_pieces i) b → Local d x a b
   local_of d x None a b attrs init ok g h =
       let u : Declaration = declaration g.specified g.declarator g.length [] None (span_over ts g.declarator.start b) in
@@ -152,7 +153,7 @@ module _ (aliases : Aliases) (ts : List Lexeme) where
       )
   local_of d x (Some (list items s)) a b attrs init ok g h = absurd ok
 
-  pub local_spelled : (d : ℕ) (x : Declaration) (a b : ℕ) → SoundLocal aliases x → Run ts a (declaration_pieces x) b → Local d x a b
+  pub local_spelled : (d : ℕ) (x : Declaration) (a b : ℕ) → SoundLocal (words_beside aliases) x → Run ts a (declaration_pieces x) b → Local d x a b
   local_spelled d x a b ok h =
       let g = begun d x a b ok.0 h in
       local_of d x x.init a b ok.1 refl ok.2 g (no_attributes x.attrs x.init g.end b ok.1 g.others)

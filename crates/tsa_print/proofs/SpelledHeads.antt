@@ -10,7 +10,7 @@ use Rattle.tsa_tree.specs.declarations.ItemSpelling.{no_storage, of_signature, I
 use Rattle.tsa_tree.specs.declarations.ItemSpelling.{of_name_and_value, IsConstants, of_last_constant, of_further_constant}
 use Rattle.tsa_tree.specs.declarations.Plain.{plain_type, plain_parameter, plain_constant, plain_head}
 use Rattle.tsa_tree.specs.tokens.Signs.{Aliases, identifier_at}
-use Rattle.tsa_tree.specs.expressions.Sound.{SoundOptional, is_name}
+use Rattle.tsa_tree.specs.expressions.Sound.{words_beside, SoundOptional, is_name}
 use Rattle.tsa_tree.specs.declarations.Sound.{SoundHead, SoundEachConstant, SoundConstants}
 use Rattle.tsa_grammar.specs.Reading.{all}
 use Rattle.tsa_print.specs.declared.mark.Mark.TheVariants as marks
@@ -34,7 +34,7 @@ module _ (aliases : Aliases) (ts : List Lexeme) where
   abbrev pub HeadRead : Head → (a b : ℕ) → Type 0
   HeadRead x a b = (u : Head) × IsHead ts aliases all u a b × (plain_head u ≡ plain_head x)
 
-  pub head_spelled : (x : Head) (a b : ℕ) → SoundHead aliases x → Run ts a (head_pieces x) b → HeadRead x a b
+  pub head_spelled : (x : Head) (a b : ℕ) → SoundHead (words_beside aliases) x → Run ts a (head_pieces x) b → HeadRead x a b
   head_spelled x a b ok h =
       let two = run_split ts a b (type_pieces x.result)
       (word x.name.text ∷ (mark marks.OpenCall ∷ (parameters_pieces x.params ++ (mark marks.CloseParenthesis ∷ attributes_pieces x.attrs)))) h in
@@ -58,7 +58,7 @@ module _ (aliases : Aliases) (ts : List Lexeme) where
   abbrev pub Constants : List EnumConstant → (a b : ℕ) → Type 0
   Constants xs a b = (us : List EnumConstant) × IsConstants ts aliases all us a b × (map plain_constant us ≡ map plain_constant xs)
 
-  constant_spelled : (name : Identifier) (x : Option Expression) (a b : ℕ) → is_name aliases name.text ≡ true → SoundOptional aliases x
+  constant_spelled : (name : Identifier) (x : Option Expression) (a b : ℕ) → is_name aliases name.text ≡ true → SoundOptional (words_beside aliases) x
       → Run ts a (word name.text ∷ value_pieces x) b → ConstantRead name x a b
   constant_spelled name None a b is ok h = subst (ConstantRead name None a) h.1 (
     record { name = identifier_at ts a; value = None },
@@ -73,7 +73,7 @@ module _ (aliases : Aliases) (ts : List Lexeme) where
             ∙ ap (λ v. record { name = plain_name name; value = Some v }) u.2,
       )
 
-  each_spelled : (x : EnumConstant) (xs : List EnumConstant) (a b : ℕ) → SoundEachConstant aliases (x ∷ xs)
+  each_spelled : (x : EnumConstant) (xs : List EnumConstant) (a b : ℕ) → SoundEachConstant (words_beside aliases) (x ∷ xs)
       → Run ts a (constant_pieces x ++ further_constants xs) b → Constants (x ∷ xs) a b
   each_spelled x [] a b ok h =
       let two = run_split ts a b (constant_pieces x) [] h in
@@ -88,6 +88,6 @@ module _ (aliases : Aliases) (ts : List Lexeme) where
         ap (λ u. u ∷ map plain_constant others.0) u.2 ∙ ap (λ us. plain_constant x ∷ us) others.2,
       )
 
-  pub constants_spelled : (xs : List EnumConstant) (a b : ℕ) → SoundConstants aliases xs → Run ts a (constants_pieces xs) b → Constants xs a b
+  pub constants_spelled : (xs : List EnumConstant) (a b : ℕ) → SoundConstants (words_beside aliases) xs → Run ts a (constants_pieces xs) b → Constants xs a b
   constants_spelled [] a b ok h = absurd ok
   constants_spelled (x ∷ xs) a b ok h = each_spelled x xs a b ok h

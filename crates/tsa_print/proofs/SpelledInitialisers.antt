@@ -9,6 +9,7 @@ use Rattle.tsa_tree.specs.declarations.Spelling.{Role, a_member, a_global, IsIni
 use Rattle.tsa_tree.specs.declarations.Spelling.{of_last_value, of_further_value, IsInit, no_init, of_init}
 use Rattle.tsa_tree.specs.declarations.Plain.{plain_initialiser, plain_initialisers}
 use Rattle.tsa_tree.specs.tokens.Signs.{Aliases, punctuator_signs, punctuator_sign, sign_at, span_over}
+use Rattle.tsa_tree.specs.expressions.Sound.{words_beside}
 use Rattle.tsa_tree.specs.declarations.Sound.{SoundInitialiser, SoundInitialisers, SoundInit}
 use Rattle.tsa_grammar.specs.Reading.{all}
 use Rattle.tsa_print.specs.declared.mark.Mark.TheVariants as marks
@@ -45,7 +46,7 @@ module _ (aliases : Aliases) (ts : List Lexeme) where
   further_step x xs d a m b u v is comma e us = (one_more v us.0, of_further_value is comma us.1, rw (e, us.2) refl)
 
   mutual
-    initialiser_spelled : (x : Initialiser) (d a b : ℕ) → SoundInitialiser aliases x → Run ts a (initialiser_pieces x) b → Initial d x a b
+    initialiser_spelled : (x : Initialiser) (d a b : ℕ) → SoundInitialiser (words_beside aliases) x → Run ts a (initialiser_pieces x) b → Initial d x a b
     initialiser_spelled (value x) d a b ok h =
         let u = expression_spelled aliases ts x d a b ok h in
         (value u.0, of_value u.1, ap value u.2)
@@ -63,7 +64,7 @@ module _ (aliases : Aliases) (ts : List Lexeme) where
         let closes = seen aliases ts whole.0 (mark marks.CloseBrace) whole.2.0 in
         subst (Initial d (list (one_more x xs) s) a) whole.2.1 (list_step x xs s d a whole.0 u.0 u.2 opens us closes)
 
-    further_spelled : (xs : Initialisers) (d a m b : ℕ) (u : Initialiser) → SoundInitialisers aliases xs → IsInitialiser ts aliases all d u a m
+    further_spelled : (xs : Initialisers) (d a m b : ℕ) (u : Initialiser) → SoundInitialisers (words_beside aliases) xs → IsInitialiser ts aliases all d u a m
         → Run ts m (further_pieces xs) b → Initials d u xs a b
     further_spelled no_more d a m b u ok e h = subst (Initials d u no_more a) h (no_more, of_last_value e, refl)
     further_spelled (one_more x xs) d a m b u ok e h =
@@ -76,7 +77,7 @@ module _ (aliases : Aliases) (ts : List Lexeme) where
         )
 
   -- what a global is initialised with
-  pub init_spelled : (x : Option Initialiser) (d a b : ℕ) → SoundInit aliases x → Run ts a (init_pieces x) b → Init a_global d x a b
+  pub init_spelled : (x : Option Initialiser) (d a b : ℕ) → SoundInit (words_beside aliases) x → Run ts a (init_pieces x) b → Init a_global d x a b
   init_spelled None d a b ok h = subst (Init a_global d None a) h (None, no_init, refl)
   init_spelled (Some x) d a b ok h =
       let u = initialiser_spelled x d (a + 1) b ok h.1 in

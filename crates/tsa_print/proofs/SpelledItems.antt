@@ -19,7 +19,7 @@ use Rattle.tsa_tree.specs.statements.Plain.{plain_statements}
 use Rattle.tsa_tree.specs.tokens.Signs.{Aliases, span_at, span_over, identifier_at}
 use Rattle.tsa_tree.specs.statements.Syntax.{Statements}
 use Rattle.tsa_tree.specs.units.Syntax.{UnitItem, structure_item, alias_item, enumeration_item, global_item, function_item, body_item}
-use Rattle.tsa_tree.specs.expressions.Sound.{is_name}
+use Rattle.tsa_tree.specs.expressions.Sound.{words_beside, is_name}
 use Rattle.tsa_tree.specs.attributes.Sound.{SoundAttributes}
 use Rattle.tsa_tree.specs.declarations.Sound.{SoundType, SoundMembers, SoundGlobal, SoundName, SoundHead, SoundConstants}
 use Rattle.tsa_tree.specs.statements.Sound.{SoundStatements}
@@ -80,7 +80,7 @@ module _ (aliases : Aliases) (ts : List Lexeme) where
       × (map plain_declaration us ≡ map plain_declaration xs)
       × Run ts m ps b
 
-  body_spelled : (xs : List Declaration) (ps : List Piece) (a b : ℕ) → SoundMembers aliases xs
+  body_spelled : (xs : List Declaration) (ps : List Piece) (a b : ℕ) → SoundMembers (words_beside aliases) xs
       → Run ts a (mark marks.OpenBlock ∷ (members_pieces xs ++ (mark marks.CloseStruct ∷ ps))) b → BodyRead xs ps a b
   body_spelled xs ps a b ok h =
       let two = run_split ts (a + 1) b (members_pieces xs) (mark marks.CloseStruct ∷ ps) h.1 in
@@ -94,7 +94,7 @@ module _ (aliases : Aliases) (ts : List Lexeme) where
 
   -- a struct without an alias
   structure_spelled : (tag : Identifier) (attrs : List Attribute) (members : List Declaration) (s : Span) (a b : ℕ) → SoundTag (Some tag)
-      → SoundAttributes aliases attrs → SoundMembers aliases members → Run ts a (item_pieces (structure_item (Some tag) None attrs members s)) b
+      → SoundAttributes (words_beside aliases) attrs → SoundMembers (words_beside aliases) members → Run ts a (item_pieces (structure_item (Some tag) None attrs members s)) b
       → ItemRead (structure_item (Some tag) None attrs members s) a b
   structure_spelled tag attrs members s a b tag_ok attrs_ok ok h =
       let last = mark marks.Semicolon ∷ [] in
@@ -112,7 +112,7 @@ module _ (aliases : Aliases) (ts : List Lexeme) where
 
   -- a struct with one
   structure_alias_spelled : (tag : Option Identifier) (name : Identifier) (attrs : List Attribute) (members : List Declaration) (s : Span) (a b : ℕ)
-      → SoundTag tag → is_name aliases name.text ≡ true → SoundAttributes aliases attrs → SoundMembers aliases members
+      → SoundTag tag → is_name aliases name.text ≡ true → SoundAttributes (words_beside aliases) attrs → SoundMembers (words_beside aliases) members
       → Run ts a (item_pieces (structure_item tag (Some name) attrs members s)) b → ItemRead (structure_item tag (Some name) attrs members s) a b
   structure_alias_spelled tag name attrs members s a b tag_ok name_ok attrs_ok ok h =
       let last = word name.text ∷ (mark marks.Semicolon ∷ []) in
@@ -139,7 +139,7 @@ module _ (aliases : Aliases) (ts : List Lexeme) where
       × (map plain_constant us ≡ map plain_constant xs)
       × Run ts m ps b
 
-  enum_spelled : (xs : List EnumConstant) (ps : List Piece) (a b : ℕ) → SoundConstants aliases xs
+  enum_spelled : (xs : List EnumConstant) (ps : List Piece) (a b : ℕ) → SoundConstants (words_beside aliases) xs
       → Run ts a (mark marks.OpenBrace ∷ (constants_pieces xs ++ (mark marks.CloseBrace ∷ ps))) b → EnumRead xs ps a b
   enum_spelled xs ps a b ok h =
       let two = run_split ts (a + 1) b (constants_pieces xs) (mark marks.CloseBrace ∷ ps) h.1 in
@@ -151,8 +151,8 @@ module _ (aliases : Aliases) (ts : List Lexeme) where
         two.2.1,
       )
 
-  enumeration_spelled : (tag other : Option Identifier) (values : List EnumConstant) (s : Span) (a b : ℕ) → SoundTag tag → SoundName aliases other
-      → SoundConstants aliases values → Run ts a (item_pieces (enumeration_item tag other values s)) b → ItemRead (enumeration_item tag other values s) a b
+  enumeration_spelled : (tag other : Option Identifier) (values : List EnumConstant) (s : Span) (a b : ℕ) → SoundTag tag → SoundName (words_beside aliases) other
+      → SoundConstants (words_beside aliases) values → Run ts a (item_pieces (enumeration_item tag other values s)) b → ItemRead (enumeration_item tag other values s) a b
   enumeration_spelled tag None values s a b tag_ok name_ok ok h =
       let last = mark marks.Semicolon ∷ [] in
       let body = mark marks.OpenBrace ∷ (constants_pieces values ++ (mark marks.CloseBrace ∷ last)) in
@@ -177,7 +177,7 @@ module _ (aliases : Aliases) (ts : List Lexeme) where
         enumeration_plain t.0 tag (Some (identifier_at ts us.1)) (Some name) us.0 values t.2 (ap Some (named_so ts us.1 name us.4.0)) us.3,
       )
 
-  alias_spelled : (name : Identifier) (t : DeclaredType) (s : Span) (a b : ℕ) → SoundType aliases t → t.length ≡ None → is_name aliases name.text ≡ true
+  alias_spelled : (name : Identifier) (t : DeclaredType) (s : Span) (a b : ℕ) → SoundType (words_beside aliases) t → t.length ≡ None → is_name aliases name.text ≡ true
       → Run ts a (item_pieces (alias_item name t s)) b → ItemRead (alias_item name t s) a b
   alias_spelled name t s a b ok long named h =
       let two = run_split ts (a + 1) b (type_pieces t) (word name.text ∷ (mark marks.Semicolon ∷ [])) h.1 in
@@ -190,7 +190,7 @@ module _ (aliases : Aliases) (ts : List Lexeme) where
             ∙ ap (λ t. alias_item (plain_name name) t nowhere) (made_plain r.0 t None r.4 r.5 (sym (ap (option_map plain) long))),
       )
 
-  global_item_spelled : (x : Declaration) (a b : ℕ) → SoundGlobal aliases x → Run ts a (declaration_pieces x ++ mark marks.Semicolon ∷ []) b
+  global_item_spelled : (x : Declaration) (a b : ℕ) → SoundGlobal (words_beside aliases) x → Run ts a (declaration_pieces x ++ mark marks.Semicolon ∷ []) b
       → ItemRead (global_item x) a b
   global_item_spelled x a b ok h =
       let two = run_split ts a b (declaration_pieces x) (mark marks.Semicolon ∷ []) h in
@@ -198,14 +198,14 @@ module _ (aliases : Aliases) (ts : List Lexeme) where
       subst (ItemRead (global_item x) a) two.2.1
       (global_item u.1, of_globals no_storage u.3 u.4 (seen aliases ts two.0 (mark marks.Semicolon) two.2.0), ap global_item u.5)
 
-  function_spelled : (x : Head) (a b : ℕ) → SoundHead aliases x → Run ts a (head_pieces x ++ mark marks.Semicolon ∷ []) b → ItemRead (function_item x) a b
+  function_spelled : (x : Head) (a b : ℕ) → SoundHead (words_beside aliases) x → Run ts a (head_pieces x ++ mark marks.Semicolon ∷ []) b → ItemRead (function_item x) a b
   function_spelled x a b ok h =
       let two = run_split ts a b (head_pieces x) (mark marks.Semicolon ∷ []) h in
       let u = head_spelled aliases ts x a two.0 ok two.1 in
       subst (ItemRead (function_item x) a) two.2.1
       (function_item u.0, of_function u.1 (seen aliases ts two.0 (mark marks.Semicolon) two.2.0), ap function_item u.2)
 
-  body_item_spelled : (x : Head) (xs : Statements) (s : Span) (a b : ℕ) → SoundHead aliases x → SoundStatements aliases xs
+  body_item_spelled : (x : Head) (xs : Statements) (s : Span) (a b : ℕ) → SoundHead (words_beside aliases) x → SoundStatements (words_beside aliases) xs
       → Run ts a (item_pieces (body_item x xs s)) b → ItemRead (body_item x xs s) a b
   body_item_spelled x xs s a b head_ok ok h =
       let two = run_split ts a b (head_pieces x) (mark marks.OpenBlock ∷ (statements_pieces xs ++ mark marks.CloseBlock ∷ [])) h in
@@ -219,7 +219,7 @@ module _ (aliases : Aliases) (ts : List Lexeme) where
         ap (λ x. body_item x (plain_statements us.0) nowhere) u.2 ∙ ap (λ xs. body_item (plain_head x) xs nowhere) us.2,
       )
 
-  pub item_spelled : (x : UnitItem) (a b : ℕ) → SoundItem aliases x → Run ts a (item_pieces x) b → ItemRead x a b
+  pub item_spelled : (x : UnitItem) (a b : ℕ) → SoundItem (words_beside aliases) x → Run ts a (item_pieces x) b → ItemRead x a b
   item_spelled (structure_item None None attrs members s) a b ok h = absurd ok.0
   item_spelled (structure_item (Some tag) None attrs members s) a b ok h = structure_spelled tag attrs members s a b ok.0.0 ok.1 ok.2 h
   item_spelled (structure_item None (Some name) attrs members s) a b ok h =

@@ -6,7 +6,7 @@ use Rattle.tsa_tree.specs.expressions.Syntax.{Expression, Arguments, number, nul
 use Rattle.tsa_tree.specs.expressions.Syntax.{plain, plain_arguments}
 use Rattle.tsa_tree.specs.tokens.Signs.{Aliases, span_over, level}
 use Rattle.tsa_tree.specs.expressions.Spelling.{IsUnary, of_postfix, of_prefix, IsSeries}
-use Rattle.tsa_tree.specs.expressions.Sound.{is_sound, are_sound}
+use Rattle.tsa_tree.specs.expressions.Sound.{words_beside, is_sound, are_sound}
 use Rattle.tsa_grammar.specs.Reading.{all}
 use Rattle.tsa_print.specs.Canonical.{operator, pieces, further}
 use Rattle.tsa_print.proofs.PieceSigns.{prefix_seen}
@@ -21,22 +21,22 @@ module _ (aliases : Aliases) (ts : List Lexeme) where
   Series d t xs a b =
       (u : Expression) × (us : Arguments) × IsSeries ts aliases all d (more u us) a b × (plain u ≡ plain t) × (plain_arguments us ≡ plain_arguments xs)
 
-  expr_run : (t : Expression) (d k a b : ℕ) → is_sound aliases t ≡ true → k ≤ 10 → Run ts a (pieces t k) b → Expr aliases ts d k t a b
+  expr_run : (t : Expression) (d k a b : ℕ) → is_sound (words_beside aliases) t ≡ true → k ≤ 10 → Run ts a (pieces t k) b → Expr aliases ts d k t a b
   expr_run t d k a b ok le h =
       subst (Expr aliases ts d k t a) (run_long ts a b (pieces t k) h) (expr aliases ts t d k a ok le (run_shows ts a b (pieces t k) h))
 
   -- an expression where anything can stand
-  pub expression_spelled : (t : Expression) (d a b : ℕ) → is_sound aliases t ≡ true → Run ts a (pieces t 0) b → Expr aliases ts d 0 t a b
+  pub expression_spelled : (t : Expression) (d a b : ℕ) → is_sound (words_beside aliases) t ≡ true → Run ts a (pieces t 0) b → Expr aliases ts d 0 t a b
   expression_spelled t d a b ok h = expr_run t d 0 a b ok (omega arith) h
 
-  post_run : (t : Expression) (d a b : ℕ) → is_sound aliases t ≡ true → Run ts a (pieces t 11) b → Post aliases ts d t a b
+  post_run : (t : Expression) (d a b : ℕ) → is_sound (words_beside aliases) t ≡ true → Run ts a (pieces t 11) b → Post aliases ts d t a b
   post_run t d a b ok h =
       subst (Post aliases ts d t a) (run_long ts a b (pieces t 11) h) (post aliases ts t d a ok (run_shows ts a b (pieces t 11) h))
 
   as_operand : (t : Expression) (d a b : ℕ) → Post aliases ts d t a b → Operand d t a b
   as_operand t d a b p = (p.0, of_postfix p.1, p.2)
 
-  binary_post : (o : _) (l r : Expression) (s : _) (d a : ℕ) → is_sound aliases l ≡ true → is_sound aliases r ≡ true → (b : ℕ)
+  binary_post : (o : _) (l r : Expression) (s : _) (d a : ℕ) → is_sound (words_beside aliases) l ≡ true → is_sound (words_beside aliases) r ≡ true → (b : ℕ)
       → Run ts a (pieces (binary o l r s) 10) b → Post aliases ts d (binary o l r s) a b
   binary_post o l r s d a okl okr b h =
       let low = level_below o in
@@ -48,7 +48,7 @@ module _ (aliases : Aliases) (ts : List Lexeme) where
       (run_shows ts a b (pieces (binary o l r s) 10) h))
 
   -- the left side of an assignment
-  pub operand_spelled : (t : Expression) (d a b : ℕ) → is_sound aliases t ≡ true → Run ts a (pieces t 10) b → Operand d t a b
+  pub operand_spelled : (t : Expression) (d a b : ℕ) → is_sound (words_beside aliases) t ≡ true → Run ts a (pieces t 10) b → Operand d t a b
   operand_spelled (number v u s) d a b ok h = as_operand (number v u s) d a b (post_run (number v u s) d a b ok h)
   operand_spelled (null s) d a b ok h = as_operand (null s) d a b (post_run (null s) d a b ok h)
   operand_spelled (named n s) d a b ok h = as_operand (named n s) d a b (post_run (named n s) d a b ok h)
@@ -60,16 +60,16 @@ module _ (aliases : Aliases) (ts : List Lexeme) where
         ap (λ x. unary o x nowhere) inner.2,
       )
   operand_spelled (binary o l r s) d a b ok h =
-      let two = and_parts (is_sound aliases l) (is_sound aliases r) ok in
+      let two = and_parts (is_sound (words_beside aliases) l) (is_sound (words_beside aliases) r) ok in
       as_operand (binary o l r s) d a b (binary_post o l r s d a two.0 two.1 b h)
   operand_spelled (field e n arrow s) d a b ok h = as_operand (field e n arrow s) d a b (post_run (field e n arrow s) d a b ok h)
   operand_spelled (index e i s) d a b ok h = as_operand (index e i s) d a b (post_run (index e i s) d a b ok h)
 
   -- one expression or more
-  pub series_spelled : (t : Expression) (xs : Arguments) (d a b : ℕ) → are_sound aliases (more t xs) ≡ true
+  pub series_spelled : (t : Expression) (xs : Arguments) (d a b : ℕ) → are_sound (words_beside aliases) (more t xs) ≡ true
       → Run ts a (pieces t 0 ++ further xs) b → Series d t xs a b
   series_spelled t xs d a b ok h =
-      let sound = and_parts (is_sound aliases t) (are_sound aliases xs) ok in
+      let sound = and_parts (is_sound (words_beside aliases) t) (are_sound (words_beside aliases) xs) ok in
       let two = run_split ts a b (pieces t 0) (further xs) h in
       let e = expression_spelled t d a two.0 sound.0 two.1 in
       let r = rest aliases ts xs d a two.0 e.0 sound.1 e.1 (run_shows ts two.0 b (further xs) two.2) in (

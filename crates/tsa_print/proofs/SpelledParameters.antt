@@ -11,6 +11,7 @@ use Rattle.tsa_tree.specs.declarations.ItemSpelling.{parameter_start, parameter,
 use Rattle.tsa_tree.specs.declarations.ItemSpelling.{of_last_parameter, of_further_parameter, IsParameters, of_lone_void, of_parameters}
 use Rattle.tsa_tree.specs.declarations.Plain.{plain_type, plain_parameter}
 use Rattle.tsa_tree.specs.tokens.Signs.{Aliases, sign_at, identifier_at, is_void, is_close, is_lone_void}
+use Rattle.tsa_tree.specs.expressions.Sound.{words_beside}
 use Rattle.tsa_tree.specs.declarations.Sound.{SoundBase, SoundType, SoundName, SoundEachParameter, SoundParameters, is_bare_void}
 use Rattle.tsa_tree.specs.declarations.Sound as sound
 use Rattle.tsa_print.specs.declared.mark.Mark.TheVariants as marks
@@ -43,7 +44,7 @@ module _ (aliases : Aliases) (ts : List Lexeme) where
       either true c e = e
       either false c e = refl
 
-  void_behind : (p c : Bool) (name : Option Identifier) (xs : List Parameter) (a b : ℕ) → SoundName aliases name
+  void_behind : (p c : Bool) (name : Option Identifier) (xs : List Parameter) (a b : ℕ) → SoundName (words_beside aliases) name
       → stands_alone xs (is_bare_void void false p name) ≡ false
       → Run ts (a + 1) ((star_pieces p c ++ name_pieces name) ++ further_parameters xs) b → is_lone_void ts aliases a ≡ false
   void_behind true c name xs a b ok e h = no_close a (ap is_close (seen aliases ts (a + 1) (mark marks.Star) h.0))
@@ -52,8 +53,8 @@ module _ (aliases : Aliases) (ts : List Lexeme) where
   void_behind false c None (x ∷ xs) a b ok e h = no_close a (ap is_close (seen aliases ts (a + 1) (mark marks.Comma) h.0))
 
   -- parameters that are no lone `void` don't begin as one
-  first_sign : (base : Base) (is_const p c : Bool) (name : Option Identifier) (xs : List Parameter) (a b : ℕ) → SoundBase aliases base
-      → SoundName aliases name → stands_alone xs (is_bare_void base is_const p name) ≡ false
+  first_sign : (base : Base) (is_const p c : Bool) (name : Option Identifier) (xs : List Parameter) (a b : ℕ) → SoundBase (words_beside aliases) base
+      → SoundName (words_beside aliases) name → stands_alone xs (is_bare_void base is_const p name) ≡ false
       → Run ts a ((((const_pieces is_const ++ base_pieces base) ++ star_pieces p c) ++ name_pieces name) ++ further_parameters xs) b
       → is_lone_void ts aliases a ≡ false
   first_sign base true p c name xs a b ok named e h = no_void a (ap is_void (keyword_seen aliases ts a key.Const h.0))
@@ -70,7 +71,7 @@ module _ (aliases : Aliases) (ts : List Lexeme) where
       × IsParameter ts aliases u a b
       × (plain_parameter u ≡ record { name = option_map plain_name name; ctype = plain_type t; span = nowhere })
 
-  parameter_spelled : (t : DeclaredType) (name : Option Identifier) (a b : ℕ) → SoundType aliases t → t.length ≡ None → SoundName aliases name
+  parameter_spelled : (t : DeclaredType) (name : Option Identifier) (a b : ℕ) → SoundType (words_beside aliases) t → t.length ≡ None → SoundName (words_beside aliases) name
       → Run ts a (type_pieces t ++ name_pieces name) b → ParameterRead t name a b
   parameter_spelled t None a b ok long named h =
       let two = run_split ts a b (type_pieces t) [] h in
@@ -97,7 +98,7 @@ module _ (aliases : Aliases) (ts : List Lexeme) where
   abbrev pub Parameters : List Parameter → (a b : ℕ) → Type 0
   Parameters xs a b = (us : List Parameter) × IsParameters ts aliases us a b × (map plain_parameter us ≡ map plain_parameter xs)
 
-  list_spelled : (x : Parameter) (xs : List Parameter) (a b : ℕ) → SoundEachParameter aliases (x ∷ xs)
+  list_spelled : (x : Parameter) (xs : List Parameter) (a b : ℕ) → SoundEachParameter (words_beside aliases) (x ∷ xs)
       → Run ts a (parameter_pieces x ++ further_parameters xs) b → ParameterList (x ∷ xs) a b
   list_spelled x [] a b ok h =
       let two = run_split ts a b (parameter_pieces x) [] h in
@@ -113,7 +114,7 @@ module _ (aliases : Aliases) (ts : List Lexeme) where
       )
 
   -- what stands between the parentheses of a function
-  pub parameters_spelled : (xs : List Parameter) (a b : ℕ) → SoundParameters aliases xs → sign_at ts aliases b ≡ sign.Close
+  pub parameters_spelled : (xs : List Parameter) (a b : ℕ) → SoundParameters (words_beside aliases) xs → sign_at ts aliases b ≡ sign.Close
       → Run ts a (parameters_pieces xs) b → Parameters xs a b
   parameters_spelled [] a b ok closes h =
       let next : sign_at ts aliases (a + 1) ≡ sign.Close = ap (sign_at ts aliases) h.1 ∙ closes in

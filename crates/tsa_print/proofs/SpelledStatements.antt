@@ -7,6 +7,7 @@ use Rattle.tsa_tree.specs.tokens.Signs.{Aliases}
 use Rattle.tsa_tree.specs.statements.Syntax.{Statement, block, empty, local, simple, if_alone, if_else, while_loop, do_loop, for_loop}
 use Rattle.tsa_tree.specs.statements.Syntax.{switch, case, otherwise, label, break, continue, goto, return, Statements, none, more}
 use Rattle.tsa_tree.specs.statements.Spelling.{no_statement}
+use Rattle.tsa_tree.specs.expressions.Sound.{words_beside}
 use Rattle.tsa_tree.specs.statements.Sound.{SoundStatement, SoundStatements}
 use Rattle.tsa_print.specs.declared.mark.Mark.{Mark}
 use Rattle.tsa_print.specs.declared.mark.Mark.TheVariants as marks
@@ -24,7 +25,7 @@ use Rattle.tsa_print.proofs.WordSigns.{keyword_seen}
 module _ (aliases : Aliases) (ts : List Lexeme) where
   mutual
     statement_spelled : (w : Bool) (x : Statement) (closing : Mark) (d a b : ℕ) → piece_sign aliases (mark closing) ≡ sign.CloseBrace
-        → SoundStatement aliases w x → Run ts a (statement_pieces closing x) b → Read aliases ts w d x a b
+        → SoundStatement (words_beside aliases) w x → Run ts a (statement_pieces closing x) b → Read aliases ts w d x a b
     statement_spelled true (local x) closing d a b e ok h = local_first aliases ts x d a b ok h
     statement_spelled false (local x) closing d a b e ok h = absurd ok
     statement_spelled w (block xs s) closing d a b e ok h =
@@ -98,7 +99,7 @@ module _ (aliases : Aliases) (ts : List Lexeme) where
     statement_spelled w (goto name s) closing d a b e ok h = anywhere aliases ts w d (goto name s) a b (goto_step aliases ts name s d a b ok h)
     statement_spelled w (return x s) closing d a b e ok h = anywhere aliases ts w d (return x s) a b (return_step aliases ts x s d a b ok h)
 
-    pub statements_spelled : (xs : Statements) (d a b : ℕ) → SoundStatements aliases xs → Run ts a (statements_pieces xs) b → All aliases ts d xs a b
+    pub statements_spelled : (xs : Statements) (d a b : ℕ) → SoundStatements (words_beside aliases) xs → Run ts a (statements_pieces xs) b → All aliases ts d xs a b
     statements_spelled none d a b ok h = subst (All aliases ts d none a) h (none, no_statement, refl)
     statements_spelled (more x xs) d a b ok h =
         let two = run_split ts a b (statement_pieces marks.CloseBlock x) (statements_pieces xs) h in

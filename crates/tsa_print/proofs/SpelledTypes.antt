@@ -10,7 +10,7 @@ use Rattle.tsa_tree.specs.declarations.Spelling.{of_length}
 use Rattle.tsa_tree.specs.expressions.Syntax.{Expression, plain}
 use Rattle.tsa_tree.specs.declarations.Plain.{plain_base, plain_type}
 use Rattle.tsa_tree.specs.tokens.Signs.{Aliases, identifier_at}
-use Rattle.tsa_tree.specs.expressions.Sound.{SoundOptional}
+use Rattle.tsa_tree.specs.expressions.Sound.{words_beside, SoundOptional}
 use Rattle.tsa_tree.specs.declarations.Sound.{SoundBase, SoundType}
 use Rattle.tsa_grammar.specs.Reading.{all}
 use Rattle.tsa_print.specs.declared.mark.Mark.TheVariants as marks
@@ -45,7 +45,7 @@ module _ (aliases : Aliases) (ts : List Lexeme) where
   abbrev pub Length : (d : ℕ) → Option Expression → (a b : ℕ) → Type 0
   Length d l a b = (u : Option Expression) × IsLength ts aliases all d u a b × (option_map plain u ≡ option_map plain l)
 
-  base_spelled : (base : Base) (a b : ℕ) → SoundBase aliases base → Run ts a (base_pieces base) b → BaseRead base a b
+  base_spelled : (base : Base) (a b : ℕ) → SoundBase (words_beside aliases) base → Run ts a (base_pieces base) b → BaseRead base a b
   base_spelled int a b ok h = subst (BaseRead int a) h.1 (int, of_int (keyword_seen aliases ts a key.Int h.0), refl)
   base_spelled unsigned a b ok h = subst (BaseRead unsigned a) h.1 (unsigned, of_unsigned (keyword_seen aliases ts a key.Unsigned h.0), refl)
   base_spelled void a b ok h = subst (BaseRead void a) h.1 (void, of_void (keyword_seen aliases ts a key.Void h.0), refl)
@@ -65,7 +65,7 @@ module _ (aliases : Aliases) (ts : List Lexeme) where
     ap alias (named_so ts a name h.0),
   )
 
-  specifier_spelled : (base : Base) (c : Bool) (a b : ℕ) → SoundBase aliases base → Run ts a (const_pieces c ++ base_pieces base) b → Specifier base c a b
+  specifier_spelled : (base : Base) (c : Bool) (a b : ℕ) → SoundBase (words_beside aliases) base → Run ts a (const_pieces c ++ base_pieces base) b → Specifier base c a b
   specifier_spelled base true a b ok h =
       let u = base_spelled base (a + 1) b ok h.1 in (
         record { base = u.0; is_const = true },
@@ -85,13 +85,13 @@ module _ (aliases : Aliases) (ts : List Lexeme) where
       subst (IsStar ts aliases true true a) h.1.1
       (of_const_star (seen aliases ts a (mark marks.Star) h.0) (keyword_seen aliases ts (a + 1) key.Const h.1.0))
 
-  pub type_spelled : (t : DeclaredType) (a b : ℕ) → SoundType aliases t → Run ts a (type_pieces t) b → Typed t a b
+  pub type_spelled : (t : DeclaredType) (a b : ℕ) → SoundType (words_beside aliases) t → Run ts a (type_pieces t) b → Typed t a b
   type_spelled t a b ok h =
       let two = run_split ts a b (specifier_pieces t) (star_pieces t.pointer t.pointer_const) h in
       let s = specifier_spelled t.base t.base_const a two.0 ok.0 two.1 in
       (s.0, two.0, s.1, star_spelled t.pointer t.pointer_const two.0 b ok.1 two.2, s.2, s.3)
 
-  pub length_spelled : (l : Option Expression) (d a b : ℕ) → SoundOptional aliases l → Run ts a (length_pieces l) b → Length d l a b
+  pub length_spelled : (l : Option Expression) (d a b : ℕ) → SoundOptional (words_beside aliases) l → Run ts a (length_pieces l) b → Length d l a b
   length_spelled None d a b ok h = subst (Length d None a) h (None, no_length, refl)
   length_spelled (Some x) d a b ok h =
       let two = run_split ts (a + 1) b (pieces x 0) (mark marks.CloseBracket ∷ []) h.1 in

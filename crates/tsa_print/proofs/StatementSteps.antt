@@ -16,7 +16,7 @@ use Rattle.tsa_tree.specs.statements.Syntax.{return, Statements, more, ends_shor
 use Rattle.tsa_tree.specs.statements.Spelling.{IsStatement, of_block, of_empty, of_simple, of_if, of_if_else, of_while, of_do, of_for}
 use Rattle.tsa_tree.specs.statements.Spelling.{of_switch, of_case, of_default, of_label, of_break, of_continue, of_goto, of_return, of_body}
 use Rattle.tsa_tree.specs.statements.Spelling.{IsStatements, of_locals_first, of_statement_first}
-use Rattle.tsa_tree.specs.expressions.Sound.{SoundOptional, is_name}
+use Rattle.tsa_tree.specs.expressions.Sound.{words_beside, SoundOptional, is_name}
 use Rattle.tsa_tree.specs.declarations.Sound.{SoundLocal}
 use Rattle.tsa_tree.specs.statements.Sound.{SoundSimple}
 use Rattle.tsa_grammar.specs.Reading.{all}
@@ -81,7 +81,7 @@ module _ (aliases : Aliases) (ts : List Lexeme) where
   anywhere true d x a b u = (u.0, u.2, λ ys b is. of_statement_first u.1 is)
   anywhere false d x a b u = u
 
-  pub local_first : (x : Declaration) (d a b : ℕ) → SoundLocal aliases x → Run ts a (declaration_pieces x ++ mark marks.Semicolon ∷ []) b
+  pub local_first : (x : Declaration) (d a b : ℕ) → SoundLocal (words_beside aliases) x → Run ts a (declaration_pieces x ++ mark marks.Semicolon ∷ []) b
       → First d (local x) a b
   local_first x d a b ok h =
       let two = run_split ts a b (declaration_pieces x) (mark marks.Semicolon ∷ []) h in
@@ -93,7 +93,7 @@ module _ (aliases : Aliases) (ts : List Lexeme) where
         λ ys b is. of_locals_first (of_locals u.3 (of_last_variable u.4)) semicolon is,
       )
 
-  pub simple_step : (x : Simple) (d a b : ℕ) → SoundSimple aliases x → Run ts a (simple_pieces x ++ mark marks.Semicolon ∷ []) b → Alone d (simple x) a b
+  pub simple_step : (x : Simple) (d a b : ℕ) → SoundSimple (words_beside aliases) x → Run ts a (simple_pieces x ++ mark marks.Semicolon ∷ []) b → Alone d (simple x) a b
   simple_step x d a b ok h =
       let two = run_split ts a b (simple_pieces x) (mark marks.Semicolon ∷ []) h in
       let u = simple_spelled aliases ts x d a two.0 ok two.1 in
@@ -191,7 +191,7 @@ module _ (aliases : Aliases) (ts : List Lexeme) where
     ap (λ n. goto n nowhere) (named_so ts (a + 1) name h.1.0),
   )
 
-  pub return_step : (x : Option Expression) (s : Span) (d a b : ℕ) → SoundOptional aliases x
+  pub return_step : (x : Option Expression) (s : Span) (d a b : ℕ) → SoundOptional (words_beside aliases) x
       → Run ts a (word (codes "return") ∷ (optional_pieces x ++ mark marks.Semicolon ∷ [])) b → Alone d (return x s) a b
   return_step x s d a b ok h =
       let two = run_split ts (a + 1) b (optional_pieces x) (mark marks.Semicolon ∷ []) h.1 in

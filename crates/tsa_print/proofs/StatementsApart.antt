@@ -8,7 +8,7 @@ use Rattle.tsa_tree.specs.tokens.Signs.{Aliases}
 use Rattle.tsa_tree.specs.statements.Syntax.{Simple, evaluation, assignment, ForInit, no_init, simple_init, local_init, Statement, block}
 use Rattle.tsa_tree.specs.statements.Syntax.{empty, local, simple, if_alone, if_else, while_loop, do_loop, for_loop, switch, case}
 use Rattle.tsa_tree.specs.statements.Syntax.{otherwise, label, break, continue, goto, return, Statements, none, more}
-use Rattle.tsa_tree.specs.expressions.Sound.{SoundExpression, SoundOptional}
+use Rattle.tsa_tree.specs.expressions.Sound.{words_beside, SoundExpression, SoundOptional}
 use Rattle.tsa_tree.specs.statements.Sound.{SoundSimple, SoundForInit, SoundForStep, SoundLocalIn, SoundStatement, SoundStatements}
 use Rattle.tsa_print.specs.declared.mark.Mark.{Mark}
 use Rattle.tsa_print.specs.declared.mark.Mark.TheVariants as marks
@@ -28,34 +28,34 @@ use Rattle.tsa_print.proofs.Joins.{is_closed, Joins, joins_none, joins_loose, jo
 pub joins_ended : (k : Mark) (ps : List Piece) → is_closed (mark k) ≡ true → Joins true ps → Joins true (ps ++ mark k ∷ [])
 joins_ended k ps closed joins = joins_loose false (ps ++ mark k ∷ []) (joins_then k ps closed joins)
 
-joins_simple : (aliases : Aliases) (x : Simple) → SoundSimple aliases x → ArePlain (in_simple x) → Joins true (simple_pieces x)
+joins_simple : (aliases : Aliases) (x : Simple) → SoundSimple (words_beside aliases) x → ArePlain (in_simple x) → Joins true (simple_pieces x)
 joins_simple aliases (evaluation x span) sound plain = joins_expression aliases x 0 sound (plain_first x [] plain).0
 joins_simple aliases (assignment left o right span) sound plain =
     let parts = plain_first left (right ∷ []) plain in
     joins_append true (pieces left 10) (assigned o ∷ pieces right 0) refl (joins_expression aliases left 10 sound.0 parts.0)
     (joins_assigned aliases o right sound.1 sound.2 (plain_first right [] parts.1).0)
 
-joins_optional : (aliases : Aliases) (x : Option Expression) → SoundOptional aliases x → ArePlain (in_optional x) → Joins true (optional_pieces x)
+joins_optional : (aliases : Aliases) (x : Option Expression) → SoundOptional (words_beside aliases) x → ArePlain (in_optional x) → Joins true (optional_pieces x)
 joins_optional aliases None sound plain = joins_none true
 joins_optional aliases (Some x) sound plain = joins_expression aliases x 0 sound (plain_first x [] plain).0
 
-joins_for_init : (aliases : Aliases) (init : ForInit) → SoundForInit aliases init → ArePlain (in_for_init init) → Joins true (for_init_pieces init)
+joins_for_init : (aliases : Aliases) (init : ForInit) → SoundForInit (words_beside aliases) init → ArePlain (in_for_init init) → Joins true (for_init_pieces init)
 joins_for_init aliases no_init sound plain = joins_none true
 joins_for_init aliases (simple_init x) sound plain = joins_simple aliases x sound plain
 joins_for_init aliases (local_init d) sound plain = joins_local aliases d sound plain
 
-joins_for_step : (aliases : Aliases) (step : Option Simple) → SoundForStep aliases step → ArePlain (in_for_step step) →
+joins_for_step : (aliases : Aliases) (step : Option Simple) → SoundForStep (words_beside aliases) step → ArePlain (in_for_step step) →
     Joins true (for_step_pieces step)
 joins_for_step aliases None sound plain = joins_none true
 joins_for_step aliases (Some x) sound plain = joins_simple aliases x sound plain
 
-joins_local_in : (aliases : Aliases) (in_block : Bool) (d : Declaration) → SoundLocalIn aliases in_block d → ArePlain (in_declaration d) →
+joins_local_in : (aliases : Aliases) (in_block : Bool) (d : Declaration) → SoundLocalIn (words_beside aliases) in_block d → ArePlain (in_declaration d) →
     Joins true (declaration_pieces d)
 joins_local_in aliases true d sound plain = joins_local aliases d sound plain
 joins_local_in aliases false d sound plain = absurd sound
 
 -- a test, and what is after it
-joins_test : (aliases : Aliases) (x : Expression) (ps : List Piece) → SoundExpression aliases x → has_plain_bases x ≡ true → Joins true ps →
+joins_test : (aliases : Aliases) (x : Expression) (ps : List Piece) → SoundExpression (words_beside aliases) x → has_plain_bases x ≡ true → Joins true ps →
     Joins true (test_pieces x ++ ps)
 joins_test aliases x ps sound plain joins =
     joins_append true (test_pieces x) ps refl
@@ -63,13 +63,13 @@ joins_test aliases x ps sound plain joins =
     (joins_between marks.OpenParenthesis marks.CloseParenthesis (pieces x 0) refl refl (joins_expression aliases x 0 sound plain))) joins
 
 -- a word, a test and what is after them
-joins_tested : (aliases : Aliases) (text : List ℕ) (x : Expression) (ps : List Piece) → is_word text ≡ true → SoundExpression aliases x →
+joins_tested : (aliases : Aliases) (text : List ℕ) (x : Expression) (ps : List Piece) → is_word text ≡ true → SoundExpression (words_beside aliases) x →
     has_plain_bases x ≡ true → Joins true ps → Joins true (word text ∷ (test_pieces x ++ ps))
 joins_tested aliases text x ps good sound plain joins = joins_word text (test_pieces x ++ ps) good (joins_test aliases x ps sound plain joins)
 
 -- the head of a `for`, and what is after it
 joins_for : (aliases : Aliases) (init : ForInit) (test : Option Expression) (step : Option Simple) (ps : List Piece) →
-    SoundForInit aliases init → SoundOptional aliases test → SoundForStep aliases step →
+    SoundForInit (words_beside aliases) init → SoundOptional (words_beside aliases) test → SoundForStep (words_beside aliases) step →
     ArePlain (in_for_init init) → ArePlain (in_optional test) → ArePlain (in_for_step step) → Joins true ps →
     Joins true (word (codes "for") ∷ (mark marks.OpenParenthesis ∷ (for_init_pieces init ++ (mark marks.ForSemicolon ∷ (optional_pieces test
     ++ (mark marks.ForSemicolon ∷ (for_step_pieces step ++ (mark marks.CloseParenthesis ∷ ps))))))))
@@ -95,7 +95,7 @@ pub semicolon : Joins true (mark marks.Semicolon ∷ [])
 semicolon = joins_mark_before marks.Semicolon [] refl (joins_none true)
 
 -- `return`, and what is after it
-joins_return : (aliases : Aliases) (x : Option Expression) → SoundOptional aliases x → ArePlain (in_optional x) →
+joins_return : (aliases : Aliases) (x : Option Expression) → SoundOptional (words_beside aliases) x → ArePlain (in_optional x) →
     Joins true (word (codes "return") ∷ (optional_pieces x ++ mark marks.Semicolon ∷ []))
 joins_return aliases x sound plain =
     joins_word (codes "return") (optional_pieces x ++ mark marks.Semicolon ∷ []) refl
@@ -109,7 +109,7 @@ joins_block closing ps closed joins =
 
 module _ (aliases : Aliases) where
   mutual
-    joins_statement : (closing : Mark) (in_block : Bool) (s : Statement) → is_closed (mark closing) ≡ true → SoundStatement aliases in_block s →
+    joins_statement : (closing : Mark) (in_block : Bool) (s : Statement) → is_closed (mark closing) ≡ true → SoundStatement (words_beside aliases) in_block s →
         ArePlain (in_statement s) → Joins true (statement_pieces closing s)
     joins_statement closing in_block (block items span) closed sound plain =
         joins_block closing (statements_pieces items) closed (joins_statements items sound plain)
@@ -168,7 +168,7 @@ module _ (aliases : Aliases) where
         (joins_word name.text (mark marks.Semicolon ∷ []) (word_of_name aliases name.text sound) semicolon)
     joins_statement closing in_block (return x span) closed sound plain = joins_return aliases x sound plain
 
-    pub joins_statements : (items : Statements) → SoundStatements aliases items → ArePlain (in_statements items) → Joins true (statements_pieces items)
+    pub joins_statements : (items : Statements) → SoundStatements (words_beside aliases) items → ArePlain (in_statements items) → Joins true (statements_pieces items)
     joins_statements none sound plain = joins_none true
     joins_statements (more first rest) sound plain =
         let parts = plain_parts (in_statement first) (in_statements rest) plain in

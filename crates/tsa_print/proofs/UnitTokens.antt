@@ -10,6 +10,7 @@ use Rattle.tsa_tree.specs.expressions.Syntax.{Identifier}
 use Rattle.tsa_tree.specs.tokens.Signs.{Aliases}
 use Rattle.tsa_tree.specs.units.Syntax.{UnitItem, structure_item, alias_item, enumeration_item, global_item, function_item, body_item}
 use Rattle.tsa_tree.specs.units.Syntax.{names_of_item}
+use Rattle.tsa_tree.specs.expressions.Sound.{words_beside}
 use Rattle.tsa_tree.specs.declarations.Sound.{SoundName}
 use Rattle.tsa_tree.specs.units.Sound.{SoundTag, SoundTags, SoundItem, SoundItems}
 use Rattle.tsa_print.specs.declared.mark.Mark.TheVariants as marks
@@ -37,18 +38,18 @@ joins_typedef None = joins_none true
 joins_typedef (Some name) = joins_word (codes "typedef") [] refl (joins_none true)
 
 -- the tag and the other name of a struct
-tags_parts : (aliases : Aliases) (tag other : Option Identifier) → SoundTags aliases tag other → SoundTag tag × SoundName aliases other
+tags_parts : (aliases : Aliases) (tag other : Option Identifier) → SoundTags (words_beside aliases) tag other → SoundTag tag × SoundName (words_beside aliases) other
 tags_parts aliases None None sound = absurd sound
 tags_parts aliases None (Some name) sound = sound
 tags_parts aliases (Some tag) None sound = sound
 tags_parts aliases (Some tag) (Some name) sound = sound
 
 -- what stands after the closing brace of a struct or an enum
-joins_behind_brace : (aliases : Aliases) (other : Option Identifier) → SoundName aliases other → Joins true (name_pieces other ++ mark marks.Semicolon ∷ [])
+joins_behind_brace : (aliases : Aliases) (other : Option Identifier) → SoundName (words_beside aliases) other → Joins true (name_pieces other ++ mark marks.Semicolon ∷ [])
 joins_behind_brace aliases other sound = joins_ended marks.Semicolon (name_pieces other) refl (joins_name aliases other sound)
 
 joins_structure : (aliases : Aliases) (tag other : Option Identifier) (attrs : List Attribute) (members : List Declaration) (span : Span) →
-    SoundItem aliases (structure_item tag other attrs members span) → ArePlain (in_attributes attrs ++ in_declarations members) →
+    SoundItem (words_beside aliases) (structure_item tag other attrs members span) → ArePlain (in_attributes attrs ++ in_declarations members) →
     Joins true (item_pieces (structure_item tag other attrs members span))
 joins_structure aliases tag other attrs members span sound plain =
     let parts = plain_parts (in_attributes attrs) (in_declarations members) plain in
@@ -65,7 +66,7 @@ joins_structure aliases tag other attrs members span sound plain =
     (joins_mark_before marks.CloseStruct behind refl (joins_behind_brace aliases other names.1)))))))
 
 joins_enumeration : (aliases : Aliases) (tag other : Option Identifier) (values : List EnumConstant) (span : Span) →
-    SoundItem aliases (enumeration_item tag other values span) → ArePlain (in_constants values) →
+    SoundItem (words_beside aliases) (enumeration_item tag other values span) → ArePlain (in_constants values) →
     Joins true (item_pieces (enumeration_item tag other values span))
 joins_enumeration aliases tag other values span sound plain =
     let behind = name_pieces other ++ mark marks.Semicolon ∷ [] in
@@ -78,7 +79,7 @@ joins_enumeration aliases tag other values span sound plain =
     (joins_append true (constants_pieces values) (mark marks.CloseBrace ∷ behind) refl (joins_constants aliases values sound.2 plain)
     (joins_mark_before marks.CloseBrace behind refl (joins_behind_brace aliases other sound.1))))))
 
-joins_item : (aliases : Aliases) (item : UnitItem) → SoundItem aliases item → ArePlain (in_item item) → Joins true (item_pieces item)
+joins_item : (aliases : Aliases) (item : UnitItem) → SoundItem (words_beside aliases) item → ArePlain (in_item item) → Joins true (item_pieces item)
 joins_item aliases (structure_item tag other attrs members span) sound plain = joins_structure aliases tag other attrs members span sound plain
 joins_item aliases (alias_item name ctype span) sound plain =
     let named = word name.text ∷ (mark marks.Semicolon ∷ []) in

@@ -1,7 +1,7 @@
 -- Expressions whose canonical text is read again.
 use Rattle.std.specs.Prelude.{Bool, true, false, ◌&&◌, ◌||◌, not}
 use Rattle.tsa_tree.specs.expressions.Syntax.{Expression, Arguments, number, null, named, call, unary, binary, field, index, none, more}
-use Rattle.tsa_tree.specs.expressions.Sound.{is_sound}
+use Rattle.tsa_tree.specs.expressions.Sound.{words_beside, is_sound}
 use Rattle.tsa_tree.specs.tokens.Signs.{Aliases}
 
 abbrev pub is_number : Expression → Bool
@@ -25,4 +25,4 @@ abbrev mutual
   have_plain_bases (more first rest) = has_plain_bases first && have_plain_bases rest
 
 abbrev pub is_writable : Aliases → Expression → Bool
-is_writable aliases tree = is_sound aliases tree && has_plain_bases tree
+is_writable aliases tree = is_sound (words_beside aliases) tree && has_plain_bases tree

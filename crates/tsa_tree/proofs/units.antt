@@ -2,6 +2,7 @@
 pub mod Meet
 pub mod Laws
 pub mod Read
+pub mod MoreWords
 pub mod Examples
 pub mod FunctionLaws
 pub mod NamesStand

@@ -8,7 +8,7 @@ ghost use Rattle.tsa_tree.specs.declarations.Answers as declarations;
 ghost use Rattle.tsa_tree.specs.statements.Laws as statements;
 ghost use Rattle.tsa_tree.specs.statements.Examples.{StatementsAreRead};
 ghost use Rattle.tsa_tree.specs.units.Answers as units;
-ghost use Rattle.tsa_tree.specs.units.SoundLaw.{WellReadIsSound};
+ghost use Rattle.tsa_tree.specs.units.SoundLaw.{WellReadIsSound, SoundIsSpellable, WellReadIsSpellable, SpellableTogether};
 ghost use Rattle.tsa_tree.specs.points.Examples.{PointsAreInOrder};
 ghost use Rattle.tsa_tree.specs.units.Examples.{UnitsAreRead};
 ghost use Rattle.tsa_tree.specs.units.Names.{NamesStandApart};
@@ -166,6 +166,15 @@ pub fn units_have_an_answer()
 #[tactic(auto, using(crate::proofs::units::Read::well_read_sound))]
 pub fn what_is_well_read_is_sound()
     ensures { WellReadIsSound }
+{}
+
+/// What is sound can be spelled whatever is the name of a type, and so can what is well read, and the items of several
+/// texts as one list.
+#[tactic(auto, using(crate::proofs::units::MoreWords::sound_is_spellable, crate::proofs::units::MoreWords::well_read_spellable, crate::proofs::units::MoreWords::spellable_together))]
+pub fn what_is_sound_can_be_spelled()
+    ensures sound { SoundIsSpellable }
+    ensures well_read { WellReadIsSpellable }
+    ensures together { SpellableTogether }
 {}
 
 /// No two names that a unit declares or uses begin at the same byte of the text that it is read from.

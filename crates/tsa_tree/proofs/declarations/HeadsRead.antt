@@ -15,7 +15,7 @@ use Rattle.tsa_tree.specs.declarations.ItemSpelling.{of_name_and_value, IsConsta
 use Rattle.tsa_tree.specs.declarations.ItemSpelling.{of_further_constant, IsEnumBody, of_enum_body}
 use Rattle.tsa_tree.specs.tokens.Signs.{Aliases, sign_at, is_void, is_close}
 use Rattle.tsa_tree.specs.tokens.Signs as signs
-use Rattle.tsa_tree.specs.expressions.Sound.{is_name}
+use Rattle.tsa_tree.specs.expressions.Sound.{words_beside, is_name}
 use Rattle.tsa_tree.specs.declarations.Sound.{SoundParameter, SoundEachParameter, SoundParameters, is_bare_void, is_lone_void, SoundHead}
 use Rattle.tsa_tree.specs.declarations.Sound.{SoundConstant, SoundEachConstant, SoundConstants}
 use Rattle.tsa_tree.specs.units.Sound.{SoundTag, SoundTags}
@@ -85,22 +85,22 @@ module _ (aliases : Aliases) (tokens : List Lexeme) where
   no_lone_void (of_further_parameter h e (of_further_parameter k f l)) lone close = refl
 
 module _ (aliases : Aliases) (tokens : List Lexeme) (real : AreTokensOfKinds tokens) where
-  parameter_sound : {x : Parameter} {a b : ℕ} → IsParameter tokens aliases x a b → SoundParameter aliases x
+  parameter_sound : {x : Parameter} {a b : ℕ} → IsParameter tokens aliases x a b → SoundParameter (words_beside aliases) x
   parameter_sound (of_named {n = n} t s e) =
       ((specifier_sound aliases tokens real t, star_sound aliases tokens real s), refl, name_at aliases tokens real n e)
   parameter_sound (of_unnamed t s) = ((specifier_sound aliases tokens real t, star_sound aliases tokens real s), refl, tt)
 
-  each_parameter_sound : {xs : List Parameter} {a b : ℕ} → IsParameterList tokens aliases xs a b → SoundEachParameter aliases xs
+  each_parameter_sound : {xs : List Parameter} {a b : ℕ} → IsParameterList tokens aliases xs a b → SoundEachParameter (words_beside aliases) xs
   each_parameter_sound (of_last_parameter h) = (parameter_sound h, tt)
   each_parameter_sound (of_further_parameter h e k) = (parameter_sound h, each_parameter_sound k)
 
   parameters_sound : {xs : List Parameter} {a b : ℕ} → IsParameters tokens aliases xs a b → sign_at tokens aliases b ≡ sign.Close
-      → SoundParameters aliases xs
+      → SoundParameters (words_beside aliases) xs
   parameters_sound no_parameter close = (tt, refl)
   parameters_sound (of_lone_void e) close = (tt, refl)
   parameters_sound (of_parameters lone h) close = (each_parameter_sound h, no_lone_void aliases tokens h lone close)
 
-  pub head_sound : {h : Head} {a b : ℕ} → IsHead tokens aliases all h a b → SoundHead aliases h
+  pub head_sound : {h : Head} {a b : ℕ} → IsHead tokens aliases all h a b → SoundHead (words_beside aliases) h
   head_sound (of_head w t c (of_signature o f ps e xs)) =
       let told = declarator_sound aliases tokens real c in
       ((specifier_sound aliases tokens real t, told.0), refl, told.1, parameters_sound ps e, attributes_sound aliases tokens real xs)
@@ -110,23 +110,23 @@ module _ (aliases : Aliases) (tokens : List Lexeme) (real : AreTokensOfKinds tok
   tag_sound (of_tag {a = a} e) = tag_at aliases tokens real a e
 
   pub tags_sound : {tag : Option Identifier} {a b : ℕ} (name : Identifier) → IsTag tokens aliases tag a b → is_name aliases name.text ≡ true
-      → SoundTags aliases tag (Some name)
+      → SoundTags (words_beside aliases) tag (Some name)
   tags_sound name no_tag n = (tt, n)
   tags_sound name (of_tag {a = a} e) n = (tag_at aliases tokens real a e, n)
 
-  constant_sound : {x : EnumConstant} {a b : ℕ} → IsConstant tokens aliases all x a b → SoundConstant aliases x
+  constant_sound : {x : EnumConstant} {a b : ℕ} → IsConstant tokens aliases all x a b → SoundConstant (words_beside aliases) x
   constant_sound (of_name_alone {a = a} n) = (name_at aliases tokens real a n, tt)
   constant_sound (of_name_and_value {a = a} n e h) = (name_at aliases tokens real a n, expression_sound aliases tokens real h)
 
-  each_constant_sound : {xs : List EnumConstant} {a b : ℕ} → IsConstants tokens aliases all xs a b → SoundEachConstant aliases xs
+  each_constant_sound : {xs : List EnumConstant} {a b : ℕ} → IsConstants tokens aliases all xs a b → SoundEachConstant (words_beside aliases) xs
   each_constant_sound (of_last_constant h) = (constant_sound h, tt)
   each_constant_sound (of_constant_and_comma h e) = (constant_sound h, tt)
   each_constant_sound (of_further_constant h e k) = (constant_sound h, each_constant_sound k)
 
-  some_constant : {xs : List EnumConstant} {a b : ℕ} → IsConstants tokens aliases all xs a b → SoundEachConstant aliases xs → SoundConstants aliases xs
+  some_constant : {xs : List EnumConstant} {a b : ℕ} → IsConstants tokens aliases all xs a b → SoundEachConstant (words_beside aliases) xs → SoundConstants (words_beside aliases) xs
   some_constant (of_last_constant h) each = each
   some_constant (of_constant_and_comma h e) each = each
   some_constant (of_further_constant h e k) each = each
 
-  pub constants_sound : {xs : List EnumConstant} {a b : ℕ} → IsEnumBody tokens aliases all xs a b → SoundConstants aliases xs
+  pub constants_sound : {xs : List EnumConstant} {a b : ℕ} → IsEnumBody tokens aliases all xs a b → SoundConstants (words_beside aliases) xs
   constants_sound (of_enum_body o f h c) = some_constant h (each_constant_sound h)

@@ -9,6 +9,7 @@ use Rattle.tsa_tree.specs.tokens.Signs.{Aliases, identifier_at}
 use Rattle.tsa_tree.specs.units.Syntax.{UnitItem, global_item, names_of_item, names_of}
 use Rattle.tsa_tree.specs.units.Answers.{Spells}
 use Rattle.tsa_tree.specs.units.Shapes.{item_shapes}
+use Rattle.tsa_tree.specs.expressions.Sound.{words_beside}
 use Rattle.tsa_tree.specs.units.SoundLaw.{WellReadIsSound}
 use Rattle.tsa_tree.specs.units.Spelling.{IsItems, no_items, of_items}
 use Rattle.tsa_tree.specs.units.Sound.{SoundItems}
@@ -30,7 +31,7 @@ items_append aliases (x ∷ xs) ys h k = (
 )
 
 -- globals give no names of types
-globals_as_items : (aliases : Aliases) (xs : List Declaration) → SoundGlobals aliases xs → SoundItems aliases (map global_item xs)
+globals_as_items : (aliases : Aliases) (xs : List Declaration) → SoundGlobals (words_beside aliases) xs → SoundItems aliases (map global_item xs)
 globals_as_items aliases [] h = tt
 globals_as_items aliases (x ∷ xs) h =
     (h.0, subst (λ names. SoundItems names (map global_item xs)) (sym (append-nil aliases)) (globals_as_items aliases xs h.1))

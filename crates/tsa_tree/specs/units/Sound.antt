@@ -3,7 +3,7 @@ use Rattle.std.specs.Prelude.{◌≡◌, List, [], ◌∷◌, ◌++◌, true, So
 use Rattle.std.specs.declared.option.Option.{Option}
 use Rattle.tsa_tree.specs.attributes.Sound.{SoundAttributes}
 use Rattle.tsa_tree.specs.declarations.Sound.{SoundType, SoundMembers, SoundGlobal, SoundName, SoundHead, SoundConstants}
-use Rattle.tsa_tree.specs.expressions.Sound.{is_name, is_tag_name}
+use Rattle.tsa_tree.specs.expressions.Sound.{Words, words_beside, all_words, is_tag_name}
 use Rattle.tsa_tree.specs.expressions.Syntax.{Identifier}
 use Rattle.tsa_tree.specs.statements.Sound.{SoundStatements}
 use Rattle.tsa_tree.specs.tokens.Signs.{Aliases}
@@ -15,22 +15,31 @@ SoundTag None = Unit {0}
 SoundTag (Some tag) = is_tag_name tag.text ≡ true
 
 -- a struct without an alias has a tag
-abbrev pub SoundTags : Aliases → (tag alias : Option Identifier) → Type 0
-SoundTags aliases None None = ⊥
-SoundTags aliases tag alias = SoundTag tag × SoundName aliases alias
+abbrev pub SoundTags : Words → (tag alias : Option Identifier) → Type 0
+SoundTags words None None = ⊥
+SoundTags words tag alias = SoundTag tag × SoundName words alias
 
-abbrev pub SoundItem : Aliases → UnitItem → Type 0
-SoundItem aliases (structure_item tag other attrs members span) =
-    SoundTags aliases tag other × SoundAttributes aliases attrs × SoundMembers aliases members
-SoundItem aliases (alias_item name ctype span) =
-    SoundType aliases ctype × (ctype.length ≡ None) × (is_name aliases name.text ≡ true)
-SoundItem aliases (enumeration_item tag other values span) =
-    SoundTag tag × SoundName aliases other × SoundConstants aliases values
-SoundItem aliases (global_item d) = SoundGlobal aliases d
-SoundItem aliases (function_item head) = SoundHead aliases head
-SoundItem aliases (body_item head body close) = SoundHead aliases head × SoundStatements aliases body
+abbrev pub SoundItem : Words → UnitItem → Type 0
+SoundItem words (structure_item tag other attrs members span) =
+    SoundTags words tag other × SoundAttributes words attrs × SoundMembers words members
+SoundItem words (alias_item name ctype span) =
+    SoundType words ctype × (ctype.length ≡ None) × (words.things name.text ≡ true)
+SoundItem words (enumeration_item tag other values span) =
+    SoundTag tag × SoundName words other × SoundConstants words values
+SoundItem words (global_item d) = SoundGlobal words d
+SoundItem words (function_item head) = SoundHead words head
+SoundItem words (body_item head body close) = SoundHead words head × SoundStatements words body
 
 -- a name of a type is known from the item after its own one on
 abbrev pub SoundItems : Aliases → List UnitItem → Type 0
 SoundItems aliases [] = Unit {0}
-SoundItems aliases (item ∷ items) = SoundItem aliases item × SoundItems (aliases ++ names_of_item item) items
+SoundItems aliases (item ∷ items) = SoundItem (words_beside aliases) item × SoundItems (aliases ++ names_of_item item) items
+
+-- Of one text that is what is read. Of several texts as one list of items it fails where a thing of one bears the name of a type of
+-- another; what follows doesn't, and is all that the laws of a unit ask of its text.
+abbrev pub SpellableItem : UnitItem → Type 0
+SpellableItem item = SoundItem all_words item
+
+abbrev pub SpellableItems : List UnitItem → Type 0
+SpellableItems [] = Unit {0}
+SpellableItems (item ∷ items) = SpellableItem item × SpellableItems items
