@@ -12,10 +12,9 @@ use Rattle.tsa_tree.specs.declared.kind.ThingType.{ThingType}
 use Rattle.tsa_tree.specs.declared.meaning.Entry.{Entry}
 use Rattle.tsa_tree.specs.declared.meaning.Meaning.{Meaning}
 use Rattle.tsa_tree.specs.declared.meaning.Meaning.TheVariants as meant
-use Rattle.tsa_tree.specs.expressions.Sound.{is_sound, are_sound}
+use Rattle.tsa_tree.specs.expressions.Sound.{Words, is_sound, are_sound}
 use Rattle.tsa_tree.specs.expressions.Syntax.{Identifier, Expression, Arguments, number, null, named, call, unary, binary, field, index}
 use Rattle.tsa_tree.specs.expressions.Syntax.{none, more}
-use Rattle.tsa_tree.specs.tokens.Signs.{Aliases}
 use Rattle.tsa_tree.specs.types.Constants.{constant_of}
 use Rattle.tsa_tree.specs.types.Expressions.{type_of, types_of, unless, both, known_and, breaks_call, miscounts, arguments_break, all_typed}
 use Rattle.tsa_tree.specs.types.Expressions.{result_type}
@@ -110,12 +109,12 @@ call_whole (binary o left right span) h = never (sym h)
 call_whole (field base name arrow span) h = never (sym h)
 call_whole (index base at span) h = never (sym h)
 
-module _ (here : Scope) (l : Layout) (locals : ℕ → Option Kind) (sig : Signatures) (aliases : Aliases) (bel : (given : Option Kind) → Belongs here (at_point l locals given))
+module _ (here : Scope) (l : Layout) (locals : ℕ → Option Kind) (sig : Signatures) (words : Words) (bel : (given : Option Kind) → Belongs here (at_point l locals given))
     (fit : CallsFit sig here) where
   abbrev pub quiet : Setting
   quiet = at_point l locals None
 
-  args_serve : (params : List ThingType) (args : Arguments) → have_call args ≡ false → are_sound aliases args ≡ true
+  args_serve : (params : List ThingType) (args : Arguments) → have_call args ≡ false → are_sound words args ≡ true
       → arguments_break params (types_of (context_of here) args) ≡ false → nat_eq (length params) (length (types_of (context_of here) args)) ≡ true
       → all_typed (types_of (context_of here) args) ≡ true → ArgsServe quiet (map (λ p. p.kind) params) (arguments here params args)
   unfolding types_of arguments
@@ -124,12 +123,12 @@ module _ (here : Scope) (l : Layout) (locals : ℕ → Option Kind) (sig : Signa
   args_serve [] (more e rest) free sound goes count all = none_is_more (length (types_of (context_of here) rest)) count
   args_serve (p ∷ params) (more e rest) free sound goes count all =
       by (type_of (context_of here) e) refl goes all
-      (λ g a. args_serve params rest (neither (has_call e) (have_call rest) free).1 (both_true (is_sound aliases e) (are_sound aliases rest) sound).1 g (one_less (length params) (length (types_of (context_of here) rest)) count) a)
+      (λ g a. args_serve params rest (neither (has_call e) (have_call rest) free).1 (both_true (is_sound words e) (are_sound words rest) sound).1 g (one_less (length params) (length (types_of (context_of here) rest)) count) a)
     where
       first : (t : ExpressionType) → type_of (context_of here) e ≡ Some t → goes_to t p ≡ true → Serves quiet (as_kind p.kind (meaning here e)) p.kind
       first t is go =
           (goes_served quiet (meaning here e)
-          (holds here quiet (bel None) aliases e (both_true (is_sound aliases e) (are_sound aliases rest) sound).0
+          (holds here quiet (bel None) words e (both_true (is_sound words e) (are_sound words rest) sound).0
           (free_gives here quiet e (neither (has_call e) (have_call rest) free).0) t is)
           p (subst (λ x. goes_to x p ≡ true) (sym (terms_have_types here e t is)) go)).1.1
 
@@ -155,7 +154,7 @@ module _ (here : Scope) (l : Layout) (locals : ℕ → Option Kind) (sig : Signa
       → call_of here args (known_in here callee.text) ≡ Some (record { function = c.n; args = arguments here (params_in here c.n) args })
   called_is callee args t c = ap (call_of here args) c.known
 
-  pub call_holding : (callee : Identifier) (args : Arguments) (span : Span) (t : ExpressionType) → is_sound aliases (call callee args span) ≡ true → have_call args ≡ false
+  pub call_holding : (callee : Identifier) (args : Arguments) (span : Span) (t : ExpressionType) → is_sound words (call callee args span) ≡ true → have_call args ≡ false
       → type_of (context_of here) (call callee args span) ≡ Some t → Holding (call callee args span)
   unfolding call_in
   call_holding callee args span t sound free is =
@@ -163,7 +162,7 @@ module _ (here : Scope) (l : Layout) (locals : ℕ → Option Kind) (sig : Signa
       let f = fit callee.text (record { meaning = meant.Function c.n; thing = c.thing }) c.n c.known refl in
       subst (CallHolds sig quiet) (sym (called_is callee args t c)) (
         map (λ p. p.kind) (params_in here c.n),
-        (f.1, args_serve (params_in here c.n) args free (both_true _ (are_sound aliases args) sound).1 c.goes c.count c.all),
+        (f.1, args_serve (params_in here c.n) args free (both_true _ (are_sound words args) sound).1 c.goes c.count c.all),
       )
 
   call_gives : (callee : Identifier) (args : Arguments) (span : Span) (t : ExpressionType) → type_of (context_of here) (call callee args span) ≡ Some t
@@ -178,7 +177,7 @@ module _ (here : Scope) (l : Layout) (locals : ℕ → Option Kind) (sig : Signa
   free_holding : (e : Expression) → has_call e ≡ false → Holding e
   free_holding e free = subst (CallHolds sig quiet) (sym (no_call here e free)) tt
 
-  pub whole_holding : (e : Expression) (t : ExpressionType) → is_sound aliases e ≡ true → is_whole e ≡ true → type_of (context_of here) e ≡ Some t → Holding e
+  pub whole_holding : (e : Expression) (t : ExpressionType) → is_sound words e ≡ true → is_whole e ≡ true → type_of (context_of here) e ≡ Some t → Holding e
   whole_holding (call callee args span) t sound whole is = call_holding callee args span t sound (not_true (have_call args) whole) is
   whole_holding (number n u span) t sound whole is = free_holding (number n u span) refl
   whole_holding (null span) t sound whole is = free_holding (null span) refl
@@ -203,7 +202,7 @@ module _ (here : Scope) (l : Layout) (locals : ℕ → Option Kind) (sig : Signa
   abbrev pub Good : Expression → Type 0
   Good e = Holding e × Gives e
 
-  pub whole_good : (e : Expression) (t : ExpressionType) → is_sound aliases e ≡ true → is_whole e ≡ true → type_of (context_of here) e ≡ Some t → is_small t.thing ≡ true → Good e
+  pub whole_good : (e : Expression) (t : ExpressionType) → is_sound words e ≡ true → is_whole e ≡ true → type_of (context_of here) e ≡ Some t → is_small t.thing ≡ true → Good e
   whole_good e t sound whole is small = (whole_holding e t sound whole is, whole_gives e t whole is (λ z. small))
 
   or_none : (c : Option Call) → or_call c None ≡ c
@@ -226,7 +225,7 @@ module _ (here : Scope) (l : Layout) (locals : ℕ → Option Kind) (sig : Signa
       let same : or_call (call_in here left) (call_in here right) ≡ call_in here right = ap (λ c. or_call c (call_in here right)) (no_call here left free) in
       (subst (CallHolds sig quiet) (sym same) good.0, λ k answer. (free_gives here k left free, good.1 k (answer ∙ ap (answer_of sig) same)))
 
-  comparison_good : (left right : Expression) (a b : ExpressionType) → is_sound aliases left ≡ true → is_sound aliases right ≡ true
+  comparison_good : (left right : Expression) (a b : ExpressionType) → is_sound words left ≡ true → is_sound words right ≡ true
       → type_of (context_of here) left ≡ Some a → type_of (context_of here) right ≡ Some b → is_scalar a ≡ true → is_scalar b ≡ true
       → is_comparison (context_of here) left right ≡ true → GoodBoth left right
   comparison_good left right a b sound_left sound_right is_left is_right scalar_left scalar_right h =
@@ -244,7 +243,7 @@ module _ (here : Scope) (l : Layout) (locals : ℕ → Option Kind) (sig : Signa
   -- what a comparison's sides are
   compared_sides : (o : BinaryOp) (left right : Expression) (t : ExpressionType) → ((a b : Option ExpressionType) → breaks_binary o a b ≡ breaks_comparison a b)
       → unless (breaks_binary o (type_of (context_of here) left) (type_of (context_of here) right)) (both (binary_type o) (type_of (context_of here) left) (type_of (context_of here) right)) ≡ Some t
-      → is_sound aliases left ≡ true → is_sound aliases right ≡ true → is_comparison (context_of here) left right ≡ true → GoodBoth left right
+      → is_sound words left ≡ true → is_sound words right ≡ true → is_comparison (context_of here) left right ≡ true → GoodBoth left right
   compared_sides o left right t rule is sound_left sound_right h =
       let x = type_of (context_of here) left in
       let y = type_of (context_of here) right in
@@ -256,7 +255,7 @@ module _ (here : Scope) (l : Layout) (locals : ℕ → Option Kind) (sig : Signa
       let scalars = neither (not (is_scalar a)) (not (is_scalar b)) (neither (not (is_scalar a) || not (is_scalar b)) (not (comparable a b)) breaks).0 in
       comparison_good left right a b sound_left sound_right parts.1.0.1 parts.1.1.1 (not_false (is_scalar a) scalars.0) (not_false (is_scalar b) scalars.1) h
 
-  not_good : (inner : Expression) (span : Span) (t : ExpressionType) → is_sound aliases inner ≡ true → is_whole inner ≡ true
+  not_good : (inner : Expression) (span : Span) (t : ExpressionType) → is_sound words inner ≡ true → is_whole inner ≡ true
       → unless (breaks_prefix prefix.Not (type_of (context_of here) inner)) (option_map (prefix_type prefix.Not) (type_of (context_of here) inner)) ≡ Some t → Good inner
   not_good inner span t sound whole is =
       let x = type_of (context_of here) inner in
@@ -264,13 +263,13 @@ module _ (here : Scope) (l : Layout) (locals : ℕ → Option Kind) (sig : Signa
       let scalar : breaks_prefix prefix.Not (Some parts.1.0) ≡ false = subst (λ y. breaks_prefix prefix.Not y ≡ false) parts.1.1 parts.0 in
       whole_good inner parts.1.0 sound whole parts.1.1 (small_scalar parts.1.0 (not_false (is_scalar parts.1.0) scalar))
 
-  pub condition_good : (e : Expression) (t : ExpressionType) → is_sound aliases e ≡ true → is_condition (context_of here) e ≡ true → type_of (context_of here) e ≡ Some t → is_scalar t ≡ true → Good e
+  pub condition_good : (e : Expression) (t : ExpressionType) → is_sound words e ≡ true → is_condition (context_of here) e ≡ true → type_of (context_of here) e ≡ Some t → is_scalar t ≡ true → Good e
   unfolding type_of call_in
   condition_good (unary prefix.Not inner span) t sound h is scalar = not_good inner span t sound h is
   condition_good (binary op.Equal left right span) t sound h is scalar =
-      let s = both_true (is_sound aliases left) (is_sound aliases right) sound in compared_sides op.Equal left right t (λ a b. refl) is s.0 s.1 h
+      let s = both_true (is_sound words left) (is_sound words right) sound in compared_sides op.Equal left right t (λ a b. refl) is s.0 s.1 h
   condition_good (binary op.Unequal left right span) t sound h is scalar =
-      let s = both_true (is_sound aliases left) (is_sound aliases right) sound in compared_sides op.Unequal left right t (λ a b. refl) is s.0 s.1 h
+      let s = both_true (is_sound words left) (is_sound words right) sound in compared_sides op.Unequal left right t (λ a b. refl) is s.0 s.1 h
   condition_good (unary prefix.Minus inner span) t sound h is scalar = whole_good (unary prefix.Minus inner span) t sound h is (small_scalar t scalar)
   condition_good (unary prefix.Flip inner span) t sound h is scalar = whole_good (unary prefix.Flip inner span) t sound h is (small_scalar t scalar)
   condition_good (unary prefix.Address inner span) t sound h is scalar = whole_good (unary prefix.Address inner span) t sound h is (small_scalar t scalar)

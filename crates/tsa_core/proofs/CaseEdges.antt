@@ -10,7 +10,7 @@ use Rattle.tsa_tree.specs.points.Syntax.{points_of_init, points_of_step}
 use Rattle.tsa_tree.specs.statements.Sound.{SoundStatement, SoundStatements}
 use Rattle.tsa_tree.specs.statements.Syntax.{Statement, block, empty, local, simple, if_alone, if_else, while_loop, do_loop, for_loop}
 use Rattle.tsa_tree.specs.statements.Syntax.{switch, case, otherwise, label, break, continue, goto, return, Statements, none, more}
-use Rattle.tsa_tree.specs.tokens.Signs.{Aliases}
+use Rattle.tsa_tree.specs.expressions.Sound.{Words}
 use Rattle.tsa_tree.specs.types.Arithmetic.{is_nonzero}
 use Rattle.tsa_tree.specs.types.DeclaredTypes.{value_in}
 use Rattle.tsa_tree.specs.types.Expressions.{type_of, premises_of}
@@ -135,11 +135,11 @@ test_part : (here : Scope) (test : Expression) (at high yes_to no_to : ℕ) → 
 test_part here test at high yes_to no_to less =
     let v = value_in (context_of here) test in ((test_follows v at high yes_to no_to less).0, test_differs v at yes_to no_to)
 
-module _ (aliases : Aliases) where
+module _ (words : Words) where
   mutual
     unfolding edges edges_all statement_premises statements_premises
 
-    differs : (a : Around) (b : Bool) (here : Scope) (s : Statement) (at high follow : ℕ) (t : Targets) → at + count s ≡ high → SoundStatement aliases b s
+    differs : (a : Around) (b : Bool) (here : Scope) (s : Statement) (at high follow : ℕ) (t : Targets) → at + count s ≡ high → SoundStatement words b s
         → told.first (statement_premises a here s) ≡ None → CasesStandApart s → Part at high (edges here s at follow t)
     differs a b here (block items span) at high follow t n sound h apart = all_differ a here items at high follow t n sound h apart
     differs a b here (empty span) at high follow t n sound h apart = next at high follow (omega (arith, n))
@@ -198,7 +198,7 @@ module _ (aliases : Aliases) where
         let cs = cases here body (suc at) follow in
         join at (suc at) high (switch_edges cs at follow) (edges here body (suc at) follow (in_switch follow t)) (omega arith) (omega (arith, n)) (
           (switch_follows cs at (suc at) follow (omega arith)).0,
-          cases_differ at (has_default cs) follow cs (switch_apart here aliases inner false body (suc at) follow refl refl sound.1 p.1 apart.0),
+          cases_differ at (has_default cs) follow cs (switch_apart here words inner false body (suc at) follow refl refl sound.1 p.1 apart.0),
         )
         (differs inner false here body (suc at) high follow (in_switch follow t) (omega (arith, n)) sound.1 p.1 apart.1)
     differs a b here (case key body span) at high follow t n sound h apart =
@@ -212,7 +212,7 @@ module _ (aliases : Aliases) where
     differs a b here (goto name span) at high follow t n sound h apart = next at high (label_at t name.text follow) (omega (arith, n))
     differs a b here (return given span) at high follow t n sound h apart = (All-nil (Between at high), tt)
 
-    pub all_differ : (a : Around) (here : Scope) (ss : Statements) (at high follow : ℕ) (t : Targets) → at + count_all ss ≡ high → SoundStatements aliases ss
+    pub all_differ : (a : Around) (here : Scope) (ss : Statements) (at high follow : ℕ) (t : Targets) → at + count_all ss ≡ high → SoundStatements words ss
         → told.first (statements_premises a here ss) ≡ None → AllStandApart ss → Part at high (edges_all here ss at follow t)
     all_differ a here none at high follow t n sound h apart = (All-nil (Between at high), tt)
     all_differ a here (more s ss) at high follow t n sound h apart =

@@ -13,9 +13,8 @@ use Rattle.tsa_tree.specs.declared.number.Number.{Number}
 use Rattle.tsa_tree.specs.declared.number.Number.TheVariants as numeral
 use Rattle.tsa_tree.specs.declared.number.Trap.{Trap}
 use Rattle.tsa_tree.specs.declared.number.Trap.TheVariants.{Overflow}
-use Rattle.tsa_tree.specs.expressions.Sound.{is_sound, is_value}
+use Rattle.tsa_tree.specs.expressions.Sound.{Words, is_sound, is_value}
 use Rattle.tsa_tree.specs.expressions.Syntax.{Expression, number, null, named, call, unary, binary, field, index}
-use Rattle.tsa_tree.specs.tokens.Signs.{Aliases}
 use Rattle.tsa_tree.specs.types.Arithmetic.{exactly, truth, unsigned_of, int_of, is_nonzero, is_int, on_int, on_unsigned, operate}
 use Rattle.tsa_tree.specs.types.Arithmetic.{operate_prefix, divided}
 use Rattle.tsa_tree.specs.types.Constants.{enumerator, number_value, named_value, go_on, as_truth, worked, worked_binary, without_trap}
@@ -148,28 +147,28 @@ binary_fits op.Times r s h g = goes_on r _ h (λ n k. goes_on s _ g (λ m l. ope
 binary_fits op.Divide r s h g = goes_on r _ h (λ n k. goes_on s _ g (λ m l. operated_fits op.Divide n m k l))
 binary_fits op.Remainder r s h g = goes_on r _ h (λ n k. goes_on s _ g (λ m l. operated_fits op.Remainder n m k l))
 
-worked_fits : (c : Context) (aliases : Aliases) (e : Expression) → is_sound aliases e ≡ true → Fits (worked c e)
-worked_fits c aliases (number n u span) h = literal_fits n u h
-worked_fits c aliases (named name span) h = named_fits (enumerator (c.known name.text))
-worked_fits c aliases (unary o inner span) h = goes_on (worked c inner) (operate_prefix o) (worked_fits c aliases inner h) (prefix_fits o)
-worked_fits c aliases (binary o left right span) h =
-    let both = both_true (is_sound aliases left) (is_sound aliases right) h in
-    binary_fits o (worked c left) (worked c right) (worked_fits c aliases left both.0) (worked_fits c aliases right both.1)
-worked_fits c aliases (null span) h = tt
-worked_fits c aliases (call callee args span) h = tt
-worked_fits c aliases (field base name arrow span) h = tt
-worked_fits c aliases (index base at span) h = tt
+worked_fits : (c : Context) (words : Words) (e : Expression) → is_sound words e ≡ true → Fits (worked c e)
+worked_fits c words (number n u span) h = literal_fits n u h
+worked_fits c words (named name span) h = named_fits (enumerator (c.known name.text))
+worked_fits c words (unary o inner span) h = goes_on (worked c inner) (operate_prefix o) (worked_fits c words inner h) (prefix_fits o)
+worked_fits c words (binary o left right span) h =
+    let both = both_true (is_sound words left) (is_sound words right) h in
+    binary_fits o (worked c left) (worked c right) (worked_fits c words left both.0) (worked_fits c words right both.1)
+worked_fits c words (null span) h = tt
+worked_fits c words (call callee args span) h = tt
+worked_fits c words (field base name arrow span) h = tt
+worked_fits c words (index base at span) h = tt
 
-pub value_fits : (c : Context) (aliases : Aliases) (e : Expression) (n : Number) → is_sound aliases e ≡ true → value_in c e ≡ Some n → InRange n
+pub value_fits : (c : Context) (words : Words) (e : Expression) (n : Number) → is_sound words e ≡ true → value_in c e ≡ Some n → InRange n
 unfolding constant_of
-value_fits c aliases e n sound is = typed (type_of c e) is
+value_fits c words e n sound is = typed (type_of c e) is
   where
     result : (r : Result Number Trap) → Fits r → without_trap r ≡ Some n → InRange n
     result (Ok m) h e = subst InRange (some_same e) h
     result (Err trap) h e = cc
 
     made : (b : Bool) → (if b then without_trap (worked c e) else None) ≡ Some n → InRange n
-    made true h = result (worked c e) (worked_fits c aliases e sound) h
+    made true h = result (worked c e) (worked_fits c words e sound) h
     made false h = cc
 
     typed : (o : Option ExpressionType) → typed_value o (constant_of c e) ≡ Some n → InRange n

@@ -1,6 +1,7 @@
 -- No switch of a body of a typed unit has a value twice.
 use Rattle.std.proofs.Common.{◌≡◌, ℕ, ◌+◌, Bool, true, false, List, [], ◌∷◌, Option, Some, None, refl, subst}
 use Rattle.std.specs.Str.{bytes_eq}
+use Rattle.tsa_tree.specs.expressions.Sound.{all_words}
 use Rattle.tsa_tree.specs.types.Heads.{head_premises, inside}
 use Rattle.tsa_tree.specs.types.Premises.{first}
 use Rattle.tsa_tree.specs.types.Scopes.{Scope}
@@ -9,7 +10,7 @@ use Rattle.tsa_tree.specs.types.Units.{outset, around_body, body_premises, item_
 use Rattle.tsa_tree.specs.units.Syntax.{UnitItem, structure_item, alias_item, enumeration_item, global_item, function_item, body_item}
 use Rattle.tsa_core.proofs.CaseEdges.{all_differ}
 use Rattle.tsa_core.proofs.NoFailure.{none_of_both}
-use Rattle.tsa_core.proofs.SignaturesFit.{body_sound}
+use Rattle.tsa_core.proofs.SignaturesFit.{body_spellable}
 use Rattle.tsa_core.proofs.TypedTerms.{some_same}
 use Rattle.tsa_core.specs.CaseLaws.{CasesDiffer}
 use Rattle.tsa_core.specs.Control.{count_all, body_targets}
@@ -51,6 +52,6 @@ module _ (name : List ℕ) (b : Bodied) where
 
 pub cases_differ : CasesDiffer
 cases_differ items name b sound typed is apart =
-    let text = body_sound name b [] (outset items) items sound is in
+    let text = body_spellable name b (outset items) items sound is in
     let told = body_typed name b (outset items) items typed is in
-    (all_differ text.aliases told.around b.here b.body 0 (0 + count_all b.body) (count_all b.body) (body_targets b.body) refl text.sound told.typed apart).1
+    (all_differ all_words told.around b.here b.body 0 (0 + count_all b.body) (count_all b.body) (body_targets b.body) refl text told.typed apart).1

@@ -29,7 +29,7 @@ use Rattle.tsa_tree.proofs.declarations.NodesClimb.{climbs-local, climbs-locals}
 use Rattle.tsa_tree.proofs.expressions.TokenCounts.{ahead-expression, ahead-unary}
 use Rattle.tsa_tree.proofs.tokens.Climbing.{climbs-ends}
 use Rattle.tsa_tree.proofs.tokens.Places.{AreInOrder, in_order}
-use Rattle.tsa_tree.proofs.units.Read.{well_read_sound}
+use Rattle.tsa_tree.proofs.units.MoreWords.{well_read_spellable}
 use Rattle.tsa_core.proofs.CasesDiffer.{cases_differ}
 use Rattle.tsa_core.proofs.MappedLists.{map_append}
 use Rattle.tsa_core.proofs.TypedTerms.{some_same}
@@ -249,4 +249,4 @@ read_cases_apart items name b read is =
     body_apart name b (outset (item_shapes items)) (item_shapes items) (apart-items order read.spelled) is
 
 pub read_cases_differ : ReadCasesDiffer
-read_cases_differ items name b read typed is = cases_differ (item_shapes items) name b (well_read_sound items read) typed is (read_cases_apart items name b read is)
+read_cases_differ items name b read typed is = cases_differ (item_shapes items) name b (well_read_spellable items read) typed is (read_cases_apart items name b read is)

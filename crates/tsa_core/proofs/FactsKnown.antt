@@ -7,14 +7,13 @@ use Rattle.tsa_tree.specs.declared.kind.ThingType.{ThingType}
 use Rattle.tsa_tree.specs.declared.premise.Bearer.TheVariants as on
 use Rattle.tsa_tree.specs.types.Attributes.{attributes_premises}
 use Rattle.tsa_tree.specs.declared.premise.TypeCode.TheVariants.{TY2, TY3, TY8}
-use Rattle.tsa_tree.specs.expressions.Sound.{SoundExpression, SoundOptional}
+use Rattle.tsa_tree.specs.expressions.Sound.{Words, SoundExpression, SoundOptional}
 use Rattle.tsa_tree.specs.expressions.Syntax.{Expression}
 use Rattle.tsa_tree.specs.points.Syntax.{tests, switches, simple_deed}
 use Rattle.tsa_tree.specs.statements.Sound.{SoundSimple, SoundForInit, SoundForStep, SoundStatement, SoundStatements}
 use Rattle.tsa_tree.specs.statements.Syntax.{Simple, evaluation, assignment, ForInit, no_init, simple_init, local_init, Statement, block}
 use Rattle.tsa_tree.specs.statements.Syntax.{empty, local, simple, if_alone, if_else, while_loop, do_loop, for_loop, switch, case}
 use Rattle.tsa_tree.specs.statements.Syntax.{otherwise, label, break, continue, goto, return, Statements, none, more}
-use Rattle.tsa_tree.specs.tokens.Signs.{Aliases}
 use Rattle.tsa_tree.specs.types.DeclaredTypes.{type_premise, parts_premises, thing_type, resolve}
 use Rattle.tsa_tree.specs.types.Expressions.{type_of, premises_of}
 use Rattle.tsa_tree.specs.types.Locals.{has_type, init_breaks, names_in, local_premises}
@@ -46,31 +45,31 @@ local_new here d h =
     ∷ premise TY3 d.span (has_type (resolve here d.ctype) && init_breaks here (thing_type here d.ctype) d.init)
     ∷ parts_premises here d.ctype ++ (attributes_premises here on.Local d.attrs ++ names_in here d.init)) h).0
 
-module _ (aliases : Aliases) (result : ThingType) where
+module _ (words : Words) (result : ThingType) where
   abbrev pub FactsAt : Known → Type 0
-  FactsAt k = Facts aliases result k.here k.deed
+  FactsAt k = Facts words result k.here k.deed
 
-  simple_facts : (here : Scope) (s : Simple) → first (simple_premises here s) ≡ None → simple_runs s ≡ true → SoundSimple aliases s → Facts aliases result here (simple_deed s)
+  simple_facts : (here : Scope) (s : Simple) → first (simple_premises here s) ≡ None → simple_runs s ≡ true → SoundSimple words s → Facts words result here (simple_deed s)
   simple_facts here (evaluation e span) h runs sound = (h, (runs, sound))
   simple_facts here (assignment left o right span) h runs sound = ((span, h), (runs, sound))
 
-  init_facts : (here : Scope) (init : ForInit) → first (init_premises here init) ≡ None → init_runs here init ≡ true → SoundForInit aliases init → Each FactsAt (known_init here init)
+  init_facts : (here : Scope) (init : ForInit) → first (init_premises here init) ≡ None → init_runs here init ≡ true → SoundForInit words init → Each FactsAt (known_init here init)
   init_facts here no_init h runs sound = tt
   init_facts here (simple_init s) h runs sound = (simple_facts here s h runs sound, tt)
   init_facts here (local_init d) h runs sound = ((h, (runs, sound)), tt)
 
-  step_facts : (here : Scope) (step : Option Simple) → first (step_premises here step) ≡ None → step_runs step ≡ true → SoundForStep aliases step → Each FactsAt (known_step here step)
+  step_facts : (here : Scope) (step : Option Simple) → first (step_premises here step) ≡ None → step_runs step ≡ true → SoundForStep words step → Each FactsAt (known_step here step)
   step_facts here None h runs sound = tt
   step_facts here (Some s) h runs sound = (simple_facts here s h runs sound, tt)
 
-  tested_facts : (here : Scope) (span : Span) (e : Expression) → first (tested_premises (context_of here) is_scalar span e) ≡ None → is_condition (context_of here) e ≡ true → SoundExpression aliases e
-      → Facts aliases result here (tests (Some e))
+  tested_facts : (here : Scope) (span : Span) (e : Expression) → first (tested_premises (context_of here) is_scalar span e) ≡ None → is_condition (context_of here) e ≡ true → SoundExpression words e
+      → Facts words result here (tests (Some e))
   unfolding tested_premises
   tested_facts here span e h runs sound =
       let a = none_of_first TY3 span (lacks is_scalar (type_of (context_of here) e)) (premises_of (context_of here) e) h in (a.0, (a.1, (runs, sound)))
 
-  switch_facts : (here : Scope) (span : Span) (e : Expression) → first (tested_premises (context_of here) is_integer span e) ≡ None → is_free e ≡ true → SoundExpression aliases e
-      → Facts aliases result here (switches e)
+  switch_facts : (here : Scope) (span : Span) (e : Expression) → first (tested_premises (context_of here) is_integer span e) ≡ None → is_free e ≡ true → SoundExpression words e
+      → Facts words result here (switches e)
   unfolding tested_premises
   switch_facts here span e h runs sound =
       let a = none_of_first TY3 span (lacks is_integer (type_of (context_of here) e)) (premises_of (context_of here) e) h in (a.0, (a.1, (runs, sound)))
@@ -81,7 +80,7 @@ module _ (aliases : Aliases) (result : ThingType) where
   not_again here (local_init d) h = local_new here d h
 
   for_tested : (here : Scope) (span : Span) (test : Option Expression) → first (for_test here span test) ≡ None → first (test_premises here test) ≡ None
-      → is_condition_given (context_of here) test ≡ true → SoundOptional aliases test → Facts aliases result here (tests test)
+      → is_condition_given (context_of here) test ≡ true → SoundOptional words test → Facts words result here (tests test)
   for_tested here span None h g runs sound = tt
   for_tested here span (Some e) h g runs sound = ((none_of_first TY3 span (lacks is_scalar (type_of (context_of here) e)) [] h).0, (g, (runs, sound)))
 
@@ -89,7 +88,7 @@ module _ (aliases : Aliases) (result : ThingType) where
     unfolding known known_all statement_runs statements_run statement_premises statements_premises for_premises case_premises default_premises label_premises return_premises
 
     statement_facts : (a : Around) (b : Bool) (here : Scope) (s : Statement) → a.result ≡ result → first (statement_premises a here s) ≡ None → statement_runs here s ≡ true
-        → SoundStatement aliases b s → Each FactsAt (known here s)
+        → SoundStatement words b s → Each FactsAt (known here s)
     statement_facts a b here (block items span) same h runs sound = all_facts a here items same h runs sound
     statement_facts a b here (empty span) same h runs sound = (tt, tt)
     statement_facts a true here (local d) same h runs sound = ((h, (runs, sound)), tt)
@@ -153,7 +152,7 @@ module _ (aliases : Aliases) (result : ThingType) where
         ((subst (λ t. return_breaks (context_of here) t given ≡ false) same p.0, (p.1, (runs, sound))), tt)
 
     pub all_facts : (a : Around) (here : Scope) (ss : Statements) → a.result ≡ result → first (statements_premises a here ss) ≡ None → statements_run here ss ≡ true
-        → SoundStatements aliases ss → Each FactsAt (known_all here ss)
+        → SoundStatements words ss → Each FactsAt (known_all here ss)
     all_facts a here none same h runs sound = tt
     all_facts a here (more s ss) same h runs sound =
         let p = none_of_both (statement_premises a here s) (statements_premises a (behind here s) ss) h in

@@ -8,7 +8,7 @@ use Rattle.tsa_tree.specs.declared.kind.Kind.{Kind}
 use Rattle.tsa_tree.specs.declared.kind.ThingType.{ThingType}
 use Rattle.tsa_tree.specs.expressions.Syntax.{Expression}
 use Rattle.tsa_tree.specs.points.Syntax.{Deed, declares, evaluates, assigns, tests, switches, jumps, idles, returns, ends}
-use Rattle.tsa_tree.specs.tokens.Signs.{Aliases}
+use Rattle.tsa_tree.specs.expressions.Sound.{Words}
 use Rattle.tsa_tree.specs.types.DeclaredTypes.{thing_type}
 use Rattle.tsa_tree.specs.types.Expressions.{type_of, premises_of}
 use Rattle.tsa_tree.specs.types.Locals.{init_breaks, names_in, names_in_init}
@@ -69,7 +69,7 @@ set_value (prefixed u x) o kind r = refl
 set_value (joined b x y) o kind r = refl
 
 -- Where the call of a point loads, its action asks for the answer.
-module _ (here : Scope) (aliases : Aliases) (result : ThingType) (x : Term) where
+module _ (here : Scope) (words : Words) (result : ThingType) (x : Term) where
   abbrev AsksIn : Deed → Type 0
   AsksIn d = Contains (call_loads (point_by here result.kind d).call) x → asks (right_value (point_by here result.kind d).action) ≡ true
 
@@ -86,13 +86,13 @@ module _ (here : Scope) (aliases : Aliases) (result : ThingType) (x : Term) wher
   begins_asked w (Some (list items span)) breaks names whole c = nothing_there x c
   begins_asked w (Some (value e)) breaks names whole c = goes_asked e w names whole breaks c
 
-  declares_asked : (d : Declaration) → Facts aliases result here (declares d) → AsksIn (declares d)
+  declares_asked : (d : Declaration) → Facts words result here (declares d) → AsksIn (declares d)
   declares_asked d f c =
       let told = init_told here d f.0 in
       let w = thing_type here d.ctype in
       begins_asked w d.init told.0 told.1.0 (both_true (is_small w) (is_whole_init d.init) f.1.0).1 c
 
-  side_asked : (left : Expression) (o : Option BinaryOp) (right : Expression) → Facts aliases result here (assigns left o right) → Calls here x right
+  side_asked : (left : Expression) (o : Option BinaryOp) (right : Expression) → Facts words result here (assigns left o right) → Calls here x right
       → asks (right_side o (meaning here left).type.thing.kind (meaning here right)) ≡ true
   side_asked left None right f c =
       let s = set_told here left None right f.0.0 f.0.1 f.1.0 in
@@ -101,7 +101,7 @@ module _ (here : Scope) (aliases : Aliases) (result : ThingType) (x : Term) wher
   side_asked left (Some o) right f c =
       let s = set_told here left (Some o) right f.0.0 f.0.1 f.1.0 in (whole_asks here x right s.u s.whole s.right_typed c).1
 
-  deed_asked : (d : Deed) → Facts aliases result here d → AsksIn d
+  deed_asked : (d : Deed) → Facts words result here d → AsksIn d
   deed_asked (declares d) f c = declares_asked d f c
   deed_asked (evaluates e) f c = let t = keeps_typed (context_of here) e f.0 in (whole_asks here x e t.0 f.1.0 t.1 c).1
   deed_asked (assigns left o right) f c =
@@ -121,7 +121,7 @@ module _ (here : Scope) (aliases : Aliases) (result : ThingType) (x : Term) wher
   abbrev k : Deed → Known
   k d = knows here d
 
-  pub deed_loads_just : (d : Deed) → Facts aliases result here d → LoadsAgree result.kind (k d)
+  pub deed_loads_just : (d : Deed) → Facts words result here d → LoadsAgree result.kind (k d)
       → (LoadedAt (point_of result.kind (k d)) x → Contains (places here (right_cells here d)) x) × (Contains (places here (right_cells here d)) x → LoadedAt (point_of result.kind (k d)) x)
   deed_loads_just d f agrees = (into, back)
     where

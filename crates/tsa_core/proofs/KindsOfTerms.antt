@@ -11,9 +11,8 @@ use Rattle.tsa_tree.specs.declared.meaning.Entry.{Entry}
 use Rattle.tsa_tree.specs.declared.meaning.Meaning.{Meaning}
 use Rattle.tsa_tree.specs.declared.meaning.Meaning.TheVariants as meant
 use Rattle.tsa_tree.specs.declared.number.Number.TheVariants as numeral
-use Rattle.tsa_tree.specs.expressions.Sound.{SoundExpression, is_sound, is_value}
+use Rattle.tsa_tree.specs.expressions.Sound.{Words, SoundExpression, is_sound, is_value}
 use Rattle.tsa_tree.specs.expressions.Syntax.{Expression, number, null, named, call, unary, binary, field, index}
-use Rattle.tsa_tree.specs.tokens.Signs.{Aliases}
 use Rattle.tsa_tree.specs.types.Constants.{number_value}
 use Rattle.tsa_tree.specs.types.Expressions.{type_of, types_of, unless, both, entry_type, const_base, member_type, member_of, number_type}
 use Rattle.tsa_tree.specs.types.Expressions.{owner}
@@ -202,8 +201,8 @@ module _ (here : Scope) (k : Setting) (b : Belongs here k) where
       by true e = never e
       by false e = record { place = λ e. never (sym e); small = λ e. refl; value = λ e f. refl; zero = λ e. refl; there = λ e. refl }
 
-  module _ (aliases : Aliases) where
-    pub holds : (e : Expression) → SoundExpression aliases e → GiveAnswer here k e → (t : ExpressionType) → type_of (context_of here) e ≡ Some t
+  module _ (words : Words) where
+    pub holds : (e : Expression) → SoundExpression words e → GiveAnswer here k e → (t : ExpressionType) → type_of (context_of here) e ≡ Some t
         → Holds k (meaning here e).term (meaning here e).type
     unfolding type_of types_of meaning
     holds (number n u span) sound gives t is = number_holds n u sound
@@ -218,21 +217,21 @@ module _ (here : Scope) (k : Setting) (b : Belongs here k) where
         let l = type_of (context_of here) left in
         let r = type_of (context_of here) right in
         let parts = of_two (binary_type o) (breaks_binary o l r) l r t is in
-        let sounds = both_true (is_sound aliases left) (is_sound aliases right) sound in
+        let sounds = both_true (is_sound words left) (is_sound words right) sound in
         operands_hold k (meaning here left) (meaning here right) (holds left sounds.0 gives.0 parts.1.0.0 parts.1.0.1) (holds right sounds.1 gives.1 parts.1.1.0 parts.1.1.1) o
         (subst (λ y. breaks_binary o (Some (meaning here left).type) y ≡ false) (typed here right parts.1.1.0 parts.1.1.1)
         (subst (λ x. breaks_binary o x r ≡ false) (typed here left parts.1.0.0 parts.1.0.1) parts.0))
     holds (field base name arrow span) sound gives t is =
         let f : ExpressionType → Option ExpressionType = λ x. option_map (member_type arrow x) (member_of (context_of here) arrow name.text x) in
         let parts = of_owner f (lacks (λ x. is_some (owner arrow x)) (type_of (context_of here) base)) (type_of (context_of here) base) t is in
-        field_holds arrow name.text (meaning here base) (holds base (both_true (is_sound aliases base) _ sound).0 gives parts.0 parts.1.0) t
+        field_holds arrow name.text (meaning here base) (holds base (both_true (is_sound words base) _ sound).0 gives parts.0 parts.1.0) t
         (member_of (context_of here) arrow name.text (meaning here base).type) refl
         (subst (λ x. f x ≡ Some t) (sym (terms_have_types here base parts.0 parts.1.0)) parts.1.1)
     holds (index base at span) sound gives t is =
         let l = type_of (context_of here) base in
         let r = type_of (context_of here) at in
         let parts = of_two (λ a i. element_type a) (breaks_index l r) l r t is in
-        let sounds = both_true (is_sound aliases base) (is_sound aliases at) sound in
+        let sounds = both_true (is_sound words base) (is_sound words at) sound in
         index_holds (meaning here base) (meaning here at) (holds base sounds.0 gives.0 parts.1.0.0 parts.1.0.1) (holds at sounds.1 gives.1 parts.1.1.0 parts.1.1.1)
         (subst (λ y. breaks_index (Some (meaning here base).type) y ≡ false) (typed here at parts.1.1.0 parts.1.1.1)
         (subst (λ x. breaks_index x r ≡ false) (typed here base parts.1.0.0 parts.1.0.1) parts.0))
@@ -246,5 +245,5 @@ agrees k x t h = by (is_place x) refl
     by false e = (no_length t.thing.length (not_true (is_some t.thing.length) (both_true (is_scalar_kind t.thing.kind) _ (h.small e)).1), h.value e)
 
 pub terms_have_kinds : TermsHaveTheirKinds
-terms_have_kinds here k aliases e t b sound gives is =
-    subst (Agrees k (meaning here e).term) (terms_have_types here e t is) (agrees k (meaning here e).term (meaning here e).type (holds here k b aliases e sound gives t is))
+terms_have_kinds here k words e t b sound gives is =
+    subst (Agrees k (meaning here e).term) (terms_have_types here e t is) (agrees k (meaning here e).term (meaning here e).type (holds here k b words e sound gives t is))

@@ -12,7 +12,7 @@ use Rattle.tsa_tree.specs.declared.meaning.Meaning.TheVariants as meant
 use Rattle.tsa_tree.specs.expressions.Syntax.{Expression}
 use Rattle.tsa_tree.specs.points.Syntax.{Deed, declares, evaluates, assigns, tests, switches, jumps, idles, returns, ends}
 use Rattle.tsa_tree.specs.statements.Sound.{is_assigning}
-use Rattle.tsa_tree.specs.tokens.Signs.{Aliases}
+use Rattle.tsa_tree.specs.expressions.Sound.{Words}
 use Rattle.tsa_tree.specs.types.DeclaredTypes.{thing_type}
 use Rattle.tsa_tree.specs.types.Expressions.{type_of, premises_of}
 use Rattle.tsa_tree.specs.types.Locals.{init_breaks, names_in, names_in_init}
@@ -118,7 +118,7 @@ module _ (here : Scope) (left : Expression) (o : Option BinaryOp) (kind : Kind) 
       by (inl e) = to_cell e.0 e.1
       by (inr e) = to_local e.0 e.1
 
-module _ (here : Scope) (none_owned : (name : List ℕ) (e : Entry) → known_in here name ≡ Some e → e.meaning ≡ meant.Owned → ⊥) (aliases : Aliases) (result : ThingType) where
+module _ (here : Scope) (none_owned : (name : List ℕ) (e : Entry) → known_in here name ≡ Some e → e.meaning ≡ meant.Owned → ⊥) (words : Words) (result : ThingType) where
   abbrev Agrees : Deed → Type 0
   Agrees d = LoadsAgree result.kind (knows here d)
 
@@ -134,22 +134,22 @@ module _ (here : Scope) (none_owned : (name : List ℕ) (e : Entry) → known_in
       let goes = passes_typed (λ t. goes_to t w) (type_of (context_of here) e) t.0 t.1 lack in
       goes_in here (call_loads (call_in here e)) e (value_loads e t.0 (whole_answers here e t.0 whole t.1) t.1) t.0 w t.1 goes
 
-  evaluated : (e : Expression) → Facts aliases result here (evaluates e) → Agrees (evaluates e)
+  evaluated : (e : Expression) → Facts words result here (evaluates e) → Agrees (evaluates e)
   evaluated e f =
       let t = keeps_typed (context_of here) e f.0 in
       record { right = value_loads e t.0 (whole_answers here e t.0 f.1.0 t.1) t.1; written = refl; inside = refl; before = refl }
 
-  condition_tested : (e : Expression) → Facts aliases result here (tests (Some e)) → Agrees (tests (Some e))
+  condition_tested : (e : Expression) → Facts words result here (tests (Some e)) → Agrees (tests (Some e))
   condition_tested e f =
       let t = keeps_typed (context_of here) e f.1.0 in
       record { right = value_loads e t.0 (condition_answers here e t.0 f.1.1.0 t.1) t.1; written = refl; inside = refl; before = refl }
 
-  switched : (e : Expression) → Facts aliases result here (switches e) → Agrees (switches e)
+  switched : (e : Expression) → Facts words result here (switches e) → Agrees (switches e)
   switched e f =
       let t = keeps_typed (context_of here) e f.1.0 in
       record { right = value_in here [] e (free_loads here [] e (not_true (has_call e) f.1.1.0)) t.0 t.1; written = refl; inside = refl; before = refl }
 
-  returned : (given : Option Expression) → Facts aliases result here (returns given) → Agrees (returns given)
+  returned : (given : Option Expression) → Facts words result here (returns given) → Agrees (returns given)
   returned None f = record { right = refl; written = refl; inside = refl; before = refl }
   returned (Some e) f = record {
     right = goes_loads e result f.1.0 f.1.1.0 (neither (is_void result) (lacks (λ t. goes_to t result) (type_of (context_of here) e)) f.0).1;
@@ -168,7 +168,7 @@ module _ (here : Scope) (none_owned : (name : List ℕ) (e : Entry) → known_in
   begins w (Some (list items span)) breaks names whole = never (sym whole)
   begins w (Some (value e)) breaks names whole = (goes_loads e w names whole breaks, refl, refl, refl)
 
-  declares_loads : (d : Declaration) → Facts aliases result here (declares d) → Agrees (declares d)
+  declares_loads : (d : Declaration) → Facts words result here (declares d) → Agrees (declares d)
   declares_loads d f =
       let told = init_told here d f.0 in
       let w = thing_type here d.ctype in
@@ -199,14 +199,14 @@ module _ (here : Scope) (none_owned : (name : List ℕ) (e : Entry) → known_in
         let e = neither (breaks_binary o (Some a) (Some b)) _ breaks in
         set_loads (Some o) (integer_cell a (left_integer a b o assigning e.0)) (value_loads right u (whole_answers here right u whole g) g)
 
-  assigns_loads : (left : Expression) (o : Option BinaryOp) (right : Expression) → Facts aliases result here (assigns left o right) → Agrees (assigns left o right)
+  assigns_loads : (left : Expression) (o : Option BinaryOp) (right : Expression) → Facts words result here (assigns left o right) → Agrees (assigns left o right)
   assigns_loads left o right f =
       let s = set_told here left o right f.0.0 f.0.1 f.1.0 in
       assigned_loads left right s.t s.u s.left_typed s.right_typed
       (left_holds here none_owned left (both_true (meaning here left).type.is_place (not (meaning here left).type.thing.is_const) s.written).0) s.free
       o f.1.1.1 s.kept s.whole s.breaks
 
-  pub deed_loads : (d : Deed) → Facts aliases result here d → Agrees d
+  pub deed_loads : (d : Deed) → Facts words result here d → Agrees d
   deed_loads (declares d) f = declares_loads d f
   deed_loads (evaluates e) f = evaluated e f
   deed_loads (assigns left o right) f = assigns_loads left o right f

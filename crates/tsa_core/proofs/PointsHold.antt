@@ -10,6 +10,7 @@ use Rattle.tsa_tree.specs.declared.kind.ThingType.{ThingType}
 use Rattle.tsa_tree.specs.declared.meaning.Entry.{Entry}
 use Rattle.tsa_tree.specs.declared.meaning.Meaning.TheVariants as meant
 use Rattle.tsa_tree.specs.points.Syntax.{Deed, declares, evaluates, assigns, tests, switches, jumps, idles, returns, ends}
+use Rattle.tsa_tree.specs.expressions.Sound.{all_words}
 use Rattle.tsa_tree.specs.types.DeclaredTypes.{thing_type}
 use Rattle.tsa_tree.specs.types.Locals.{local_entry}
 use Rattle.tsa_tree.specs.types.Scopes.{Scope, found, further, with_name}
@@ -30,7 +31,7 @@ use Rattle.tsa_core.proofs.DeedsHold.{IsListedAt, deed_holds}
 use Rattle.tsa_core.proofs.FactsKnown.{FactsAt, each_both, all_facts}
 use Rattle.tsa_core.proofs.ScopesAlike.{known_found}
 use Rattle.tsa_core.proofs.ScopesBelong.{Each, IsListed, HasListedKind, body_listed, body_belongs}
-use Rattle.tsa_core.proofs.SignaturesFit.{AreOf, CallBy, NamesCall, SoundBody, unit_calls, body_sound}
+use Rattle.tsa_core.proofs.SignaturesFit.{AreOf, CallBy, NamesCall, SpellableBody, unit_calls, body_spellable}
 use Rattle.tsa_core.proofs.TypedTerms.{some_same}
 
 -- the signatures of a program are those of the functions that its unit declares
@@ -72,18 +73,18 @@ module _ (sig : Signatures) where
       by None is fits = absurd cc
       by (Some x) is fits = subst (λ m. CallBy sig here m e.thing) means (subst (λ y. CallBy sig here y.meaning y.thing) (some_same is) fits)
 
-  module _ (b : Bodied) (l : Layout) (begun : BeginsIn b l) (sound : SoundBody b) (calls : NamesCall sig b.here) where
+  module _ (b : Bodied) (l : Layout) (begun : BeginsIn b l) (sound : SpellableBody b) (calls : NamesCall sig b.here) where
     abbrev result : ThingType
     result = begun.around.result
 
     abbrev locals : ℕ → Option Kind
     locals = slice_get (kinds_of b)
 
-    facts : All (FactsAt sound.aliases result) (known_in_body b.here b.body)
+    facts : All (FactsAt all_words result) (known_in_body b.here b.body)
     facts =
-        each_all (FactsAt sound.aliases result) (known_in_body b.here b.body)
-        (each_both (FactsAt sound.aliases result) (known_all b.here b.body) (knows b.here ends ∷ [])
-        (all_facts sound.aliases result begun.around b.here b.body refl begun.typed begun.runs sound.sound) (tt, tt))
+        each_all (FactsAt all_words result) (known_in_body b.here b.body)
+        (each_both (FactsAt all_words result) (known_all b.here b.body) (knows b.here ends ∷ [])
+        (all_facts all_words result begun.around b.here b.body refl begun.typed begun.runs sound) (tt, tt))
 
     are_listed : All (HasListedKind (kinds_of b)) (known_in_body b.here b.body)
     are_listed = each_all (HasListedKind (kinds_of b)) (known_in_body b.here b.body) (body_listed b l begun)
@@ -91,12 +92,12 @@ module _ (sig : Signatures) where
     belong : (given : Option Kind) → All (λ k. Belongs k.here (setting l b given) × Calls k.here) (known_in_body b.here b.body)
     belong given = body_belongs b l begun Calls calls_further calls_local given (begun.owned, (calls, kind_written l locals b.here begun.names))
 
-    point_holds : (k : Known) → ((given : Option Kind) → Belongs k.here (setting l b given)) → Calls k.here → HasListedKind (kinds_of b) k → FactsAt sound.aliases result k
+    point_holds : (k : Known) → ((given : Option Kind) → Belongs k.here (setting l b given)) → Calls k.here → HasListedKind (kinds_of b) k → FactsAt all_words result k
         → PointHolds sig l locals result.kind (point_of result.kind k)
     point_holds k belongs calls is facts =
-        deed_holds k.here l locals sig sound.aliases belongs (calls_fit k.here calls) result k.deed (listed_at k.deed is) facts
+        deed_holds k.here l locals sig all_words belongs (calls_fit k.here calls) result k.deed (listed_at k.deed is) facts
       where
-        listed_at : (d : Deed) → IsListed (kinds_of b) k.here d → IsListedAt k.here l locals sig sound.aliases belongs (calls_fit k.here calls) result d
+        listed_at : (d : Deed) → IsListed (kinds_of b) k.here d → IsListedAt k.here l locals sig all_words belongs (calls_fit k.here calls) result d
         listed_at (declares d) is = (is, calls.1.1 d.ctype)
         listed_at (evaluates e) is = tt
         listed_at (assigns left o right) is = tt
@@ -119,5 +120,5 @@ module _ (sig : Signatures) where
 
 pub points_have_kinds : PointsHaveTheirKinds
 points_have_kinds items name b l sound runs placed is =
-    body_points (signatures (program_of items)) b l (unit_begins items name b l runs placed is) (body_sound name b [] (outset items) items sound is)
+    body_points (signatures (program_of items)) b l (unit_begins items name b l runs placed is) (body_spellable name b (outset items) items sound is)
     (unit_calls items name b (signatures (program_of items)) (program_signatures items) is)

@@ -14,7 +14,7 @@ use Rattle.tsa_tree.specs.declared.meaning.Meaning.{Meaning}
 use Rattle.tsa_tree.specs.declared.meaning.Meaning.TheVariants as meant
 use Rattle.tsa_tree.specs.expressions.Syntax.{Identifier}
 use Rattle.tsa_tree.specs.statements.Sound.{SoundStatements}
-use Rattle.tsa_tree.specs.tokens.Signs.{Aliases}
+use Rattle.tsa_tree.specs.expressions.Sound.{all_words}
 use Rattle.tsa_tree.specs.types.DeclaredTypes.{thing_type}
 use Rattle.tsa_tree.specs.types.Enums.{enumerator_entry, enumerator_value, behind_enumerators}
 use Rattle.tsa_tree.specs.types.Globals.{global_entry}
@@ -24,9 +24,8 @@ use Rattle.tsa_tree.specs.types.Scopes.{Scope, FunctionEntry, found, with_name, 
 use Rattle.tsa_tree.specs.types.Structs.{members_behind}
 use Rattle.tsa_tree.specs.types.Types.{single}
 use Rattle.tsa_tree.specs.types.Units.{outset, behind_item}
-use Rattle.tsa_tree.specs.units.Sound.{SoundItem, SoundItems}
+use Rattle.tsa_tree.specs.units.Sound.{SpellableItem, SpellableItems}
 use Rattle.tsa_tree.specs.units.Syntax.{UnitItem, structure_item, alias_item, enumeration_item, global_item, function_item, body_item}
-use Rattle.tsa_tree.specs.units.Syntax.{names_of_item}
 use Rattle.tsa_tree.specs.types.Lookups.{params_in}
 use Rattle.tsa_place_model.proofs.GlobalsInRow.{front_at, last_at}
 use Rattle.tsa_core.proofs.MappedLists.{map_append, map_length, map_set, map_at}
@@ -237,27 +236,26 @@ pub unit_calls : (items : List UnitItem) (name : List ℕ) (b : Bodied) (sig : S
     → NamesCall sig b.here
 unit_calls items name b sig are is = body_calls name b sig [] (outset items) items (refl, All-nil (HasItsResult [])) are is
 
--- The text of a body is sound where that of its unit is.
-pub record SoundBody (b : Bodied) : Type 0 where
-  pub aliases : Aliases
-  pub sound : SoundStatements aliases b.body
+-- The text of a body can be spelled where that of its unit can.
+abbrev pub SpellableBody : Bodied → Type 0
+SpellableBody b = SoundStatements all_words b.body
 
 module _ (name : List ℕ) (b : Bodied) where
-  or_sound : (hit : Bool) (x : Bodied) (other : Option Bodied) → SoundBody x → (other ≡ Some b → SoundBody b) → program.or_body hit x other ≡ Some b → SoundBody b
-  or_sound true x other begins later is = subst SoundBody (some_same is) begins
-  or_sound false x other begins later is = later is
+  or_spellable : (hit : Bool) (x : Bodied) (other : Option Bodied) → SpellableBody x → (other ≡ Some b → SpellableBody b) → program.or_body hit x other ≡ Some b → SpellableBody b
+  or_spellable true x other begins later is = subst SpellableBody (some_same is) begins
+  or_spellable false x other begins later is = later is
 
-  sound_by : (aliases : Aliases) (here : Scope) (item : UnitItem) (other : Option Bodied) → SoundItem aliases item → (other ≡ Some b → SoundBody b) → bodied_by name here item other ≡ Some b → SoundBody b
-  sound_by aliases here (body_item head body close) other h later is =
-      or_sound (bytes_eq name head.name.text) (record { here = inside here head true; head = head; body = body }) other (record { aliases = aliases; sound = h.1 }) later is
-  sound_by aliases here (structure_item tag alias attrs members span) other h later is = later is
-  sound_by aliases here (alias_item text ctype span) other h later is = later is
-  sound_by aliases here (enumeration_item tag alias values span) other h later is = later is
-  sound_by aliases here (global_item d) other h later is = later is
-  sound_by aliases here (function_item head) other h later is = later is
+  spellable_by : (here : Scope) (item : UnitItem) (other : Option Bodied) → SpellableItem item → (other ≡ Some b → SpellableBody b) → bodied_by name here item other ≡ Some b → SpellableBody b
+  spellable_by here (body_item head body close) other h later is =
+      or_spellable (bytes_eq name head.name.text) (record { here = inside here head true; head = head; body = body }) other h.1 later is
+  spellable_by here (structure_item tag alias attrs members span) other h later is = later is
+  spellable_by here (alias_item text ctype span) other h later is = later is
+  spellable_by here (enumeration_item tag alias values span) other h later is = later is
+  spellable_by here (global_item d) other h later is = later is
+  spellable_by here (function_item head) other h later is = later is
 
-  pub body_sound : (aliases : Aliases) (here : Scope) (items : List UnitItem) → SoundItems aliases items → bodied_function name here items ≡ Some b → SoundBody b
+  pub body_spellable : (here : Scope) (items : List UnitItem) → SpellableItems items → bodied_function name here items ≡ Some b → SpellableBody b
   unfolding bodied_function
-  body_sound aliases here [] h is = absurd cc
-  body_sound aliases here (item ∷ rest) h is =
-      sound_by aliases here item (bodied_function name (behind_item here item) rest) h.0 (body_sound (aliases ++ names_of_item item) (behind_item here item) rest h.1) is
+  body_spellable here [] h is = absurd cc
+  body_spellable here (item ∷ rest) h is =
+      spellable_by here item (bodied_function name (behind_item here item) rest) h.0 (body_spellable (behind_item here item) rest h.1) is

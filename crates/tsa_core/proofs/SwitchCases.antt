@@ -13,10 +13,9 @@ use Rattle.tsa_tree.specs.declared.premise.TypeCode.TheVariants.{TY2, TY3, TY7, 
 use Rattle.tsa_tree.specs.expressions.Syntax.{Expression}
 use Rattle.tsa_tree.specs.points.Syntax.{expression_span}
 use Rattle.tsa_tree.specs.statements.Sound.{SoundStatement, SoundStatements}
-use Rattle.tsa_tree.specs.expressions.Sound.{SoundExpression}
+use Rattle.tsa_tree.specs.expressions.Sound.{Words, SoundExpression}
 use Rattle.tsa_tree.specs.statements.Syntax.{Statement, block, empty, local, simple, if_alone, if_else, while_loop, do_loop, for_loop}
 use Rattle.tsa_tree.specs.statements.Syntax.{switch, case, otherwise, label, break, continue, goto, return, Statements, none, more}
-use Rattle.tsa_tree.specs.tokens.Signs.{Aliases}
 use Rattle.tsa_tree.specs.types.Arithmetic.{unsigned_of, int_of}
 use Rattle.tsa_tree.specs.types.Constants.{enumerator, is_known_enumerator, constant_of}
 use Rattle.tsa_tree.specs.types.DeclaredTypes.{typed_value, value_in, constant_premises}
@@ -217,7 +216,7 @@ module _ (here : Scope) where
   kept_same = record { values = λ name. refl; entries = λ name made. refl }
 
   -- The cases of a typed statement in a switch are each the first one with their value.
-  module _ (aliases : Aliases) (all : Cases) where
+  module _ (words : Words) (all : Cases) where
     abbrev Firsts : List Case → Type 0
     Firsts xs = Every (IsFirst (value_in (context_of here)) all) xs
 
@@ -238,7 +237,7 @@ module _ (here : Scope) where
     case_first a s key span n inside gathered is h =
         sym (ap₂ (λ b o. b && is_case_again a.cases span.from o) inside is ∙ ap (λ k. is_case_again k span.from (Some n)) gathered) ∙ h
 
-    case_is : (a : Around) (s : Scope) (key : Expression) (span : Span) → a.in_switch ≡ true → a.cases ≡ all → Kept s → SoundExpression aliases key
+    case_is : (a : Around) (s : Scope) (key : Expression) (span : Span) → a.in_switch ≡ true → a.cases ≡ all → Kept s → SoundExpression words key
         → first (case_premises a (context_of s) key span) ≡ None → IsFirst (value_in (context_of here)) all (key, span)
     unfolding case_premises
     case_is a s key span inside gathered kept sound h =
@@ -251,13 +250,13 @@ module _ (here : Scope) where
           n = v.0;
           is = sym (same_value (context_of here) c kept key) ∙ v.1;
           first = case_first a s key span v.0 inside gathered v.1 one.0;
-          small = value_fits c aliases key v.0 sound v.1;
+          small = value_fits c words key v.0 sound v.1;
         }
 
     mutual
       unfolding statement_premises statements_premises
 
-      pub firsts : (a : Around) (b : Bool) (s : Scope) (x : Statement) → a.in_switch ≡ true → a.cases ≡ all → Kept s → SoundStatement aliases b x
+      pub firsts : (a : Around) (b : Bool) (s : Scope) (x : Statement) → a.in_switch ≡ true → a.cases ≡ all → Kept s → SoundStatement words b x
           → first (statement_premises a s x) ≡ None → Firsts (cases_in x)
       firsts a b s (block items span) inside gathered kept sound h = all_firsts a s items inside gathered kept sound h
       firsts a b s (if_alone test arm span) inside gathered kept sound h =
@@ -295,7 +294,7 @@ module _ (here : Scope) where
       firsts a b s (goto name span) inside gathered kept sound h = tt
       firsts a b s (return given span) inside gathered kept sound h = tt
 
-      all_firsts : (a : Around) (s : Scope) (xs : Statements) → a.in_switch ≡ true → a.cases ≡ all → Kept s → SoundStatements aliases xs
+      all_firsts : (a : Around) (s : Scope) (xs : Statements) → a.in_switch ≡ true → a.cases ≡ all → Kept s → SoundStatements words xs
           → first (statements_premises a s xs) ≡ None → Firsts (cases_in_all xs)
       all_firsts a s none inside gathered kept sound h = tt
       all_firsts a s (more x xs) inside gathered kept sound h =
@@ -304,10 +303,10 @@ module _ (here : Scope) where
           (all_firsts a (behind s x) xs inside gathered (statement_past Kept kept_further kept_local s x kept) sound.1 p.1)
 
   -- the values of a typed switch's cases
-  pub switch_apart : (aliases : Aliases) (a : Around) (b : Bool) (body : Statement) (at follow : ℕ) → a.in_switch ≡ true
-      → a.cases ≡ cases_behind (value_in (context_of here)) [] body → SoundStatement aliases b body → first (statement_premises a here body) ≡ None
+  pub switch_apart : (words : Words) (a : Around) (b : Bool) (body : Statement) (at follow : ℕ) → a.in_switch ≡ true
+      → a.cases ≡ cases_behind (value_in (context_of here)) [] body → SoundStatement words b body → first (statement_premises a here body) ≡ None
       → Differ (map (λ x. x.1.from) (cases_in body)) → AllApart (choices (cases here body at follow))
-  switch_apart aliases a b body at follow inside is sound h differ =
+  switch_apart words a b body at follow inside is sound h differ =
       let w = value_in (context_of here) in
-      let each = firsts aliases (with_cases w [] (cases_in body)) a b here body inside (is ∙ gathered w [] body) kept_same sound h in
+      let each = firsts words (with_cases w [] (cases_in body)) a b here body inside (is ∙ gathered w [] body) kept_same sound h in
       subst AllApart (sym (chosen here body at follow)) (values_apart w (with_cases w [] (cases_in body)) (cases_in body) each (all_apart w (cases_in body) each differ))

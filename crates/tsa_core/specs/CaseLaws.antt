@@ -7,7 +7,7 @@ use Rattle.tsa_tree.specs.expressions.Syntax.{Expression}
 use Rattle.tsa_tree.specs.statements.Syntax.{Statement, block, if_alone, if_else, while_loop, do_loop, for_loop, switch, case, otherwise}
 use Rattle.tsa_tree.specs.statements.Syntax.{label, Statements, none, more}
 use Rattle.tsa_tree.specs.types.Units.{outset, refusal_of_types}
-use Rattle.tsa_tree.specs.units.Sound.{SoundItems}
+use Rattle.tsa_tree.specs.units.Sound.{SpellableItems}
 use Rattle.tsa_tree.specs.units.Shapes.{item_shapes}
 use Rattle.tsa_tree.specs.units.Syntax.{UnitItem}
 use Rattle.tsa_tree.specs.units.WellRead.{IsWellRead}
@@ -70,7 +70,7 @@ ChoicesDiffer (e ∷ es) = All (λ f. is_same_choice e f ≡ false) es × Choice
 
 -- in a body of a typed unit whose cases stand apart no two edges leave one point for the same value
 abbrev pub CasesDiffer : Type 0
-CasesDiffer = (items : List UnitItem) (name : List ℕ) (b : Bodied) → SoundItems [] items → refusal_of_types items ≡ None
+CasesDiffer = (items : List UnitItem) (name : List ℕ) (b : Bodied) → SpellableItems items → refusal_of_types items ≡ None
     → bodied_function name (outset items) items ≡ Some b → AllStandApart b.body → ChoicesDiffer (body_in b).edges
 
 -- in a text they do

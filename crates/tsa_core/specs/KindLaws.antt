@@ -6,7 +6,7 @@ use Rattle.tsa_tree.specs.types.DeclaredTypes.{thing_type}
 use Rattle.tsa_tree.specs.types.Heads.{params_of}
 use Rattle.tsa_tree.specs.types.Runnable.{Runnable}
 use Rattle.tsa_tree.specs.types.Units.{outset, refusal_of_types}
-use Rattle.tsa_tree.specs.units.Sound.{SoundItems}
+use Rattle.tsa_tree.specs.units.Sound.{SpellableItems}
 use Rattle.tsa_tree.specs.units.Syntax.{UnitItem}
 use Rattle.tsa_place_model.specs.Calls.{Layout}
 use Rattle.tsa_place_model.specs.Leading.{HasPlaces}
@@ -40,7 +40,7 @@ signatures p = record {
 -- at each point of a body of a unit the terms of the action and of the call have the kinds that are wanted: by the layout of the unit, the
 -- locals and the result of the body, and the functions of the program
 abbrev pub PointsHaveTheirKinds : Type 0
-PointsHaveTheirKinds = (items : List UnitItem) (name : List ℕ) (b : Bodied) (l : Layout) → SoundItems [] items → Runnable items → HasPlaces items l
+PointsHaveTheirKinds = (items : List UnitItem) (name : List ℕ) (b : Bodied) (l : Layout) → SpellableItems items → Runnable items → HasPlaces items l
     → bodied_function name (outset items) items ≡ Some b
     → All (PointHolds (signatures (program_of items)) l (slice_get (kinds_of b)) (thing_type b.here b.head.result).kind) (body_in b).points
 
@@ -56,6 +56,6 @@ abbrev pub function_locals : Function → Body → ℕ → Option Kind
 function_locals f body = slice_get (map (λ t. t.kind) f.params ++ body.locals)
 
 abbrev pub ProgramsAreWellKinded : Type 0
-ProgramsAreWellKinded = (items : List UnitItem) (l : Layout) (n : ℕ) (f : Function) (body : Body) → SoundItems [] items → Runnable items → HasPlaces items l
+ProgramsAreWellKinded = (items : List UnitItem) (l : Layout) (n : ℕ) (f : Function) (body : Body) → SpellableItems items → Runnable items → HasPlaces items l
     → slice_get (program_of items).functions n ≡ Some f → f.body ≡ Some body
     → All (PointHolds (signatures (program_of items)) (program_of items).layout (function_locals f body) f.result) body.points

@@ -10,7 +10,7 @@ use Rattle.tsa_tree.specs.types.DeclaredTypes.{thing_type}
 use Rattle.tsa_tree.specs.types.Runnable.{Runnable}
 use Rattle.tsa_tree.specs.types.Scopes.{Scope}
 use Rattle.tsa_tree.specs.types.Units.{outset}
-use Rattle.tsa_tree.specs.units.Sound.{SoundItems}
+use Rattle.tsa_tree.specs.units.Sound.{SpellableItems}
 use Rattle.tsa_tree.specs.units.Syntax.{UnitItem}
 use Rattle.tsa_place_model.specs.Calls.{Layout}
 use Rattle.tsa_place_model.specs.Leading.{HasPlaces}
@@ -99,7 +99,7 @@ pub record LoadsAgree (result : Kind) (k : Known) : Type 0 where
 
 -- at each point of a body of a unit that runs
 abbrev pub PointsLoadTheirCells : Type 0
-PointsLoadTheirCells = (items : List UnitItem) (name : List ℕ) (b : Bodied) (l : Layout) → SoundItems [] items → Runnable items → HasPlaces items l
+PointsLoadTheirCells = (items : List UnitItem) (name : List ℕ) (b : Bodied) (l : Layout) → SpellableItems items → Runnable items → HasPlaces items l
     → bodied_function name (outset items) items ≡ Some b → All (LoadsAgree (thing_type b.here b.head.result).kind) (known_in_body b.here b.body)
 
 -- a place is loaded at a point, by the arguments of its call or by its action, exactly where it is one of the cells that are read on the
@@ -113,5 +113,5 @@ LoadsJustThose result k = (x : Term)
     × (Contains (places k.here (right_cells k.here k.deed)) x → LoadedAt (point_of result k) x)
 
 abbrev pub PointsLoadJustThose : Type 0
-PointsLoadJustThose = (items : List UnitItem) (name : List ℕ) (b : Bodied) (l : Layout) → SoundItems [] items → Runnable items → HasPlaces items l
+PointsLoadJustThose = (items : List UnitItem) (name : List ℕ) (b : Bodied) (l : Layout) → SpellableItems items → Runnable items → HasPlaces items l
     → bodied_function name (outset items) items ≡ Some b → All (LoadsJustThose (thing_type b.here b.head.result).kind) (known_in_body b.here b.body)

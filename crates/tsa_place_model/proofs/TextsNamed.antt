@@ -11,9 +11,8 @@ use Rattle.tsa_tree.specs.declared.number.Number.{Number}
 use Rattle.tsa_tree.specs.declared.number.Number.TheVariants.{Int, Unsigned}
 use Rattle.tsa_tree.specs.declared.kind.Resolved.{Resolved}
 use Rattle.tsa_tree.specs.declared.kind.Resolved.TheVariants as written
-use Rattle.tsa_tree.specs.expressions.Sound.{is_name}
+use Rattle.tsa_tree.specs.expressions.Sound.{all_words, is_name}
 use Rattle.tsa_tree.specs.expressions.Syntax.{Expression}
-use Rattle.tsa_tree.specs.tokens.Signs.{Aliases}
 use Rattle.tsa_tree.specs.types.DeclaredTypes.{thing_type, value_in, as_length, length_in, length_of, with_length, resolve}
 use Rattle.tsa_tree.specs.types.Known.{Context}
 use Rattle.tsa_tree.specs.types.Scopes.{Scope, Members, context_of}
@@ -87,9 +86,9 @@ word_first : (a b c : Bool) → (a && c) ≡ true → ((a || b) && c) ≡ true
 word_first true b c e = e
 word_first false b c e = absurd cc
 
-pub plain_name : (aliases : Aliases) (name : List ℕ) → is_name aliases name ≡ true → IsPlain name
-plain_name aliases [] e = refl
-plain_name aliases (c ∷ cs) e = word_first (is_letter c) (is_digit c) (list_all is_word_byte cs) (front (is_letter c && list_all is_word_byte cs) _ e)
+pub plain_name : (name : List ℕ) → is_name [] name ≡ true → IsPlain name
+plain_name [] e = refl
+plain_name (c ∷ cs) e = word_first (is_letter c) (is_digit c) (list_all is_word_byte cs) (front (is_letter c && list_all is_word_byte cs) _ e)
 
 -- the length of an array is at most 65,536
 within : (n : ℕ) (b d : Bool) → nat_le 1 n ≡ b → nat_le n 65536 ≡ d → IsShort (as_length n)
@@ -119,9 +118,9 @@ of_resolved l written.Refused h = h
 pub type_short : (here : Scope) (t : DeclaredType) → IsShort (thing_type here t).length
 type_short here t = of_resolved (length_of (context_of here) t.length) (resolve here t) (length_short (context_of here) t.length)
 
--- members that are sound
-pub plain_members : (aliases : Aliases) (here : Scope) (before : Members) (decls : List Declaration) → SoundMembers aliases decls → ArePlain (parts_behind here before decls)
+-- members that can be spelled
+pub plain_members : (here : Scope) (before : Members) (decls : List Declaration) → SoundMembers all_words decls → ArePlain (parts_behind here before decls)
 unfolding parts_behind
-plain_members aliases here before [] h = tt
-plain_members aliases here before (d ∷ rest) h =
-    ((plain_name aliases d.name.text h.0.0.1, type_short here d.ctype), plain_members aliases here (member_behind here before d) rest h.1)
+plain_members here before [] h = tt
+plain_members here before (d ∷ rest) h =
+    ((plain_name d.name.text h.0.0.1, type_short here d.ctype), plain_members here (member_behind here before d) rest h.1)

@@ -8,15 +8,11 @@ use Rattle.tsa_tree.specs.declarations.Syntax.{Declaration}
 use Rattle.tsa_tree.specs.declared.kind.Kind.{Kind}
 use Rattle.tsa_tree.specs.declared.kind.Kind.TheVariants as type
 use Rattle.tsa_tree.specs.expressions.Syntax.{Identifier}
-use Rattle.tsa_tree.specs.tokens.Signs.{Aliases}
 use Rattle.tsa_tree.specs.types.Premises.{first}
 use Rattle.tsa_tree.specs.types.Scopes.{Scope, is_taken}
 use Rattle.tsa_tree.specs.types.Units.{outset, item_premises, items_premises, behind_item}
-use Rattle.tsa_tree.specs.units.Shapes.{item_shapes}
-use Rattle.tsa_tree.specs.units.Sound.{SoundItem, SoundItems}
+use Rattle.tsa_tree.specs.units.Sound.{SpellableItem, SpellableItems}
 use Rattle.tsa_tree.specs.units.Syntax.{UnitItem, structure_item, alias_item, enumeration_item, global_item, function_item, body_item}
-use Rattle.tsa_tree.specs.units.Syntax.{names_of_item}
-use Rattle.tsa_tree.proofs.units.Read.{well_read_sound}
 use Rattle.tsa_place_model.specs.Layouts.{Part, Structures, structure_at}
 use Rattle.tsa_place_model.specs.Calls.{Layout, members_of}
 use Rattle.tsa_place_model.specs.Items.{global_part, behind_data}
@@ -61,40 +57,40 @@ more_known : (here there : Scope) (l : Layout) → Grows here there → IsTold h
 more_known here there l grows told = record { taken = still_taken here there l.globals grows told.taken; apart = told.apart; plain = told.plain; structs = told.structs }
 
 -- a struct's members, and a global, are behind those before them
-struct_told : (aliases : Aliases) (here inner : Scope) (l : Layout) (tag alias : Option Identifier) (attrs : List Attribute) (members : List Declaration) (span : Span)
-    → SoundItem aliases (structure_item tag alias attrs members span) → first (item_premises here (structure_item tag alias attrs members span)) ≡ None → IsTold here l
+struct_told : (here inner : Scope) (l : Layout) (tag alias : Option Identifier) (attrs : List Attribute) (members : List Declaration) (span : Span)
+    → SpellableItem (structure_item tag alias attrs members span) → first (item_premises here (structure_item tag alias attrs members span)) ≡ None → IsTold here l
     → IsTold (behind_item here (structure_item tag alias attrs members span)) (data_placed inner l (structure_item tag alias attrs members span))
-struct_told aliases here inner l tag alias attrs members span sound typed told =
+struct_told here inner l tag alias attrs members span sound typed told =
     let item = structure_item tag alias attrs members span in
     record {
       taken = still_taken here (behind_item here item) l.globals (grows_item here item) told.taken;
       apart = told.apart;
       plain = told.plain;
-      structs = ((members_apart here inner members (members_hold here tag alias attrs members span typed), plain_members aliases inner [] members sound.2), told.structs);
+      structs = ((members_apart here inner members (members_hold here tag alias attrs members span typed), plain_members inner [] members sound.2), told.structs);
     }
 
-global_told : (aliases : Aliases) (here inner : Scope) (l : Layout) (d : Declaration) → SoundItem aliases (global_item d) → first (item_premises here (global_item d)) ≡ None → IsTold here l
+global_told : (here inner : Scope) (l : Layout) (d : Declaration) → SpellableItem (global_item d) → first (item_premises here (global_item d)) ≡ None → IsTold here l
     → IsTold (behind_item here (global_item d)) (data_placed inner l (global_item d))
-global_told aliases here inner l d sound typed told =
+global_told here inner l d sound typed told =
     let there = behind_item here (global_item d) in
     let part = global_part inner d in
     record {
       taken = taken_behind there l.globals part (still_taken here there l.globals (grows_item here (global_item d)) told.taken) (global_taken here d);
       apart = apart_behind l.globals part told.apart (not_taken here d.name.text l.globals (global_free here d typed) told.taken);
-      plain = plain_behind l.globals part told.plain (plain_name aliases d.name.text sound.0.1) (type_short inner d.ctype);
+      plain = plain_behind l.globals part told.plain (plain_name d.name.text sound.0.1) (type_short inner d.ctype);
       structs = told.structs;
     }
 
-item_told : (aliases : Aliases) (here inner : Scope) (l : Layout) (item : UnitItem) → SoundItem aliases item → first (item_premises here item) ≡ None → IsTold here l
+item_told : (here inner : Scope) (l : Layout) (item : UnitItem) → SpellableItem item → first (item_premises here item) ≡ None → IsTold here l
     → IsTold (behind_item here item) (data_placed inner l item)
-item_told aliases here inner l (structure_item tag alias attrs members span) sound typed told = struct_told aliases here inner l tag alias attrs members span sound typed told
-item_told aliases here inner l (global_item d) sound typed told = global_told aliases here inner l d sound typed told
-item_told aliases here inner l (alias_item name ctype span) sound typed told =
+item_told here inner l (structure_item tag alias attrs members span) sound typed told = struct_told here inner l tag alias attrs members span sound typed told
+item_told here inner l (global_item d) sound typed told = global_told here inner l d sound typed told
+item_told here inner l (alias_item name ctype span) sound typed told =
     more_known here (behind_item here (alias_item name ctype span)) l (grows_item here (alias_item name ctype span)) told
-item_told aliases here inner l (enumeration_item tag alias values span) sound typed told =
+item_told here inner l (enumeration_item tag alias values span) sound typed told =
     more_known here (behind_item here (enumeration_item tag alias values span)) l (grows_item here (enumeration_item tag alias values span)) told
-item_told aliases here inner l (function_item head) sound typed told = more_known here (behind_item here (function_item head)) l (grows_item here (function_item head)) told
-item_told aliases here inner l (body_item head body close) sound typed told =
+item_told here inner l (function_item head) sound typed told = more_known here (behind_item here (function_item head)) l (grows_item here (function_item head)) told
+item_told here inner l (body_item head body close) sound typed told =
     more_known here (behind_item here (body_item head body close)) l (grows_item here (body_item head body close)) told
 
 -- the names of a layout tell its parts
@@ -108,14 +104,14 @@ within_limit : (o : Option Span) (found : Result Layout Span) (m : Layout) → o
 within_limit None found m e = e
 within_limit (Some span) found m e = absurd cc
 
-items_told : (aliases : Aliases) (here inner : Scope) (l m : Layout) (items : List UnitItem) → SoundItems aliases items → first (items_premises here items) ≡ None → IsTold here l
+items_told : (here inner : Scope) (l m : Layout) (items : List UnitItem) → SpellableItems items → first (items_premises here items) ≡ None → IsTold here l
     → placed_behind inner l items ≡ Ok m → Telling m
 unfolding items_premises placed_behind
-items_told aliases here inner l m [] sound typed told e = subst Telling (the_layout l m e) (told.apart, told.plain, told.structs)
-items_told aliases here inner l m (item ∷ rest) sound typed told e =
+items_told here inner l m [] sound typed told e = subst Telling (the_layout l m e) (told.apart, told.plain, told.structs)
+items_told here inner l m (item ∷ rest) sound typed told e =
     let both = none_of_both (item_premises here item) (items_premises (behind_item here item) rest) typed in
-    items_told (aliases ++ names_of_item item) (behind_item here item) (behind_data inner item) (data_placed inner l item) m rest sound.1 both.1
-    (item_told aliases here inner l item sound.0 both.0 told)
+    items_told (behind_item here item) (behind_data inner item) (data_placed inner l item) m rest sound.1 both.1
+    (item_told here inner l item sound.0 both.0 told)
     (within_limit (too_many_at inner l item) (placed_behind (behind_data inner item) (data_placed inner l item) rest) m e)
 
 none_tell : NamesTell []
@@ -148,9 +144,9 @@ a_place (x ∷ xs) zero h = (x, refl)
 a_place (x ∷ xs) (suc n) h = a_place xs n (omega (arith, h))
 
 pub texts_tell : PlacesAreLedTo → TextsTell
-texts_tell led items l a b well typed placed less little same =
-    let start : IsTold (outset (item_shapes items)) no_places = record { taken = tt; apart = tt; plain = tt; structs = tt } in
-    let names = all_names_tell l (items_told [] (outset (item_shapes items)) (outset (item_shapes items)) no_places l (item_shapes items) (well_read_sound items well) typed start placed) in
+texts_tell led items l a b spellable typed placed less little same =
+    let start : IsTold (outset items) no_places = record { taken = tt; apart = tt; plain = tt; structs = tt } in
+    let names = all_names_tell l (items_told (outset items) (outset items) no_places l items spellable typed start placed) in
     let one = a_place l.places a less in
     let other = a_place l.places b little in
-    texts_told l names (λ place p e. led (item_shapes items) l place p placed e) a b one.0 other.0 one.1 other.1 same
+    texts_told l names (λ place p e. led items l place p placed e) a b one.0 other.0 one.1 other.1 same

@@ -1,11 +1,9 @@
 -- To which places the globals, members and elements of a unit lead, that each place has one way to it, and that its text tells which place
 -- it is.
 use Rattle.std.specs.Prelude.{◌≡◌, ℕ, ◌+◌, ◌*◌, ◌<◌, List, Option, Some, None, option_and_then, slice_get, length, Ok}
-use Rattle.tsa_tree.specs.declared.item.Item.{Item}
 use Rattle.tsa_tree.specs.types.Units.{refusal_of_types}
-use Rattle.tsa_tree.specs.units.Shapes.{item_shapes}
+use Rattle.tsa_tree.specs.units.Sound.{SpellableItems}
 use Rattle.tsa_tree.specs.units.Syntax.{UnitItem}
-use Rattle.tsa_tree.specs.units.WellRead.{IsWellRead}
 use Rattle.tsa_place_model.specs.declared.place.Holder.{Holder}
 use Rattle.tsa_place_model.specs.declared.place.Holder.TheVariants.{Global, Member}
 use Rattle.tsa_place_model.specs.declared.place.Placed.{Placed}
@@ -99,5 +97,5 @@ OneWay = (items : List UnitItem) (l : Layout) (place : ℕ) → HasPlaces items 
 
 -- two places of a typed unit whose texts are the same are the same
 abbrev pub TextsTell : Type 0
-TextsTell = (items : List Item) (l : Layout) (a b : ℕ) → IsWellRead items → refusal_of_types (item_shapes items) ≡ None → HasPlaces (item_shapes items) l
+TextsTell = (items : List UnitItem) (l : Layout) (a b : ℕ) → SpellableItems items → refusal_of_types items ≡ None → HasPlaces items l
     → a < length l.places → b < length l.places → text_of l a ≡ text_of l b → a ≡ b

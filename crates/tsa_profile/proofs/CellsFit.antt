@@ -12,10 +12,9 @@ use Rattle.tsa_tree.specs.declared.kind.Kind.TheVariants as type
 use Rattle.tsa_tree.specs.declared.kind.ThingType.{ThingType}
 use Rattle.tsa_tree.specs.declared.number.Number.{Number}
 use Rattle.tsa_tree.specs.declared.premise.TypeCode.TheVariants.{TY9}
-use Rattle.tsa_tree.specs.expressions.Sound.{is_sound}
+use Rattle.tsa_tree.specs.expressions.Sound.{Words, is_sound}
 use Rattle.tsa_tree.specs.expressions.Syntax.{Expression, number, null, named, call, unary, binary, field, index}
 use Rattle.tsa_tree.specs.points.Syntax.{expression_span}
-use Rattle.tsa_tree.specs.tokens.Signs.{Aliases}
 use Rattle.tsa_tree.specs.types.DeclaredTypes.{value_in}
 use Rattle.tsa_tree.specs.types.Expressions.{type_of, premises_of, known_and, unless}
 use Rattle.tsa_tree.specs.types.Initialisers.{is_constant_place, is_constant_pointer, is_constant_for, cell_premises, initialiser_premises}
@@ -82,7 +81,7 @@ const_kept m n true false e = never (sym e)
 const_kept m n false true e = refl
 const_kept m n false false e = refl
 
-module _ (here there : Scope) (l whole : Layout) (own : ℕ) (a : Around here there l whole own) (plain : Plain there) (aliases : Aliases) (free : Placed → Bool) where
+module _ (here there : Scope) (l whole : Layout) (own : ℕ) (a : Around here there l whole own) (plain : Plain there) (words : Words) (free : Placed → Bool) where
   abbrev c : Context
   c = context_of here
 
@@ -146,17 +145,17 @@ module _ (here there : Scope) (l whole : Layout) (own : ℕ) (a : Around here th
   pointer_good n to_const k (index base at span) x is goes constant allowed = never (sym constant)
 
   -- numbers are converted to their cells
-  int_good : (o : Option Number) (e : Expression) → is_sound aliases e ≡ true → value_in (context_of there) e ≡ o → good free l.places type.Int (or_zero type.Int o) ≡ true
+  int_good : (o : Option Number) (e : Expression) → is_sound words e ≡ true → value_in (context_of there) e ≡ o → good free l.places type.Int (or_zero type.Int o) ≡ true
   int_good None e sound is = refl
   int_good (Some n) e sound is =
-      int_is_int n (value_is_fit (context_of there) (λ name. small_known there plain name) e n is) (value_fits (context_of there) aliases e n sound is)
+      int_is_int n (value_is_fit (context_of there) (λ name. small_known there plain name) e n is) (value_fits (context_of there) words e n sound is)
 
-  unsigned_good : (o : Option Number) (e : Expression) → is_sound aliases e ≡ true → value_in (context_of there) e ≡ o → good free l.places type.Unsigned (or_zero type.Unsigned o) ≡ true
+  unsigned_good : (o : Option Number) (e : Expression) → is_sound words e ≡ true → value_in (context_of there) e ≡ o → good free l.places type.Unsigned (or_zero type.Unsigned o) ≡ true
   unsigned_good None e sound is = refl
-  unsigned_good (Some n) e sound is = let less = unsigned_below n (value_fits (context_of there) aliases e n sound is) in grind (arith, nat_tests, less)
+  unsigned_good (Some n) e sound is = let less = unsigned_below n (value_fits (context_of there) words e n sound is) in grind (arith, nat_tests, less)
 
   cell_good : (kind : Kind) (k : Bool) (e : Expression) (x : ExpressionType) → is_data kind ≡ true → is_structure kind ≡ false → type_of c e ≡ Some x → goes_to x (cell_thing kind k) ≡ true
-      → is_constant_for c own kind e ≡ true → is_sound aliases e ≡ true → Allows free whole here e → good free l.places kind (cell_value there l kind e) ≡ true
+      → is_constant_for c own kind e ≡ true → is_sound words e ≡ true → Allows free whole here e → good free l.places kind (cell_value there l kind e) ≡ true
   cell_good type.Int k e x real plain is goes constant sound allowed = int_good (value_in (context_of there) e) e sound refl
   cell_good type.Unsigned k e x real plain is goes constant sound allowed = unsigned_good (value_in (context_of there) e) e sound refl
   cell_good (type.Pointer n to_const) k e x real plain is goes constant sound allowed = pointer_good n to_const k e x is goes constant allowed
@@ -166,7 +165,7 @@ module _ (here there : Scope) (l whole : Layout) (own : ℕ) (a : Around here th
   cell_good type.Function k e x real plain is goes constant sound allowed = never (sym real)
 
   value_good : (t : ThingType) (e : Expression) → t.length ≡ None → is_data t.kind ≡ true → is_structure t.kind ≡ false → first (initialiser_premises here own (Some t) (value e)) ≡ None
-      → is_sound aliases e ≡ true → Allows free whole here e → good free l.places t.kind (cell_value there l t.kind e) ≡ true
+      → is_sound words e ≡ true → Allows free whole here e → good free l.places t.kind (cell_value there l t.kind e) ≡ true
   unfolding initialiser_premises cell_premises
   value_good t e one real plain h sound allowed =
       let both = none_of_both (premises_of c e) (premise TY9 (expression_span e) (known_and (λ x. not (goes_to x t && is_constant_for c own t.kind e)) (type_of c e)) ∷ []) h in
@@ -177,7 +176,7 @@ module _ (here there : Scope) (l whole : Layout) (own : ℕ) (a : Around here th
       cell_good t.kind t.is_const e x.0 real plain x.1 (subst (λ n. goes_to x.0 (record { kind = t.kind; length = n; is_const = t.is_const }) ≡ true) one parts.0) parts.1 sound allowed
 
   -- the value of a cell whose initialiser fits
-  pub init_good : (t : ThingType) (init : Option Initialiser) → t.length ≡ None → is_structure t.kind ≡ false → Fit here own aliases (Allows free whole here) t init
+  pub init_good : (t : ThingType) (init : Option Initialiser) → t.length ≡ None → is_structure t.kind ≡ false → Fit here own words (Allows free whole here) t init
       → good free l.places t.kind (values_in there l t.kind init) ≡ true
   init_good t None one plain fit = zero_good free l.places t.kind fit.declared plain
   init_good t (Some (list items span)) one plain fit = zero_good free l.places t.kind fit.declared plain

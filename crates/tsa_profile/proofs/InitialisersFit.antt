@@ -7,7 +7,7 @@ use Rattle.tsa_tree.specs.declared.kind.Kind.TheVariants as type
 use Rattle.tsa_tree.specs.declared.kind.ThingType.{ThingType}
 use Rattle.tsa_tree.specs.declared.premise.TypeCode.TheVariants.{TY9}
 use Rattle.tsa_tree.specs.expressions.Syntax.{Expression}
-use Rattle.tsa_tree.specs.tokens.Signs.{Aliases}
+use Rattle.tsa_tree.specs.expressions.Sound.{Words}
 use Rattle.tsa_tree.specs.types.Globals.{global_init}
 use Rattle.tsa_tree.specs.types.Initialisers.{elements, parts_of, is_misfit, or_no_parts, initialiser_premises, list_premises}
 use Rattle.tsa_tree.specs.types.Premises.{first}
@@ -32,10 +32,10 @@ AllowedInit Allowed None = Unit {0}
 AllowedInit Allowed (Some i) = AllowedInitialiser Allowed i
 
 -- an initialiser of a thing, in the initialiser of the global of a number
-pub record Fit (here : Scope) (own : ℕ) (aliases : Aliases) (Allowed : Expression → Type 0) (t : ThingType) (init : Option Initialiser) : Type 0 where
+pub record Fit (here : Scope) (own : ℕ) (words : Words) (Allowed : Expression → Type 0) (t : ThingType) (init : Option Initialiser) : Type 0 where
   pub declared : is_data t.kind ≡ true
   pub premises : first (global_init here own t init) ≡ None
-  pub sound : SoundInit aliases init
+  pub sound : SoundInit words init
   pub allowed : AllowedInit Allowed init
 
 drop_one : {A : Type 0} (xs : List A) (k : ℕ) → slice_get (drop 1 xs) k ≡ slice_get xs (suc k)
@@ -47,16 +47,16 @@ elements_at zero k t h = absurd (omega (arith, h))
 elements_at (suc n) zero t h = refl
 elements_at (suc n) (suc k) t h = elements_at n k t (omega (arith, h))
 
-module _ (here : Scope) (own : ℕ) (aliases : Aliases) (Allowed : Expression → Type 0) where
+module _ (here : Scope) (own : ℕ) (words : Words) (Allowed : Expression → Type 0) where
   abbrev F : ThingType → Option Initialiser → Type 0
-  F t init = Fit here own aliases Allowed t init
+  F t init = Fit here own words Allowed t init
 
   no_item : (t : ThingType) → is_data t.kind ≡ true → F t None
   unfolding first
   no_item t is = record { declared = is; premises = refl; sound = tt; allowed = tt }
 
   items_fit : (types : List ThingType) (items : Initialisers) (k : ℕ) (t : ThingType) → slice_get types k ≡ Some t → is_data t.kind ≡ true
-      → first (list_premises here own types items) ≡ None → SoundInitialisers aliases items → AllowedItems Allowed items → F t (item_at items k)
+      → first (list_premises here own types items) ≡ None → SoundInitialisers words items → AllowedItems Allowed items → F t (item_at items k)
   unfolding list_premises
   items_fit types no_more k t e is h sound allowed = no_item t is
   items_fit types (one_more x rest) zero t e is h sound allowed = record {

@@ -12,7 +12,7 @@ use Rattle.tsa_tree.specs.expressions.Syntax.{Expression, number, null, named, c
 use Rattle.tsa_tree.specs.types.Globals.{with_global}
 use Rattle.tsa_tree.specs.types.Scopes.{Scope}
 use Rattle.tsa_tree.specs.types.Units.{outset, behind_item, refusal_of_types}
-use Rattle.tsa_tree.specs.units.Sound.{SoundItems}
+use Rattle.tsa_tree.specs.units.Sound.{SpellableItems}
 use Rattle.tsa_tree.specs.units.Syntax.{UnitItem, structure_item, alias_item, enumeration_item, global_item, function_item, body_item}
 use Rattle.tsa_place_model.specs.declared.place.Placed.{Placed}
 use Rattle.tsa_place_model.specs.Calls.{Layout, is_structure, is_addressable}
@@ -50,11 +50,11 @@ module _ (free : Placed → Bool) (items : List UnitItem) (l : Layout) where
       none_defined zero ms e = absurd cc
       none_defined (suc n) ms e = absurd cc
 
-  cell_is_good : SoundItems [] items → refusal_of_types items ≡ None → AllowedAll free l (outset items) items → HasPlaces items l → (place : ℕ) (p : Placed) → slice_get l.places place ≡ Some p
+  cell_is_good : SpellableItems items → refusal_of_types items ≡ None → AllowedAll free l (outset items) items → HasPlaces items l → (place : ℕ) (p : Placed) → slice_get l.places place ≡ Some p
       → is_structure p.kind ≡ false → good free l.places p.kind (start l place) ≡ true
   cell_is_good sound typed allowed has place p at plain =
       ap (λ o. good free l.places p.kind (unwrap_or (option_map (λ q. q.initial) o) (Pointer None))) at
-      ∙ every_at (GoodCell free l.places) l.places place p (all_cells free l items [] (outset items) (outset items) no_places begins typed sound allowed has) at plain
+      ∙ every_at (GoodCell free l.places) l.places place p (all_cells free l items (outset items) (outset items) no_places begins typed sound allowed has) at plain
 
 -- where a pointer may point anywhere
 abbrev any : Placed → Bool

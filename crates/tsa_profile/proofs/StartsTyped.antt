@@ -18,7 +18,7 @@ use Rattle.tsa_tree.specs.declared.meaning.Entry.{Entry}
 use Rattle.tsa_tree.specs.declared.meaning.Meaning.{Meaning}
 use Rattle.tsa_tree.specs.declared.meaning.Meaning.TheVariants as meant
 use Rattle.tsa_tree.specs.declared.premise.Bearer.TheVariants as on
-use Rattle.tsa_tree.specs.tokens.Signs.{Aliases}
+use Rattle.tsa_tree.specs.expressions.Sound.{all_words}
 use Rattle.tsa_tree.specs.types.Attributes.{attributes_premises}
 use Rattle.tsa_tree.specs.types.DeclaredTypes.{is_whole, is_nothing, may_be, is_refused, resolve, length_of, length_premises}
 use Rattle.tsa_tree.specs.types.DeclaredTypes.{typed_premises, declared_premises, with_length, thing_type}
@@ -27,8 +27,8 @@ use Rattle.tsa_tree.specs.types.Premises.{first}
 use Rattle.tsa_tree.specs.types.Scopes.{Scope, Members, found, context_of, known_in, with_name, with_owned, is_taken}
 use Rattle.tsa_tree.specs.types.Structs.{with_member, member_premises, members_premises}
 use Rattle.tsa_tree.specs.types.Units.{item_premises, items_premises, behind_item}
-use Rattle.tsa_tree.specs.units.Sound.{SoundItem, SoundItems}
-use Rattle.tsa_tree.specs.units.Syntax.{UnitItem, names_of_item, structure_item, alias_item, enumeration_item, global_item, function_item}
+use Rattle.tsa_tree.specs.units.Sound.{SpellableItem, SpellableItems}
+use Rattle.tsa_tree.specs.units.Syntax.{UnitItem, structure_item, alias_item, enumeration_item, global_item, function_item}
 use Rattle.tsa_tree.specs.units.Syntax.{body_item}
 use Rattle.tsa_place_model.specs.declared.place.Placed.{Placed}
 use Rattle.tsa_place_model.specs.Calls.{Layout}
@@ -274,9 +274,9 @@ module _ (free : Placed → Bool) (whole : Layout) where
           let rest = none_of_both (length_premises (context_of inner) d.ctype.length) (attributes_premises inner (bearer_of inner t) d.attrs ++ global_init inner here.globals t d.init) both.1 in
           (none_of_both (attributes_premises inner (bearer_of inner t) d.attrs) (global_init inner here.globals t d.init) rest.1).1
 
-      module _ (aliases : Aliases) (sound : SoundItem aliases (global_item d)) (allowed : AllowedItem here (global_item d)) (extends : Extends l whole) where
+      module _ (sound : SpellableItem (global_item d)) (allowed : AllowedItem here (global_item d)) (extends : Extends l whole) where
         abbrev F : ThingType → Option Initialiser → Type 0
-        F t init = Fit inner here.globals aliases (Allows free whole inner) t init
+        F t init = Fit inner here.globals all_words (Allows free whole inner) t init
 
         own_fits : F part.thing d.init
         own_fits =
@@ -289,15 +289,15 @@ module _ (free : Placed → Bool) (whole : Layout) where
             let less = has_member l.structs n k m at in
             let long = s.out.long in
             let ms = some_at here.structs n (omega (arith, less, long)) in
-            member_fits inner here.globals aliases (Allows free whole inner) t n k m.thing ms.0 init one kind ms.1
+            member_fits inner here.globals all_words (Allows free whole inner) t n k m.thing ms.0 init one kind ms.1
             (sym (ap (λ xs. slice_get xs k) (s.out.members n ms.0 ms.1)) ∙ map_at (λ m. m.thing) (structure_at l.structs n).members k ∙ ap (option_map (λ m. m.thing)) at)
             (s.members n k m at) fit
 
         serves : Serves l.structs (values_in outer l) (GoodCell free l.places) F
         serves = record {
           piece = λ g index t one fit plain.
-              init_good inner outer l whole here.globals (around extends) (taken_plain there d.name.text (global_entry there d) tt s.plain) aliases free t g.init one plain fit;
-          element = λ t n k init long less fit. element_fits inner here.globals aliases (Allows free whole inner) t n k init long less fit;
+              init_good inner outer l whole here.globals (around extends) (taken_plain there d.name.text (global_entry there d) tt s.plain) all_words free t g.init one plain fit;
+          element = λ t n k init long less fit. element_fits inner here.globals all_words (Allows free whole inner) t n k init long less fit;
           member = serves_member;
         }
 
@@ -318,46 +318,45 @@ module _ (free : Placed → Bool) (whole : Layout) where
             every_append (GoodCell free (l.places ++ new)) l.places new (every_more (GoodCell free l.places) (GoodCell free (l.places ++ new)) l.places more s.good)
             (every_more (GoodCell free l.places) (GoodCell free (l.places ++ new)) new more new_good)
 
-    module _ (aliases : Aliases) where
-      item_data : (item : UnitItem) → first (item_premises here item) ≡ None → DataStructs (data_placed there l item).structs
-      item_data (structure_item tag alias attrs members span) h =
-          structs_data (structure_in there members) l.structs
-          (parts_data here there l s.alike (s.out.names no_kinds) [] [] members (struct_told here tag alias attrs members span h).1) s.members
-      item_data (alias_item name ctype span) h = s.members
-      item_data (enumeration_item tag alias values span) h = s.members
-      item_data (global_item d) h = s.members
-      item_data (function_item head) h = s.members
-      item_data (body_item head body close) h = s.members
+    item_data : (item : UnitItem) → first (item_premises here item) ≡ None → DataStructs (data_placed there l item).structs
+    item_data (structure_item tag alias attrs members span) h =
+        structs_data (structure_in there members) l.structs
+        (parts_data here there l s.alike (s.out.names no_kinds) [] [] members (struct_told here tag alias attrs members span h).1) s.members
+    item_data (alias_item name ctype span) h = s.members
+    item_data (enumeration_item tag alias values span) h = s.members
+    item_data (global_item d) h = s.members
+    item_data (function_item head) h = s.members
+    item_data (body_item head body close) h = s.members
 
-      item_good : (item : UnitItem) → first (item_premises here item) ≡ None → SoundItem aliases item → AllowedItem here item → Extends l whole
-          → Every (GoodCell free (data_placed there l item).places) (data_placed there l item).places
-      item_good (structure_item tag alias attrs members span) h sound allowed extends = s.good
-      item_good (alias_item name ctype span) h sound allowed extends = s.good
-      item_good (enumeration_item tag alias values span) h sound allowed extends = s.good
-      item_good (global_item d) h sound allowed extends = all_good d h aliases sound allowed extends
-      item_good (function_item head) h sound allowed extends = s.good
-      item_good (body_item head body close) h sound allowed extends = s.good
+    item_good : (item : UnitItem) → first (item_premises here item) ≡ None → SpellableItem item → AllowedItem here item → Extends l whole
+        → Every (GoodCell free (data_placed there l item).places) (data_placed there l item).places
+    item_good (structure_item tag alias attrs members span) h sound allowed extends = s.good
+    item_good (alias_item name ctype span) h sound allowed extends = s.good
+    item_good (enumeration_item tag alias values span) h sound allowed extends = s.good
+    item_good (global_item d) h sound allowed extends = all_good d h sound allowed extends
+    item_good (function_item head) h sound allowed extends = s.good
+    item_good (body_item head body close) h sound allowed extends = s.good
 
-      goes_on : (item : UnitItem) → first (item_premises here item) ≡ None → SoundItem aliases item → AllowedItem here item → Extends l whole
-          → State (behind_item here item) (behind_data there item) (data_placed there l item)
-      goes_on item h sound allowed extends = record {
-        alike = item_alike here there item s.alike h;
-        out = scopes.item_laid l here there item s.alike h s.out;
-        laid = laid.item_laid there l item (ap length s.alike.structs ∙ s.out.long) s.laid;
-        heads = item_heads there l item s.heads;
-        plain = item_plain there item s.plain;
-        members = item_data item h;
-        good = item_good item h sound allowed extends;
-      }
+    goes_on : (item : UnitItem) → first (item_premises here item) ≡ None → SpellableItem item → AllowedItem here item → Extends l whole
+        → State (behind_item here item) (behind_data there item) (data_placed there l item)
+    goes_on item h sound allowed extends = record {
+      alike = item_alike here there item s.alike h;
+      out = scopes.item_laid l here there item s.alike h s.out;
+      laid = laid.item_laid there l item (ap length s.alike.structs ∙ s.out.long) s.laid;
+      heads = item_heads there l item s.heads;
+      plain = item_plain there item s.plain;
+      members = item_data item h;
+      good = item_good item h sound allowed extends;
+    }
 
-  pub all_cells : (items : List UnitItem) (aliases : Aliases) (here there : Scope) (l : Layout) → State here there l → first (items_premises here items) ≡ None → SoundItems aliases items
+  pub all_cells : (items : List UnitItem) (here there : Scope) (l : Layout) → State here there l → first (items_premises here items) ≡ None → SpellableItems items
       → AllowedAll here items → placed_behind there l items ≡ Ok whole → Every (GoodCell free whole.places) whole.places
   unfolding items_premises placed_behind
-  all_cells [] aliases here there l s h sound allowed e = subst (λ m. Every (GoodCell free m.places) m.places) (same_ok l whole e) s.good
-  all_cells (item ∷ rest) aliases here there l s h sound allowed e =
+  all_cells [] here there l s h sound allowed e = subst (λ m. Every (GoodCell free m.places) m.places) (same_ok l whole e) s.good
+  all_cells (item ∷ rest) here there l s h sound allowed e =
       let both = none_of_both (item_premises here item) (items_premises (behind_item here item) rest) h in
       behind_none (too_many_at there l item) (placed_behind (behind_data there item) (data_placed there l item) rest) whole e
-      (λ f. all_cells rest (aliases ++ names_of_item item) (behind_item here item) (behind_data there item) (data_placed there l item)
-      (goes_on here there l s aliases item both.0 sound.0 allowed.0
+      (λ f. all_cells rest (behind_item here item) (behind_data there item) (data_placed there l item)
+      (goes_on here there l s item both.0 sound.0 allowed.0
       (extends_more l (data_placed there l item) whole (item_extends there l item) (items_extend rest (behind_data there item) (data_placed there l item) whole f)))
       both.1 sound.1 allowed.1 f)

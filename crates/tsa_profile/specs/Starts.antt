@@ -6,7 +6,7 @@ use Rattle.tsa_tree.specs.declared.kind.Kind.{Kind}
 use Rattle.tsa_tree.specs.declared.kind.Kind.TheVariants as type
 use Rattle.tsa_tree.specs.types.Arithmetic.{is_int}
 use Rattle.tsa_tree.specs.types.Units.{refusal_of_types}
-use Rattle.tsa_tree.specs.units.Sound.{SoundItems}
+use Rattle.tsa_tree.specs.units.Sound.{SpellableItems}
 use Rattle.tsa_tree.specs.units.Syntax.{UnitItem}
 use Rattle.tsa_place_model.specs.declared.place.Placed.{Placed}
 use Rattle.tsa_place_model.specs.Calls.{Layout, is_structure}
@@ -29,10 +29,10 @@ has_kind l _ _ = false
 
 -- in a typed unit each cell holds a value of its kind at the start
 abbrev pub StartValuesHaveTheirKinds : Type 0
-StartValuesHaveTheirKinds = (items : List UnitItem) (l : Layout) → SoundItems [] items → refusal_of_types items ≡ None → HasPlaces items l
+StartValuesHaveTheirKinds = (items : List UnitItem) (l : Layout) → SpellableItems items → refusal_of_types items ≡ None → HasPlaces items l
     → (place : ℕ) (p : Placed) → slice_get l.places place ≡ Some p → is_structure p.kind ≡ false → has_kind l p.kind (start l place) ≡ true
 
 -- in a typed unit that is in the profile no pointer points to what is guarded, so the store at the start is well-typed
 abbrev pub StartsAreWellTyped : Type 0
-StartsAreWellTyped = (items : List UnitItem) (l : Layout) → SoundItems [] items → refusal_of_types items ≡ None → refusal_of_profile items ≡ None → HasPlaces items l
+StartsAreWellTyped = (items : List UnitItem) (l : Layout) → SpellableItems items → refusal_of_types items ≡ None → refusal_of_profile items ≡ None → HasPlaces items l
     → IsWellTyped l (start l)

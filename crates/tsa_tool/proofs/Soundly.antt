@@ -4,7 +4,7 @@ use Rattle.std.proofs.Common.{nat_lt, refl, sym, ap, subst}
 use Rattle.std.specs.Prelude.{IfOk}
 use Rattle.tsa_base.specs.declared.limits.TheConstants.{INPUT_LIMIT}
 use Rattle.tsa_tree.specs.units.Syntax.{UnitItem}
-use Rattle.tsa_tree.proofs.units.Read.{unit_sound}
+use Rattle.tsa_tree.proofs.units.MoreWords.{unit_spellable}
 use Rattle.tsa_expr.specs.declared.refusal.SyntaxCode.{SyntaxCode}
 use Rattle.tsa_expr.specs.declared.refusal.SyntaxCode.TheVariants.{SY1, AT1, AT2, LM2, LM3, LM5}
 use Rattle.tsa_profile_accesses.specs.declared.premise.ProfileCode.{ProfileCode}
@@ -30,7 +30,7 @@ use Rattle.tsa_tool.proofs.PrintedAgain.{unit_is_spelled}
 -- a unit that is fit is in the profile, as the laws of soundness ask
 in_profile : (text : List ℕ) (items : List UnitItem) (fit : IsFit text items) → IsInProfile items fit.layout
 in_profile text items fit = record {
-  sound = unit_sound text fit.tokens items fit.lexed (unit_is_spelled fit.tokens items fit.parsed);
+  spellable = unit_spellable text fit.tokens items fit.lexed (unit_is_spelled fit.tokens items fit.parsed);
   typed = fit.typed;
   placed = fit.placed;
   profiled = fit.profiled;

@@ -7,6 +7,7 @@ use Rattle.tsa_tree.specs.declared.kind.Kind.TheVariants as type
 use Rattle.tsa_tree.specs.declared.kind.ThingType.{ThingType}
 use Rattle.tsa_tree.specs.declared.meaning.Meaning.TheVariants as meant
 use Rattle.tsa_tree.specs.points.Syntax.{ends}
+use Rattle.tsa_tree.specs.expressions.Sound.{all_words}
 use Rattle.tsa_tree.specs.types.DeclaredTypes.{thing_type}
 use Rattle.tsa_tree.specs.types.Heads.{inside, params_of}
 use Rattle.tsa_tree.specs.types.Runnable.{Runnable}
@@ -35,7 +36,7 @@ use Rattle.tsa_core.proofs.FactsKnown.{FactsAt, all_facts, each_both}
 use Rattle.tsa_core.proofs.KnownLocals.{NamesBelow, points_speak_of_known}
 use Rattle.tsa_core.proofs.MappedLists.{map_at, map_length}
 use Rattle.tsa_core.proofs.ScopesBelong.{Each, scopes_belong}
-use Rattle.tsa_core.proofs.SignaturesFit.{SoundBody, body_sound}
+use Rattle.tsa_core.proofs.SignaturesFit.{SpellableBody, body_spellable}
 use Rattle.tsa_path.specs.Substitution.{as_pointer, given}
 use Rattle.tsa_rules.specs.Attributes as rules
 use Rattle.tsa_rules.specs.Attributes.{all_as_called}
@@ -93,16 +94,16 @@ module _ (items : List UnitItem) (l : Layout) (in_profile : IsInProfile items l)
     begun : BeginsIn b l
     begun = unit_begins items d.head.name.text b l runs in_profile.placed bodied
 
-    text : SoundBody b
-    text = body_sound d.head.name.text b [] (outset items) items in_profile.sound bodied
+    text : SpellableBody b
+    text = body_spellable d.head.name.text b (outset items) items in_profile.spellable bodied
 
     abbrev result : ThingType
     result = begun.around.result
 
-    facts : Each (FactsAt text.aliases result) ks
+    facts : Each (FactsAt all_words result) ks
     facts =
-        each_both (FactsAt text.aliases result) (known_all b.here b.body) (knows b.here ends ∷ [])
-        (all_facts text.aliases result begun.around b.here b.body refl begun.typed begun.runs text.sound) (tt, tt)
+        each_both (FactsAt all_words result) (known_all b.here b.body) (knows b.here ends ∷ [])
+        (all_facts all_words result begun.around b.here b.body refl begun.typed begun.runs text) (tt, tt)
 
     layout_is : u.layout ≡ l
     unfolding program_of
@@ -155,10 +156,10 @@ module _ (items : List UnitItem) (l : Layout) (in_profile : IsInProfile items l)
       seen_same : core.seen q.here q.deed ≡ core.seen k.here q.deed
       seen_same = ap (λ y. y.here) x.seen_same ∙ ap (core.seen k.here) (sym deed_same)
 
-      facts_there : Facts text.aliases result q.here q.deed
+      facts_there : Facts all_words result q.here q.deed
       facts_there =
-          facts_moved text.aliases result k.here q.here q.deed seen_same
-          (subst (λ y. Facts text.aliases result k.here y) (sym deed_same) (each_at (FactsAt text.aliases result) ks p k facts at))
+          facts_moved all_words result k.here q.here q.deed seen_same
+          (subst (λ y. Facts all_words result k.here y) (sym deed_same) (each_at (FactsAt all_words result) ks p k facts at))
 
       calls_there : (point_by q.here result.kind q.deed).call ≡ Some c
       calls_there = subst (λ kind. (point_by q.here kind q.deed).call ≡ Some c) (sym begun.result) (ap (λ y. y.call) x.point_is ∙ calls)
@@ -173,7 +174,7 @@ module _ (items : List UnitItem) (l : Layout) (in_profile : IsInProfile items l)
       h =
           subst (λ ways. CallHere a u.layout q.here c (point_at f p).action ways) ways_are
           (subst (λ y. CallHere a u.layout q.here c y (uses_by u.layout a.stable q.here q.deed).arguments) action_is
-          (deed_calls a u.layout q.here text.aliases result q.span q.deed facts_there x.asked c calls_there))
+          (deed_calls a u.layout q.here all_words result q.span q.deed facts_there x.asked c calls_there))
 
       abbrev m : ℕ
       m = h.called.n

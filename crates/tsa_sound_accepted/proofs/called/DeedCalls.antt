@@ -10,7 +10,7 @@ use Rattle.tsa_tree.specs.declared.kind.ThingType.{ThingType}
 use Rattle.tsa_tree.specs.expressions.Syntax.{Expression}
 use Rattle.tsa_tree.specs.points.Syntax.{Deed, declares, evaluates, assigns, tests, switches, jumps, idles, returns, ends}
 use Rattle.tsa_tree.specs.statements.Sound.{is_assigning}
-use Rattle.tsa_tree.specs.tokens.Signs.{Aliases}
+use Rattle.tsa_tree.specs.expressions.Sound.{Words}
 use Rattle.tsa_tree.specs.types.DeclaredTypes.{thing_type}
 use Rattle.tsa_tree.specs.types.Expressions.{type_of}
 use Rattle.tsa_tree.specs.types.Locals.{init_breaks, names_in, names_in_init}
@@ -144,8 +144,8 @@ module _ (a : Around) (l : Layout) (here : Scope) where
       or_left (integer_kind k.thing.kind) (pointer_kind k.thing.kind) (integer_is (called_sense a here k.n k.thing).type
       (subst (λ y. is_integer y.type ≡ true) k.sense i)).1
 
-  module _ (aliases : Aliases) (result : ThingType) where
-    pub deed_calls : (span : Span) (d : Deed) → Facts aliases result here d → first (deed_premises a here span d) ≡ None → (c : Call)
+  module _ (words : Words) (result : ThingType) where
+    pub deed_calls : (span : Span) (d : Deed) → Facts words result here d → first (deed_premises a here span d) ≡ None → (c : Call)
         → (point_by here result.kind d).call ≡ Some c
         → CallHere c (point_by here result.kind d).action (uses_by l a.stable here d).arguments
     deed_calls span (declares d) f h c is =

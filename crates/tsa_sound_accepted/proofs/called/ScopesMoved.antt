@@ -4,7 +4,7 @@ use Rattle.std.proofs.lemmas.List.Elements.{All-append}
 use Rattle.tsa_tree.specs.declarations.Syntax.{Declaration}
 use Rattle.tsa_tree.specs.declared.kind.ThingType.{ThingType}
 use Rattle.tsa_tree.specs.points.Syntax.{Deed, declares, evaluates, assigns, tests, switches, jumps, idles, returns, ends}
-use Rattle.tsa_tree.specs.tokens.Signs.{Aliases}
+use Rattle.tsa_tree.specs.expressions.Sound.{Words}
 use Rattle.tsa_tree.specs.types.Locals.{local_entry, unless_taken}
 use Rattle.tsa_tree.specs.types.Scopes.{Scope, further, is_taken, with_locals}
 use Rattle.tsa_core.specs.Bodies.{known_in_body}
@@ -29,18 +29,18 @@ scope_moved here there jumps same P to from h = subst P (sym same) h
 scope_moved here there idles same P to from h = subst P (sym same) h
 scope_moved here there (returns e) same P to from h = subst P (sym same) h
 
-pub facts_moved : (aliases : Aliases) (result : ThingType) (here there : Scope) (d : Deed) → seen there d ≡ seen here d → Facts aliases result here d
-    → Facts aliases result there d
-facts_moved aliases result here there (tests None) same h = tt
-facts_moved aliases result here there (tests (Some e)) same h = subst (λ s. Facts aliases result s (tests (Some e))) (sym same) h
-facts_moved aliases result here there ends same h = tt
-facts_moved aliases result here there (declares d) same h = subst (λ s. Facts aliases result s (declares d)) (sym same) h
-facts_moved aliases result here there (evaluates e) same h = subst (λ s. Facts aliases result s (evaluates e)) (sym same) h
-facts_moved aliases result here there (assigns left o right) same h = subst (λ s. Facts aliases result s (assigns left o right)) (sym same) h
-facts_moved aliases result here there (switches e) same h = subst (λ s. Facts aliases result s (switches e)) (sym same) h
-facts_moved aliases result here there jumps same h = tt
-facts_moved aliases result here there idles same h = tt
-facts_moved aliases result here there (returns e) same h = subst (λ s. Facts aliases result s (returns e)) (sym same) h
+pub facts_moved : (words : Words) (result : ThingType) (here there : Scope) (d : Deed) → seen there d ≡ seen here d → Facts words result here d
+    → Facts words result there d
+facts_moved words result here there (tests None) same h = tt
+facts_moved words result here there (tests (Some e)) same h = subst (λ s. Facts words result s (tests (Some e))) (sym same) h
+facts_moved words result here there ends same h = tt
+facts_moved words result here there (declares d) same h = subst (λ s. Facts words result s (declares d)) (sym same) h
+facts_moved words result here there (evaluates e) same h = subst (λ s. Facts words result s (evaluates e)) (sym same) h
+facts_moved words result here there (assigns left o right) same h = subst (λ s. Facts words result s (assigns left o right)) (sym same) h
+facts_moved words result here there (switches e) same h = subst (λ s. Facts words result s (switches e)) (sym same) h
+facts_moved words result here there jumps same h = tt
+facts_moved words result here there idles same h = tt
+facts_moved words result here there (returns e) same h = subst (λ s. Facts words result s (returns e)) (sym same) h
 
 belongs_to : (k : Setting) (s : Scope) → Belongs s k → Belongs (with_locals 0 s) k
 belongs_to k s h = record { global_is = h.global_is; local_is = h.local_is; members_are = h.members_are; none_owned = h.none_owned }

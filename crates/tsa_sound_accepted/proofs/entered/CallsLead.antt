@@ -8,7 +8,7 @@ use Rattle.tsa_tree.specs.declared.kind.Kind.{Kind}
 use Rattle.tsa_tree.specs.declared.kind.ThingType.{ThingType}
 use Rattle.tsa_tree.specs.expressions.Syntax.{Expression, Arguments, number, null, named, call, unary, binary, field, index}
 use Rattle.tsa_tree.specs.points.Syntax.{Deed, declares, evaluates, assigns, tests, switches, jumps, idles, returns, ends}
-use Rattle.tsa_tree.specs.tokens.Signs.{Aliases}
+use Rattle.tsa_tree.specs.expressions.Sound.{Words}
 use Rattle.tsa_tree.specs.types.DeclaredTypes.{thing_type}
 use Rattle.tsa_tree.specs.types.Expressions.{type_of}
 use Rattle.tsa_tree.specs.types.Locals.{names_in, names_in_init}
@@ -106,14 +106,14 @@ module _ (here : Scope) (k : Setting) (bel : Belongs here k) (stable : ℕ → B
       by (Some ways) f h = rw f h
 
   -- what a deed calls
-  module _ (l : Layout) (aliases : Aliases) (result : ThingType) where
+  module _ (l : Layout) (words : Words) (result : ThingType) where
     init_lead : (kind : Kind) (i : Option Initialiser) → first (names_in here i) ≡ None → ArgsLead (declared here kind i).call (init_uses l stable here i).arguments
     unfolding names_in_init
     init_lead kind None names = none_lead []
     init_lead kind (Some (list items span)) names = none_lead []
     init_lead kind (Some (value e)) names = let t = keeps_typed (context_of here) e names in value_leads l e t.0 t.1
 
-    pub deed_leads : (kind : Kind) (d : Deed) → Facts aliases result here d → ArgsLead (point_by here kind d).call (uses_by l stable here d).arguments
+    pub deed_leads : (kind : Kind) (d : Deed) → Facts words result here d → ArgsLead (point_by here kind d).call (uses_by l stable here d).arguments
     deed_leads kind (declares d) f = init_lead (thing_type here d.ctype).kind d.init (init_told here d f.0).1.0
     deed_leads kind (evaluates e) f = let t = keeps_typed (context_of here) e f.0 in value_leads l e t.0 t.1
     deed_leads kind (assigns left o right) f =

@@ -8,6 +8,7 @@ use Rattle.tsa_tree.specs.declared.kind.Kind.{Kind}
 use Rattle.tsa_tree.specs.declared.kind.Kind.TheVariants as type
 use Rattle.tsa_tree.specs.declared.kind.Declaring.TheVariants as declaring
 use Rattle.tsa_tree.specs.declared.premise.Bearer.TheVariants as on
+use Rattle.tsa_tree.specs.expressions.Sound.{all_words}
 use Rattle.tsa_tree.specs.types.Attributes.{attributes_premises}
 use Rattle.tsa_tree.specs.types.DeclaredTypes.{declared_premises, thing_type}
 use Rattle.tsa_tree.specs.types.Heads as heads
@@ -180,13 +181,13 @@ module _ (items : List UnitItem) (l : Layout) (in_profile : IsInProfile items l)
 
     scalar_locals : (j : ℕ) (kind : Kind) → slice_get (body_in b).locals j ≡ Some kind → IsScalar kind
     scalar_locals =
-        declared_scalar (text items l in_profile d.head.name.text b body_at).aliases (result items l in_profile d.head.name.text b body_at) (known_in_body b.here b.body)
+        declared_scalar all_words (result items l in_profile d.head.name.text b body_at) (known_in_body b.here b.body)
         (facts items l in_profile d.head.name.text b body_at) (each_point AreWritten (λ here k h. written_further here k h) written_local b.here b.body written)
 
     scalars : (j : ℕ) (kind : Kind) → slice_get (local_kinds f) j ≡ Some kind → IsScalar kind
     scalars =
         subst (λ ps. (j : ℕ) (kind : Kind) → slice_get (ps ++ (body_in b).locals) j ≡ Some kind → IsScalar kind) agree.0
-        (both_scalar (text items l in_profile d.head.name.text b body_at).aliases (result items l in_profile d.head.name.text b body_at)
+        (both_scalar all_words (result items l in_profile d.head.name.text b body_at)
         (map (λ p. (thing_type b.here p.ctype).kind) b.head.params) (body_in b).locals scalar_params scalar_locals)
 
     scalar_result : scalar_kind f.result ≡ true → IsScalar f.result

@@ -3,6 +3,7 @@ use Rattle.std.proofs.Common.{◌≡◌, ◌∙◌, ℕ, zero, suc, List, [], �
 use Rattle.std.proofs.Common.{subst}
 use Rattle.tsa_tree.specs.declared.kind.ThingType.{ThingType}
 use Rattle.tsa_tree.specs.points.Syntax.{ends}
+use Rattle.tsa_tree.specs.expressions.Sound.{all_words}
 use Rattle.tsa_tree.specs.types.Runnable.{Runnable}
 use Rattle.tsa_tree.specs.types.Units.{outset, refusal_of_types}
 use Rattle.tsa_tree.specs.units.Syntax.{UnitItem}
@@ -15,7 +16,7 @@ use Rattle.tsa_core.proofs.BodyScopes.{BeginsIn, unit_begins}
 use Rattle.tsa_core.proofs.FactsKnown.{FactsAt, all_facts, each_both}
 use Rattle.tsa_core.proofs.MappedLists.{map_at}
 use Rattle.tsa_core.proofs.ScopesBelong.{Each}
-use Rattle.tsa_core.proofs.SignaturesFit.{SoundBody, body_sound}
+use Rattle.tsa_core.proofs.SignaturesFit.{SpellableBody, body_spellable}
 use Rattle.tsa_place_model.specs.Units.{placed_in}
 use Rattle.tsa_profile.proofs.UnitsRun.{profiles_are_runnable}
 use Rattle.tsa_rules.specs.Points.{function_at, or_no_function}
@@ -67,16 +68,16 @@ module _ (items : List UnitItem) (l : Layout) (in_profile : IsInProfile items l)
     pub begun : BeginsIn b l
     begun = unit_begins items name b l runs in_profile.placed is
 
-    pub text : SoundBody b
-    text = body_sound name b [] (outset items) items in_profile.sound is
+    pub text : SpellableBody b
+    text = body_spellable name b (outset items) items in_profile.spellable is
 
     abbrev pub result : ThingType
     result = begun.around.result
 
-    pub facts : Each (FactsAt text.aliases result) (known_in_body b.here b.body)
+    pub facts : Each (FactsAt all_words result) (known_in_body b.here b.body)
     facts =
-        each_both (FactsAt text.aliases result) (known_all b.here b.body) (knows b.here ends ∷ [])
-        (all_facts text.aliases result begun.around b.here b.body refl begun.typed begun.runs text.sound) (tt, tt)
+        each_both (FactsAt all_words result) (known_all b.here b.body) (knows b.here ends ∷ [])
+        (all_facts all_words result begun.around b.here b.body refl begun.typed begun.runs text) (tt, tt)
 
 -- what holds of all points holds of one
 pub each_at : (P : Known → Type 0) (ks : List Known) (n : ℕ) (k : Known) → Each P ks → slice_get ks n ≡ Some k → P k

@@ -2,6 +2,7 @@
 use Rattle.std.proofs.Common.{◌≡◌, ℕ, zero, suc, Bool, List, [], ◌∷◌, All, Option, Some, None, option_map, slice_get, refl, sym, subst}
 use Rattle.std.proofs.lemmas.List.Elements.{All-head, All-tail}
 use Rattle.tsa_tree.specs.declared.kind.Kind.{Kind}
+use Rattle.tsa_tree.specs.expressions.Sound.{all_words}
 use Rattle.tsa_tree.specs.types.DeclaredTypes.{thing_type}
 use Rattle.tsa_tree.specs.types.Units.{outset}
 use Rattle.tsa_tree.specs.units.Syntax.{UnitItem}
@@ -46,8 +47,8 @@ module _ (items : List UnitItem) (l : Layout) (in_profile : IsInProfile items l)
     at_known r p k at =
         deed_leads k.here (setting l b None)
         (all_at (λ x. Belongs x.here (setting l b None)) ks p k (scopes_belong items name b l None (runs items l in_profile name b is) in_profile.placed is) at)
-        stable l (text items l in_profile name b is).aliases (result items l in_profile name b is) r k.deed
-        (each_at (FactsAt (text items l in_profile name b is).aliases (result items l in_profile name b is)) ks p k (facts items l in_profile name b is) at)
+        stable l all_words (result items l in_profile name b is) r k.deed
+        (each_at (FactsAt all_words (result items l in_profile name b is)) ks p k (facts items l in_profile name b is) at)
 
     by_known : (r : Kind) (p : ℕ) (o : Option Known) → slice_get ks p ≡ o → At (or_idle (option_map (point_of r) o)) (or_unused (option_map (uses_of l stable) o))
     by_known r p None at = λ c h. absurd cc

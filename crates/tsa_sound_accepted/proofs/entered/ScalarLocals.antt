@@ -10,7 +10,7 @@ use Rattle.tsa_tree.specs.declared.kind.Resolved.{Resolved}
 use Rattle.tsa_tree.specs.declared.kind.Resolved.TheVariants as written
 use Rattle.tsa_tree.specs.declared.kind.ThingType.{ThingType}
 use Rattle.tsa_tree.specs.points.Syntax.{Deed, declares, evaluates, assigns, tests, switches, jumps, idles, returns, ends}
-use Rattle.tsa_tree.specs.tokens.Signs.{Aliases}
+use Rattle.tsa_tree.specs.expressions.Sound.{Words}
 use Rattle.tsa_tree.specs.types.DeclaredTypes.{declared_premises, is_nothing, is_refused, length_of, may_be, resolve, thing_type}
 use Rattle.tsa_tree.specs.types.DeclaredTypes.{with_length}
 use Rattle.tsa_tree.specs.types.Heads.{params_premises, with_param}
@@ -112,7 +112,7 @@ written_local here d h = by (is_taken d.name.text here)
     by true = h
     by false = written_name here d h
 
-module _ (aliases : Aliases) (result : ThingType) where
+module _ (words : Words) (result : ThingType) where
   abbrev Scalars : List Kind → Type 0
   Scalars kinds = (j : ℕ) (kind : Kind) → slice_get kinds j ≡ Some kind → IsScalar kind
 
@@ -128,7 +128,7 @@ module _ (aliases : Aliases) (result : ThingType) where
   one_scalar x h zero kind e = let same : x ≡ kind = cc in subst IsScalar same h
   one_scalar x h (suc j) kind e = absurd cc
 
-  deed_scalar : (here : Scope) (d : Deed) → AreWritten here → FactsAt aliases result (record { here = here; deed = d }) → Scalars (kinds_by here d)
+  deed_scalar : (here : Scope) (d : Deed) → AreWritten here → FactsAt words result (record { here = here; deed = d }) → Scalars (kinds_by here d)
   deed_scalar here (declares d) are f =
       let told = init_told here d f.0 in
       let runs = both_true (is_small (thing_type here d.ctype)) (is_whole_init d.init) f.1.0 in
@@ -143,7 +143,7 @@ module _ (aliases : Aliases) (result : ThingType) where
   deed_scalar here (returns e) are f = none_scalar
   deed_scalar here ends are f = none_scalar
 
-  pub declared_scalar : (ks : List Known) → Each (FactsAt aliases result) ks → All (λ k. AreWritten k.here) ks → Scalars (kinds_declared ks)
+  pub declared_scalar : (ks : List Known) → Each (FactsAt words result) ks → All (λ k. AreWritten k.here) ks → Scalars (kinds_declared ks)
   declared_scalar [] f h = none_scalar
   declared_scalar (k ∷ ks) f h =
       both_scalar (kinds_by k.here k.deed) (kinds_declared ks) (deed_scalar k.here k.deed (All-head (λ x. AreWritten x.here) k ks h) f.0)

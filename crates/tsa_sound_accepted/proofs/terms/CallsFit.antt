@@ -3,6 +3,7 @@ use Rattle.std.proofs.Common.{◌≡◌, ◌∙◌, ℕ, Bool, List, map, Option
 use Rattle.std.proofs.Common.{refl, sym, ap, subst}
 use Rattle.tsa_tree.specs.declared.kind.Kind.{Kind}
 use Rattle.tsa_tree.specs.declared.kind.Kind.TheVariants as type
+use Rattle.tsa_tree.specs.expressions.Sound.{all_words}
 use Rattle.tsa_tree.specs.types.Units.{outset}
 use Rattle.tsa_tree.specs.units.Syntax.{UnitItem}
 use Rattle.tsa_place_model.specs.Ways.{Way}
@@ -61,8 +62,8 @@ module _ (items : List UnitItem) (l : Layout) (in_profile : IsInProfile items l)
     acts_known p None at = λ h. never (sym h)
     acts_known p (Some k) at =
         subst (λ kind. Acts (point_of kind k)) (points.begun items l in_profile d b n declared bodied).result
-        (deed_acts k.here (points.text items l in_profile d b n declared bodied).aliases (points.result items l in_profile d b n declared bodied) k.deed
-        (each_at (FactsAt (points.text items l in_profile d b n declared bodied).aliases (points.result items l in_profile d b n declared bodied)) ks p k
+        (deed_acts k.here all_words (points.result items l in_profile d b n declared bodied) k.deed
+        (each_at (FactsAt all_words (points.result items l in_profile d b n declared bodied)) ks p k
         (points.facts items l in_profile d b n declared bodied) at))
 
     acts_at : (p : ℕ) → Acts (point_at f p)
@@ -86,8 +87,8 @@ module _ (items : List UnitItem) (l : Layout) (in_profile : IsInProfile items l)
         subst (λ kind. PointsIn (program_of items) (point_of kind k) (uses_of l stable k)) begun.result
         (λ c e i struct to_const y w kind arg way.
         let r = deed_leads k.here stable (PointsBy sig k.here (setting l b None) both.0 stable)
-        (call_points sig k.here (setting l b None) both.0 stable (calls_fit sig k.here both.1)) l text.aliases result k.deed
-        (each_at (FactsAt text.aliases result) ks p k (points.facts items l in_profile d b n declared bodied) at) c e in
+        (call_points sig k.here (setting l b None) both.0 stable (calls_fit sig k.here both.1)) l all_words result k.deed
+        (each_at (FactsAt all_words result) ks p k (points.facts items l in_profile d b n declared bodied) at) c e in
         pointed_at k.here (setting l b None) both.0 stable r.params c.args (uses_of l stable k).arguments r.pointed i struct to_const y w
         (sym (ap (λ kinds. slice_get kinds i) (params_told (slice_get (program_of items).functions c.function) (map (λ t. t.kind) r.params) r.params_are)) ∙ kind) arg way)
 

@@ -7,7 +7,7 @@ use Rattle.tsa_tree.specs.declared.kind.ThingType.{ThingType}
 use Rattle.tsa_base.specs.declared.token.Span.{Span}
 use Rattle.tsa_tree.specs.expressions.Syntax.{Arguments, Expression, Identifier, call}
 use Rattle.tsa_tree.specs.points.Syntax.{Deed, declares, evaluates, assigns, tests, switches, jumps, idles, returns, ends}
-use Rattle.tsa_tree.specs.tokens.Signs.{Aliases}
+use Rattle.tsa_tree.specs.expressions.Sound.{Words}
 use Rattle.tsa_tree.specs.types.DeclaredTypes.{thing_type}
 use Rattle.tsa_tree.specs.types.Expressions.{type_of, premises_of}
 use Rattle.tsa_tree.specs.types.Locals.{names_in, names_in_init}
@@ -57,8 +57,8 @@ module _ (here : Scope) (stable : ℕ → Bool) (R : Call → List (Option Way) 
     unfolding names_in_init
     value_first e h = h
 
-    module _ (l : Layout) (aliases : Aliases) (result : ThingType) where
-      init_leads : (d : Declaration) (kind : Kind) → Facts aliases result here (declares d) → Lead (declared here kind d.init).call (init_uses l stable here d.init).arguments
+    module _ (l : Layout) (words : Words) (result : ThingType) where
+      init_leads : (d : Declaration) (kind : Kind) → Facts words result here (declares d) → Lead (declared here kind d.init).call (init_uses l stable here d.init).arguments
       init_leads d kind f =
           by d.init (init_told here d f.0).1.0 (both_true (is_small (thing_type here d.ctype)) (is_whole_init d.init) f.1.0).1
         where
@@ -67,7 +67,7 @@ module _ (here : Scope) (stable : ℕ → Bool) (R : Call → List (Option Way) 
           by (Some (list items span)) names whole = no_call []
           by (Some (value e)) names whole = value_leads e (value_first e names) whole
 
-      pub deed_leads : (d : Deed) → Facts aliases result here d → Lead (point_by here result.kind d).call (uses_by l stable here d).arguments
+      pub deed_leads : (d : Deed) → Facts words result here d → Lead (point_by here result.kind d).call (uses_by l stable here d).arguments
       deed_leads (declares d) f = init_leads d (thing_type here d.ctype).kind f
       deed_leads (evaluates e) f = value_leads e f.0 f.1.0
       deed_leads (assigns left o right) f = let s = set_told here left o right f.0.0 f.0.1 f.1.0 in value_leads right s.kept s.whole

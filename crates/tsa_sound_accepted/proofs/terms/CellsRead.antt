@@ -5,7 +5,7 @@ use Rattle.std.proofs.lemmas.List.Elements.{All-nil, All-cons, Contains-append_l
 use Rattle.std.proofs.lemmas.List.Folds.{list_any-append}
 use Rattle.std.specs.List.{flat_map, list_any}
 use Rattle.tsa_tree.specs.expressions.Syntax.{Expression}
-use Rattle.tsa_tree.specs.tokens.Signs.{Aliases}
+use Rattle.tsa_tree.specs.expressions.Sound.{Words}
 use Rattle.tsa_tree.specs.types.Scopes.{Scope}
 use Rattle.tsa_place_model.specs.Ways.{Way}
 use Rattle.tsa_core.specs.Kinds.{Setting, Belongs}
@@ -86,20 +86,20 @@ any_guarded b c (a ∷ xs) h =
     one_of (is_under b c a) (list_any (is_under b c) xs) h (λ g. or_left (is_guarded_by c a) (list_any (is_guarded_by c) xs) (under_guarded b c a g))
     (λ g. or_right (is_guarded_by c a) (list_any (is_guarded_by c) xs) (any_guarded b c xs g))
 
-module _ (here : Scope) (k : Setting) (bel : Belongs here k) (stable : ℕ → Bool) (aliases : Aliases) where
+module _ (here : Scope) (k : Setting) (bel : Belongs here k) (stable : ℕ → Bool) (words : Words) where
   own_access : (b : Bool) (e : Expression) (c : Way) → list_any (is_path c) (access_guards k.layout stable here e) ≡ true → is_under b c (access k.layout stable here b e) ≡ true
   own_access true e c h = h
   own_access false e c h = h
 
   -- the guards of cells that are accessed
-  pub cells_under : (b : Bool) (P : Option Way → Type 0) (cs : List Expression) → EachOf (IsTold here aliases) cs → EachOf (HasPaths k.layout stable here) cs
+  pub cells_under : (b : Bool) (P : Option Way → Type 0) (cs : List Expression) → EachOf (IsTold here words) cs → EachOf (HasPaths k.layout stable here) cs
       → ((c : Way) → list_any (is_under b c) (accesses k.layout stable here b cs) ≡ true → P (Some c)) → All (λ q. All P (guard_ways k stable q)) (places here cs)
   cells_under b P [] told has f = All-nil (λ q. All P (guard_ways k stable q))
   cells_under b P (e ∷ cs) told has f =
       let one = told.0 in
       let rest = accesses k.layout stable here b cs in
       All-cons (λ q. All P (guard_ways k stable q)) (meaning here e).term (places here cs)
-      (subst (All P) (sym (agree here k bel stable aliases e one.sound (free_gives here k e one.free) one.t one.typed has.0))
+      (subst (All P) (sym (agree here k bel stable words e one.sound (free_gives here k e one.free) one.t one.typed has.0))
       (each_guard P (access_guards k.layout stable here e) has.0
       (λ c g. f c (or_left (is_under b c (access k.layout stable here b e)) (list_any (is_under b c) rest) (own_access b e c g)))))
       (cells_under b P cs told.1 has.1 (λ c g. f c (or_right (is_under b c (access k.layout stable here b e)) (list_any (is_under b c) rest) g)))

@@ -8,11 +8,10 @@ use Rattle.tsa_tree.specs.declared.kind.Kind.{Kind}
 use Rattle.tsa_tree.specs.declared.kind.Kind.TheVariants as type
 use Rattle.tsa_tree.specs.declared.kind.ThingType.{ThingType}
 use Rattle.tsa_tree.specs.declarations.Sound.{SoundLocalInit}
-use Rattle.tsa_tree.specs.expressions.Sound.{SoundExpression}
+use Rattle.tsa_tree.specs.expressions.Sound.{Words, SoundExpression}
 use Rattle.tsa_tree.specs.expressions.Syntax.{Expression}
 use Rattle.tsa_tree.specs.points.Syntax.{Deed, declares, evaluates, assigns, tests, switches, jumps, idles, returns, ends}
 use Rattle.tsa_tree.specs.statements.Sound.{is_assigning}
-use Rattle.tsa_tree.specs.tokens.Signs.{Aliases}
 use Rattle.tsa_tree.specs.types.Constants.{enumerator}
 use Rattle.tsa_tree.specs.types.DeclaredTypes.{thing_type}
 use Rattle.tsa_tree.specs.types.Expressions.{type_of, premises_of}
@@ -144,11 +143,11 @@ assigning_whole (Some op.Times) h = tt
 assigning_whole (Some op.Divide) h = tt
 assigning_whole (Some op.Remainder) h = tt
 
-module _ (here : Scope) (l : Layout) (locals : ℕ → Option Kind) (bel : (given : Option Kind) → Belongs here (at_point l locals given)) (stable : ℕ → Bool) (aliases : Aliases)
+module _ (here : Scope) (l : Layout) (locals : ℕ → Option Kind) (bel : (given : Option Kind) → Belongs here (at_point l locals given)) (stable : ℕ → Bool) (words : Words)
     (small : (name : List ℕ) → IsSmall (enumerator (known_in here name))) (result : ThingType)
   where
     abbrev Told : Expression → Type 0
-    Told e = IsTold here aliases e
+    Told e = IsTold here words e
 
     abbrev Has : Expression → Type 0
     Has e = HasPaths l stable here e
@@ -168,17 +167,17 @@ module _ (here : Scope) (l : Layout) (locals : ℕ → Option Kind) (bel : (give
       t : ExpressionType
       typed : type_of (context_of here) e ≡ Some t
       whole : is_whole e ≡ true
-      sound : SoundExpression aliases e
+      sound : SoundExpression words e
 
-    value_of : (e : Expression) → first (premises_of (context_of here) e) ≡ None → is_whole e ≡ true → SoundExpression aliases e → IsValue e
+    value_of : (e : Expression) → first (premises_of (context_of here) e) ≡ None → is_whole e ≡ true → SoundExpression words e → IsValue e
     value_of e h whole sound = let t = keeps_typed (context_of here) e h in record { t = t.0; typed = t.1; whole = whole; sound = sound }
 
-    init_value : (w : ThingType) (e : Expression) → first (names_in here (Some (value e))) ≡ None → is_whole_init (Some (value e)) ≡ true → SoundLocalInit aliases (Some (value e)) → IsValue e
+    init_value : (w : ThingType) (e : Expression) → first (names_in here (Some (value e))) ≡ None → is_whole_init (Some (value e)) ≡ true → SoundLocalInit words (Some (value e)) → IsValue e
     unfolding names_in_init
     init_value w e names whole sound = value_of e names whole sound
 
     value_good : (e : Expression) → IsValue e → IsAsked l stable here e → Good (cells_read here e)
-    value_good e v a = (whole_told here aliases e v.t v.whole v.sound v.typed, a.cells)
+    value_good e v a = (whole_told here words e v.t v.whole v.sound v.typed, a.cells)
 
     alone : (d : Deed) → Good (right_cells here d) → Good (written_cells here d) → Good (cells_inside here d) → Good (cells_before here d) → GoodCells d
     alone d r w i b = record { right = r; written = w; inside = i; before = b }
@@ -186,22 +185,22 @@ module _ (here : Scope) (l : Layout) (locals : ℕ → Option Kind) (bel : (give
     none_good : Good []
     none_good = (tt, tt)
 
-    init_good : (d : Declaration) → Facts aliases result here (declares d) → InitAsked l stable here d.init → Good (init_cells here d.init)
+    init_good : (d : Declaration) → Facts words result here (declares d) → InitAsked l stable here d.init → Good (init_cells here d.init)
     init_good d f a =
         let told = init_told here d f.0 in
         by d.init told.1.0 (both_true (is_small (thing_type here d.ctype)) (is_whole_init d.init) f.1.0).1 f.1.1.2 a
       where
-        by : (i : Option Initialiser) → first (names_in here i) ≡ None → is_whole_init i ≡ true → SoundLocalInit aliases i → InitAsked l stable here i → Good (init_cells here i)
+        by : (i : Option Initialiser) → first (names_in here i) ≡ None → is_whole_init i ≡ true → SoundLocalInit words i → InitAsked l stable here i → Good (init_cells here i)
         by None names whole sound a = none_good
         by (Some (list items span)) names whole sound a = none_good
         by (Some (value e)) names whole sound a = value_good e (init_value (thing_type here d.ctype) e names whole sound) a
 
-    left_told : (left : Expression) (o : Option BinaryOp) (right : Expression) → SetTold here left o right → SoundExpression aliases left → Told left
+    left_told : (left : Expression) (o : Option BinaryOp) (right : Expression) → SetTold here left o right → SoundExpression words left → Told left
     left_told left o right s sound = record { t = s.t; typed = s.left_typed; sound = sound; free = s.free }
 
     left_good : (left : Expression) → Told left → IsAsked l stable here left → Good (own_cell here left) × Good (inner_cells here left)
     left_good left told a =
-        let ts = each_of_parts Told (own_cell here left) (inner_cells here left) (cells_told here aliases left told) in
+        let ts = each_of_parts Told (own_cell here left) (inner_cells here left) (cells_told here words left told) in
         let hs = each_of_parts Has (own_cell here left) (inner_cells here left) a.cells in
         ((ts.0, hs.0), (ts.1, hs.1))
 
@@ -209,10 +208,10 @@ module _ (here : Scope) (l : Layout) (locals : ℕ → Option Kind) (bel : (give
     before_good None left h = none_good
     before_good (Some o) left h = h
 
-    right_value : (left : Expression) (o : Option BinaryOp) (right : Expression) → SetTold here left o right → SoundExpression aliases right → IsValue right
+    right_value : (left : Expression) (o : Option BinaryOp) (right : Expression) → SetTold here left o right → SoundExpression words right → IsValue right
     right_value left o right s sound = value_of right s.kept s.whole sound
 
-    pub good_cells : (d : Deed) → Facts aliases result here d → DeedAsked l stable here d → GoodCells d
+    pub good_cells : (d : Deed) → Facts words result here d → DeedAsked l stable here d → GoodCells d
     good_cells (declares d) f a = alone (declares d) (init_good d f a) none_good none_good none_good
     good_cells (evaluates e) f a = alone (evaluates e) (value_good e (value_of e f.0 f.1.0 f.1.1) a) none_good none_good none_good
     good_cells (assigns left o right) f a =
@@ -222,11 +221,11 @@ module _ (here : Scope) (l : Layout) (locals : ℕ → Option Kind) (bel : (give
     good_cells (tests None) f a = alone (tests None) none_good none_good none_good none_good
     good_cells (tests (Some e)) f a =
         let t = keeps_typed (context_of here) e f.1.0 in
-        alone (tests (Some e)) (condition_told here aliases e t.0 f.1.1.0 f.1.1.1 t.1, a.cells) none_good none_good none_good
+        alone (tests (Some e)) (condition_told here words e t.0 f.1.1.0 f.1.1.1 t.1, a.cells) none_good none_good none_good
     good_cells (switches e) f a =
         let t = keeps_typed (context_of here) e f.1.0 in
         alone (switches e)
-        (cells_told here aliases e (record { t = t.0; typed = t.1; sound = f.1.1.1; free = not_true (has_call e) f.1.1.0 }), a.cells) none_good none_good none_good
+        (cells_told here words e (record { t = t.0; typed = t.1; sound = f.1.1.1; free = not_true (has_call e) f.1.1.0 }), a.cells) none_good none_good none_good
     good_cells jumps f a = alone jumps none_good none_good none_good none_good
     good_cells idles f a = alone idles none_good none_good none_good none_good
     good_cells (returns None) f a = alone (returns None) none_good none_good none_good none_good
@@ -239,16 +238,16 @@ module _ (here : Scope) (l : Layout) (locals : ℕ → Option Kind) (bel : (give
 
     as_fits : (given : Option Kind) (kind : Kind) (e : Expression) → IsValue e → IsAsked l stable here e → TermFits (at_point l locals given) stable (as_kind kind (meaning here e))
     as_fits given kind e v a =
-        as_kind_fits here (at_point l locals given) (bel given) stable aliases small kind (meaning here e)
-        (whole_fits here l locals bel stable aliases small given e v.t v.whole v.sound a.addresses v.typed)
+        as_kind_fits here (at_point l locals given) (bel given) stable words small kind (meaning here e)
+        (whole_fits here l locals bel stable words small given e v.t v.whole v.sound a.addresses v.typed)
 
-    init_fits : (given : Option Kind) (d : Declaration) (kind : Kind) → Facts aliases result here (declares d) → InitAsked l stable here d.init
+    init_fits : (given : Option Kind) (d : Declaration) (kind : Kind) → Facts words result here (declares d) → InitAsked l stable here d.init
         → RightFits (at_point l locals given) stable (declared here kind d.init).action
     init_fits given d kind f a =
         let told = init_told here d f.0 in
         by d.init told.1.0 (both_true (is_small (thing_type here d.ctype)) (is_whole_init d.init) f.1.0).1 f.1.1.2 a
       where
-        by : (i : Option Initialiser) → first (names_in here i) ≡ None → is_whole_init i ≡ true → SoundLocalInit aliases i → InitAsked l stable here i
+        by : (i : Option Initialiser) → first (names_in here i) ≡ None → is_whole_init i ≡ true → SoundLocalInit words i → InitAsked l stable here i
             → RightFits (at_point l locals given) stable (declared here kind i).action
         by None names whole sound a = zero_in_range kind
         by (Some (list items span)) names whole sound a = zero_in_range kind
@@ -257,12 +256,12 @@ module _ (here : Scope) (l : Layout) (locals : ℕ → Option Kind) (bel : (give
     side_fits : (given : Option Kind) (o : Option BinaryOp) (kind : Kind) (e : Expression) → IsValue e → IsAsked l stable here e
         → TermFits (at_point l locals given) stable (right_side o kind (meaning here e))
     side_fits given None kind e v a = as_fits given kind e v a
-    side_fits given (Some o) kind e v a = whole_fits here l locals bel stable aliases small given e v.t v.whole v.sound a.addresses v.typed
+    side_fits given (Some o) kind e v a = whole_fits here l locals bel stable words small given e v.t v.whole v.sound a.addresses v.typed
 
-    pub right_fits : (given : Option Kind) (d : Deed) → Facts aliases result here d → DeedAsked l stable here d → RightIs given d
+    pub right_fits : (given : Option Kind) (d : Deed) → Facts words result here d → DeedAsked l stable here d → RightIs given d
     right_fits given (declares d) f a = init_fits given d (thing_type here d.ctype).kind f a
     right_fits given (evaluates e) f a =
-        let v = value_of e f.0 f.1.0 f.1.1 in whole_fits here l locals bel stable aliases small given e v.t v.whole v.sound a.addresses v.typed
+        let v = value_of e f.0 f.1.0 f.1.1 in whole_fits here l locals bel stable words small given e v.t v.whole v.sound a.addresses v.typed
     right_fits given (assigns left o right) f a =
         let s = set_told here left o right f.0.0 f.0.1 f.1.0 in
         let kind = (meaning here left).type.thing.kind in
@@ -270,10 +269,10 @@ module _ (here : Scope) (l : Layout) (locals : ℕ → Option Kind) (bel : (give
         (side_fits given o kind right (right_value left o right s f.1.1.2) a.1)
     right_fits given (tests None) f a = refl
     right_fits given (tests (Some e)) f a =
-        let t = keeps_typed (context_of here) e f.1.0 in condition_fits here l locals bel stable aliases small given e t.0 f.1.1.0 f.1.1.1 a.addresses t.1
+        let t = keeps_typed (context_of here) e f.1.0 in condition_fits here l locals bel stable words small given e t.0 f.1.1.0 f.1.1.1 a.addresses t.1
     right_fits given (switches e) f a =
         let t = keeps_typed (context_of here) e f.1.0 in
-        (terms.fits here (at_point l locals given) (bel given) stable aliases small e f.1.1.1 (not_true (has_call e) f.1.1.0) a.addresses t.0 t.1).value
+        (terms.fits here (at_point l locals given) (bel given) stable words small e f.1.1.1 (not_true (has_call e) f.1.1.0) a.addresses t.0 t.1).value
     right_fits given jumps f a = refl
     right_fits given idles f a = refl
     right_fits given (returns None) f a = zero_in_range result.kind
@@ -289,7 +288,7 @@ module _ (here : Scope) (l : Layout) (locals : ℕ → Option Kind) (bel : (give
     init_left kind (Some (value e)) left h = nothing_left left h
     init_left kind (Some (list items span)) left h = nothing_left left h
 
-    pub left_fits : (given : Option Kind) (d : Deed) → Facts aliases result here d → DeedAsked l stable here d → (left : Term)
+    pub left_fits : (given : Option Kind) (d : Deed) → Facts words result here d → DeedAsked l stable here d → (left : Term)
         → left_of (point_by here result.kind d).action ≡ Some left → TermFits (at_point l locals given) stable left
     left_fits given (declares d) f a left h = init_left (thing_type here d.ctype).kind d.init left h
     left_fits given (evaluates e) f a left h = nothing_left left h
@@ -297,7 +296,7 @@ module _ (here : Scope) (l : Layout) (locals : ℕ → Option Kind) (bel : (give
         let s = set_told here x o right f.0.0 f.0.1 f.1.0 in
         let kind = (meaning here x).type.thing.kind in
         subst (TermFits (at_point l locals given) stable) (set_left (meaning here x).term o kind (right_side o kind (meaning here right)) left h)
-        (terms.fits here (at_point l locals given) (bel given) stable aliases small x f.1.1.0 s.free a.0.addresses s.t s.left_typed).term
+        (terms.fits here (at_point l locals given) (bel given) stable words small x f.1.1.0 s.free a.0.addresses s.t s.left_typed).term
     left_fits given (tests None) f a left h = nothing_left left h
     left_fits given (tests (Some e)) f a left h = nothing_left left h
     left_fits given (switches e) f a left h = nothing_left left h
@@ -312,7 +311,7 @@ module _ (here : Scope) (l : Layout) (locals : ℕ → Option Kind) (bel : (give
     init_operator kind (Some (value e)) = tt
     init_operator kind (Some (list items span)) = tt
 
-    pub operator_whole : (d : Deed) → Facts aliases result here d → IsWholeGiven (operator_of (point_by here result.kind d).action)
+    pub operator_whole : (d : Deed) → Facts words result here d → IsWholeGiven (operator_of (point_by here result.kind d).action)
     operator_whole (declares d) f = init_operator (thing_type here d.ctype).kind d.init
     operator_whole (evaluates e) f = tt
     operator_whole (assigns x o right) f =
@@ -335,26 +334,26 @@ module _ (here : Scope) (l : Layout) (locals : ℕ → Option Kind) (bel : (give
     no_call c h = absurd cc
 
     value_call : (e : Expression) → IsValue e → IsAsked l stable here e → Calls (call_in here e)
-    value_call e v a = whole_call_fits here l locals bel stable aliases small e v.t v.whole v.sound a.addresses v.typed
+    value_call e v a = whole_call_fits here l locals bel stable words small e v.t v.whole v.sound a.addresses v.typed
 
-    init_call : (d : Declaration) (kind : Kind) → Facts aliases result here (declares d) → InitAsked l stable here d.init → Calls (declared here kind d.init).call
+    init_call : (d : Declaration) (kind : Kind) → Facts words result here (declares d) → InitAsked l stable here d.init → Calls (declared here kind d.init).call
     init_call d kind f a =
         let told = init_told here d f.0 in
         by d.init told.1.0 (both_true (is_small (thing_type here d.ctype)) (is_whole_init d.init) f.1.0).1 f.1.1.2 a
       where
-        by : (i : Option Initialiser) → first (names_in here i) ≡ None → is_whole_init i ≡ true → SoundLocalInit aliases i → InitAsked l stable here i → Calls (declared here kind i).call
+        by : (i : Option Initialiser) → first (names_in here i) ≡ None → is_whole_init i ≡ true → SoundLocalInit words i → InitAsked l stable here i → Calls (declared here kind i).call
         by None names whole sound a = no_call
         by (Some (list items span)) names whole sound a = no_call
         by (Some (value e)) names whole sound a = value_call e (init_value (thing_type here d.ctype) e names whole sound) a
 
-    pub args_fit : (d : Deed) → Facts aliases result here d → DeedAsked l stable here d → Calls (point_by here result.kind d).call
+    pub args_fit : (d : Deed) → Facts words result here d → DeedAsked l stable here d → Calls (point_by here result.kind d).call
     args_fit (declares d) f a = init_call d (thing_type here d.ctype).kind f a
     args_fit (evaluates e) f a = value_call e (value_of e f.0 f.1.0 f.1.1) a
     args_fit (assigns left o right) f a =
         let s = set_told here left o right f.0.0 f.0.1 f.1.0 in value_call right (right_value left o right s f.1.1.2) a.1
     args_fit (tests None) f a = no_call
     args_fit (tests (Some e)) f a =
-        let t = keeps_typed (context_of here) e f.1.0 in condition_call_fits here l locals bel stable aliases small e t.0 f.1.1.0 f.1.1.1 a.addresses t.1
+        let t = keeps_typed (context_of here) e f.1.0 in condition_call_fits here l locals bel stable words small e t.0 f.1.1.0 f.1.1.1 a.addresses t.1
     args_fit (switches e) f a = no_call
     args_fit jumps f a = no_call
     args_fit idles f a = no_call
@@ -366,7 +365,7 @@ module _ (here : Scope) (l : Layout) (locals : ℕ → Option Kind) (bel : (give
     not_called : {A : Type 0} → IsSome {T = Call} None → A
     not_called h = never (sym h)
 
-    init_quiet : (d : Declaration) (kind : Kind) → Facts aliases result here (declares d) → IsSome (declared here kind d.init).call → IsQuiet (right_of (declared here kind d.init).action)
+    init_quiet : (d : Declaration) (kind : Kind) → Facts words result here (declares d) → IsSome (declared here kind d.init).call → IsQuiet (right_of (declared here kind d.init).action)
     init_quiet d kind f =
         by d.init (both_true (is_small (thing_type here d.ctype)) (is_whole_init d.init) f.1.0).1
       where
@@ -386,7 +385,7 @@ module _ (here : Scope) (l : Layout) (locals : ℕ → Option Kind) (bel : (give
         by true c q g = h c q g
         by false c q g = h c q g
 
-    pub silent : (d : Deed) → Facts aliases result here d → IsSome (point_by here result.kind d).call → IsQuiet (right_of (point_by here result.kind d).action)
+    pub silent : (d : Deed) → Facts words result here d → IsSome (point_by here result.kind d).call → IsQuiet (right_of (point_by here result.kind d).action)
     silent (declares d) f h = init_quiet d (thing_type here d.ctype).kind f h
     silent (evaluates e) f h = place_quiet (loaded (meaning here e)) (whole_quiet here e f.1.0 h)
     silent (assigns left o right) f h =

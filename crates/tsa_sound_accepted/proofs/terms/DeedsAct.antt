@@ -12,7 +12,7 @@ use Rattle.tsa_tree.specs.declared.meaning.Meaning.{Meaning}
 use Rattle.tsa_tree.specs.declared.meaning.Meaning.TheVariants as known
 use Rattle.tsa_tree.specs.expressions.Syntax.{Expression, number, null, named, call, unary, binary, field, index}
 use Rattle.tsa_tree.specs.points.Syntax.{Deed, declares, evaluates, assigns, tests, switches, jumps, idles, returns, ends}
-use Rattle.tsa_tree.specs.tokens.Signs.{Aliases}
+use Rattle.tsa_tree.specs.expressions.Sound.{Words}
 use Rattle.tsa_tree.specs.types.Constants.{constant_of, enumerator, is_known_enumerator, is_made_of_constants}
 use Rattle.tsa_tree.specs.types.DeclaredTypes.{thing_type}
 use Rattle.tsa_tree.specs.types.Operands.{integer_kind, pointer_kind}
@@ -237,18 +237,18 @@ module _ (here : Scope) where
   nothing_tested : {o : Option Condition} → o ≡ None → TestsCall o
   nothing_tested e = subst TestsCall (sym e) tt
 
-  pub deed_acts : (aliases : Aliases) (result : ThingType) (d : Deed) → Facts aliases result here d → IsSome (point_by here result.kind d).call
+  pub deed_acts : (words : Words) (result : ThingType) (d : Deed) → Facts words result here d → IsSome (point_by here result.kind d).call
       → CanCall (point_by here result.kind d).action × TestsCall (condition_at (point_by here result.kind d).action)
-  deed_acts aliases result (declares d) f h = let x = init_acts (thing_type here d.ctype).kind d.init in (x.0, nothing_tested x.1)
-  deed_acts aliases result (evaluates e) f h = (tt, tt)
-  deed_acts aliases result (assigns left o right) f h =
+  deed_acts words result (declares d) f h = let x = init_acts (thing_type here d.ctype).kind d.init in (x.0, nothing_tested x.1)
+  deed_acts words result (evaluates e) f h = (tt, tt)
+  deed_acts words result (assigns left o right) f h =
       let kind = (meaning here left).type.thing.kind in
       let x = set_acts (meaning here left).term o kind (right_side o kind (meaning here right)) in (x.0, nothing_tested x.1)
-  deed_acts aliases result (tests None) f h = not_called h
-  deed_acts aliases result (tests (Some e)) f h = (tt, condition_tests e f.1.1.0 h)
-  deed_acts aliases result (switches e) f h = not_called h
-  deed_acts aliases result jumps f h = not_called h
-  deed_acts aliases result idles f h = not_called h
-  deed_acts aliases result (returns None) f h = not_called h
-  deed_acts aliases result (returns (Some e)) f h = (tt, tt)
-  deed_acts aliases result ends f h = not_called h
+  deed_acts words result (tests None) f h = not_called h
+  deed_acts words result (tests (Some e)) f h = (tt, condition_tests e f.1.1.0 h)
+  deed_acts words result (switches e) f h = not_called h
+  deed_acts words result jumps f h = not_called h
+  deed_acts words result idles f h = not_called h
+  deed_acts words result (returns None) f h = not_called h
+  deed_acts words result (returns (Some e)) f h = (tt, tt)
+  deed_acts words result ends f h = not_called h

@@ -13,9 +13,8 @@ use Rattle.tsa_tree.specs.declared.kind.ThingType.{ThingType}
 use Rattle.tsa_tree.specs.declared.meaning.Entry.{Entry}
 use Rattle.tsa_tree.specs.declared.meaning.Meaning.{Meaning}
 use Rattle.tsa_tree.specs.declared.meaning.Meaning.TheVariants as known
-use Rattle.tsa_tree.specs.expressions.Sound.{SoundExpression, is_sound}
+use Rattle.tsa_tree.specs.expressions.Sound.{Words, SoundExpression, is_sound}
 use Rattle.tsa_tree.specs.expressions.Syntax.{Expression, number, null, named, call, unary, binary, field, index}
-use Rattle.tsa_tree.specs.tokens.Signs.{Aliases}
 use Rattle.tsa_tree.specs.types.Expressions.{type_of, types_of, member_of, member_type, owner}
 use Rattle.tsa_tree.specs.types.Operands.{lacks, breaks_index, element_type}
 use Rattle.tsa_tree.specs.types.Scopes.{Scope, context_of, known_in}
@@ -71,7 +70,7 @@ owned_same (Some w) p ways same h = ap (λ q. guards_owned q ways) (same w refl)
 struct_is : (t : ThingType) (n : ℕ) → t.length ≡ None → t.kind ≡ type.Structure n → struct_in t ≡ Some n
 struct_is t n e f = rw (e, f) refl
 
-module _ (here : Scope) (k : Setting) (bel : Belongs here k) (stable : ℕ → Bool) (aliases : Aliases) where
+module _ (here : Scope) (k : Setting) (bel : Belongs here k) (stable : ℕ → Bool) (words : Words) where
   abbrev l : Layout
   l = k.layout
 
@@ -209,7 +208,7 @@ module _ (here : Scope) (k : Setting) (bel : Belongs here k) (stable : ℕ → B
   operands_agree op.Divide a b = refl
   operands_agree op.Remainder a b = refl
 
-  pub agree : (e : Expression) → SoundExpression aliases e → GiveAnswer here k e → (t : ExpressionType) → type_of (context_of here) e ≡ Some t
+  pub agree : (e : Expression) → SoundExpression words e → GiveAnswer here k e → (t : ExpressionType) → type_of (context_of here) e ≡ Some t
       → all_there (access_guards l stable here e) ≡ false → guard_ways k stable (meaning here e).term ≡ access_guards l stable here e
   unfolding type_of types_of meaning access_guards
   agree (number n u span) sound gives t is h = refl
@@ -222,17 +221,17 @@ module _ (here : Scope) (k : Setting) (bel : Belongs here k) (stable : ℕ → B
       let f : ExpressionType → Option ExpressionType = λ x. option_map (member_type true x) (member_of (context_of here) true name.text x) in
       let parts = of_owner f (lacks (λ x. is_some (owner true x)) (type_of (context_of here) base)) (type_of (context_of here) base) t is in
       let told = found_told true name.text (meaning here base) t (subst (λ x. f x ≡ Some t) (sym (terms_have_types here base parts.0 parts.1.0)) parts.1.1) in
-      arrow_agrees base name.text parts.0 parts.1.0 (holds here k bel aliases base (both_true (is_sound aliases base) _ sound).0 gives parts.0 parts.1.0) told h
+      arrow_agrees base name.text parts.0 parts.1.0 (holds here k bel words base (both_true (is_sound words base) _ sound).0 gives parts.0 parts.1.0) told h
   agree (field base name false span) sound gives t is h =
       let f : ExpressionType → Option ExpressionType = λ x. option_map (member_type false x) (member_of (context_of here) false name.text x) in
       let parts = of_owner f (lacks (λ x. is_some (owner false x)) (type_of (context_of here) base)) (type_of (context_of here) base) t is in
       let told = found_told false name.text (meaning here base) t (subst (λ x. f x ≡ Some t) (sym (terms_have_types here base parts.0 parts.1.0)) parts.1.1) in
-      let inner = (both_true (is_sound aliases base) _ sound).0 in
+      let inner = (both_true (is_sound words base) _ sound).0 in
       let both = there_both (access_guards l stable here base) (field_guards l here (way_of stable here false base) name.text (owner false (meaning here base).type)) h in
-      point_agrees base name.text parts.0 parts.1.0 (holds here k bel aliases base inner gives parts.0 parts.1.0) told (access_guards l stable here base)
+      point_agrees base name.text parts.0 parts.1.0 (holds here k bel words base inner gives parts.0 parts.1.0) told (access_guards l stable here base)
       (agree base inner gives parts.0 parts.1.0 both.0) both.1
   agree (index base at span) sound gives t is h =
       let left = type_of (context_of here) base in
       let right = type_of (context_of here) at in
       let parts = of_two (λ a i. element_type a) (breaks_index left right) left right t is in
-      agree base (both_true (is_sound aliases base) (is_sound aliases at) sound).0 gives.0 parts.1.0.0 parts.1.0.1 h
+      agree base (both_true (is_sound words base) (is_sound words at) sound).0 gives.0 parts.1.0.0 parts.1.0.1 h

@@ -7,6 +7,7 @@ use Rattle.std.specs.Str.{bytes_eq}
 use Rattle.tsa_tree.specs.declared.kind.Kind.{Kind}
 use Rattle.tsa_tree.specs.declared.kind.ThingType.{ThingType}
 use Rattle.tsa_tree.specs.points.Syntax.{ends}
+use Rattle.tsa_tree.specs.expressions.Sound.{all_words}
 use Rattle.tsa_tree.specs.types.DeclaredTypes.{thing_type}
 use Rattle.tsa_tree.specs.types.Runnable.{Runnable}
 use Rattle.tsa_tree.specs.types.Units.{outset, refusal_of_types}
@@ -34,7 +35,7 @@ use Rattle.tsa_core.proofs.GoingOn.{points_go_on}
 use Rattle.tsa_core.proofs.MappedLists.{map_at}
 use Rattle.tsa_core.proofs.ProgramKinds.{programs_well_kinded}
 use Rattle.tsa_core.proofs.ScopesBelong.{Each, scopes_belong}
-use Rattle.tsa_core.proofs.SignaturesFit.{SoundBody, body_sound}
+use Rattle.tsa_core.proofs.SignaturesFit.{SpellableBody, body_spellable}
 use Rattle.tsa_core.proofs.UsesOfCells.{points_load_cells, points_load_just}
 use Rattle.tsa_profile.specs.Units as profile
 use Rattle.tsa_profile.specs.Units.{items_premises, paths_limits, tries_limits, unit_of}
@@ -79,16 +80,16 @@ module _ (items : List UnitItem) (l : Layout) (in_profile : IsInProfile items l)
     pub begun : BeginsIn b l
     begun = unit_begins items d.head.name.text b l runs in_profile.placed bodied
 
-    pub text : SoundBody b
-    text = body_sound d.head.name.text b [] (outset items) items in_profile.sound bodied
+    pub text : SpellableBody b
+    text = body_spellable d.head.name.text b (outset items) items in_profile.spellable bodied
 
     abbrev pub result : ThingType
     result = begun.around.result
 
-    pub facts : Each (FactsAt text.aliases result) ks
+    pub facts : Each (FactsAt all_words result) ks
     facts =
-        each_both (FactsAt text.aliases result) (known_all b.here b.body) (knows b.here ends ∷ [])
-        (all_facts text.aliases result begun.around b.here b.body refl begun.typed begun.runs text.sound) (tt, tt)
+        each_both (FactsAt all_words result) (known_all b.here b.body) (knows b.here ends ∷ [])
+        (all_facts all_words result begun.around b.here b.body refl begun.typed begun.runs text) (tt, tt)
 
     -- what the profile asks at the points
     abbrev u0 : profile.Unit
@@ -128,7 +129,7 @@ module _ (items : List UnitItem) (l : Layout) (in_profile : IsInProfile items l)
         (deed_leads k.here stable (λ c ways. AllLead stable c.args ways)
         (call_leads k.here (setting l b None)
         (all_at (λ x. Belongs x.here (setting l b None)) ks p k (scopes_belong items d.head.name.text b l None runs in_profile.placed bodied) at) stable)
-        l text.aliases result k.deed (each_at (FactsAt text.aliases result) ks p k facts at))
+        l all_words result k.deed (each_at (FactsAt all_words result) ks p k facts at))
 
     pub function_leads : (p : ℕ) → LeadAt (point_at f p) (uses_at f p)
     function_leads p =
@@ -150,12 +151,12 @@ module _ (items : List UnitItem) (l : Layout) (in_profile : IsInProfile items l)
         at_known p k at =
             terms k.here l (slice_get (kinds_of b))
             (λ given. all_at (λ x. Belongs x.here (setting l b given)) ks p k (scopes_belong items d.head.name.text b l given runs in_profile.placed bodied) at)
-            stable text.aliases (small_in k.here (all_at (λ x. HasSmall x.here) ks p k (body_small d.head.name.text b items typed bodied) at)) result sig paths k.deed
-            (each_at (FactsAt text.aliases result) ks p k facts at) (each_at (AskedAt l stable) ks p k asked at)
+            stable all_words (small_in k.here (all_at (λ x. HasSmall x.here) ks p k (body_small d.head.name.text b items typed bodied) at)) result sig paths k.deed
+            (each_at (FactsAt all_words result) ks p k facts at) (each_at (AskedAt l stable) ks p k asked at)
             (subst (λ r. LoadsAgree r k) (sym begun.result)
-            (all_at (LoadsAgree (thing_type b.here b.head.result).kind) ks p k (points_load_cells items d.head.name.text b l in_profile.sound runs in_profile.placed bodied) at))
+            (all_at (LoadsAgree (thing_type b.here b.head.result).kind) ks p k (points_load_cells items d.head.name.text b l in_profile.spellable runs in_profile.placed bodied) at))
             (subst (λ r. LoadsJustThose r k) (sym begun.result)
-            (all_at (LoadsJustThose (thing_type b.here b.head.result).kind) ks p k (points_load_just items d.head.name.text b l in_profile.sound runs in_profile.placed bodied) at))
+            (all_at (LoadsJustThose (thing_type b.here b.head.result).kind) ks p k (points_load_just items d.head.name.text b l in_profile.spellable runs in_profile.placed bodied) at))
             (subst (λ x. (c : Way) → list_any (is_guarded_by c) (x.left ++ x.right) ≡ true → Contains paths c) (ap or_unused (map_at (uses_of l stable) ks p ∙ ap (option_map (uses_of l stable)) at)) (cover p))
 
         abbrev r : Kind
@@ -182,7 +183,7 @@ module _ (items : List UnitItem) (l : Layout) (in_profile : IsInProfile items l)
         kinds_all : All (PointHolds sig u.layout (function_locals f (body_in b)) f.result) (body_in b).points
         kinds_all =
             subst (λ v. All (PointHolds (signatures v) v.layout (function_locals f (body_in b)) f.result) (body_in b).points) (sym same)
-            (programs_well_kinded items l n f (body_in b) in_profile.sound runs in_profile.placed of_program refl)
+            (programs_well_kinded items l n f (body_in b) in_profile.spellable runs in_profile.placed of_program refl)
 
         kinds_at : (p : ℕ) → PointHolds sig u.layout (slice_get (local_kinds f)) f.result (point_at f p)
         kinds_at p = by (slice_get (body_in b).points p) refl

@@ -7,7 +7,7 @@ use Rattle.tsa_tree.specs.declared.expr.BinaryOp.{BinaryOp}
 use Rattle.tsa_tree.specs.declared.kind.Kind.{Kind}
 use Rattle.tsa_tree.specs.declared.kind.ThingType.{ThingType}
 use Rattle.tsa_tree.specs.points.Syntax.{Deed}
-use Rattle.tsa_tree.specs.tokens.Signs.{Aliases}
+use Rattle.tsa_tree.specs.expressions.Sound.{Words}
 use Rattle.tsa_tree.specs.types.Constants.{enumerator}
 use Rattle.tsa_tree.specs.types.Scopes.{Scope, known_in}
 use Rattle.tsa_place_model.specs.Ways.{Way}
@@ -95,9 +95,9 @@ left_loads (branch x) left h = absurd cc
 left_loads go_on left h = absurd cc
 left_loads (give kind x) left h = absurd cc
 
-module _ (here : Scope) (l : Layout) (locals : ℕ → Option Kind) (bel : (given : Option Kind) → Belongs here (at_point l locals given)) (stable : ℕ → Bool) (aliases : Aliases)
+module _ (here : Scope) (l : Layout) (locals : ℕ → Option Kind) (bel : (given : Option Kind) → Belongs here (at_point l locals given)) (stable : ℕ → Bool) (words : Words)
     (small : (name : List ℕ) → IsSmall (enumerator (known_in here name))) (result : ThingType) (sig : Signatures) (paths : List Way) (d : Deed)
-    (facts : Facts aliases result here d) (asked : DeedAsked l stable here d) (agree : LoadsAgree result.kind (knows here d)) (just : LoadsJustThose result.kind (knows here d))
+    (facts : Facts words result here d) (asked : DeedAsked l stable here d) (agree : LoadsAgree result.kind (knows here d)) (just : LoadsJustThose result.kind (knows here d))
     (cover : (c : Way) → list_any (is_guarded_by c) ((uses_by l stable here d).left ++ (uses_by l stable here d).right) ≡ true → Contains paths c)
   where
     abbrev p : Point
@@ -109,8 +109,8 @@ module _ (here : Scope) (l : Layout) (locals : ℕ → Option Kind) (bel : (give
     abbrev k : Option Kind → Setting
     k given = at_point l locals given
 
-    good : GoodCells here l locals bel stable aliases small result d
-    good = deed.good_cells here l locals bel stable aliases small result d facts asked
+    good : GoodCells here l locals bel stable words small result d
+    good = deed.good_cells here l locals bel stable words small result d facts asked
 
     right_is : x.right ≡ accesses l stable here false (right_cells here d)
     right_is = (uses_are_of_cells l stable (knows here d)).0
@@ -165,16 +165,16 @@ module _ (here : Scope) (l : Layout) (locals : ℕ → Option Kind) (bel : (give
 
     -- the guards of the places of cells
     all_right : (given : Option Kind) → All (λ q. All (ReadsUnder paths x.right) (guard_ways (k given) stable q)) (places here (right_cells here d))
-    all_right given = cells_under here (k given) (bel given) stable aliases false (ReadsUnder paths x.right) (right_cells here d) good.right.0 good.right.1 under_right
+    all_right given = cells_under here (k given) (bel given) stable words false (ReadsUnder paths x.right) (right_cells here d) good.right.0 good.right.1 under_right
 
     all_before : (given : Option Kind) → All (λ q. All (ReadsUnder paths x.left) (guard_ways (k given) stable q)) (places here (cells_before here d))
-    all_before given = cells_under here (k given) (bel given) stable aliases false (ReadsUnder paths x.left) (cells_before here d) good.before.0 good.before.1 under_before
+    all_before given = cells_under here (k given) (bel given) stable words false (ReadsUnder paths x.left) (cells_before here d) good.before.0 good.before.1 under_before
 
     all_inside : (given : Option Kind) → All (λ q. All (ReadsUnder paths x.left) (guard_ways (k given) stable q)) (places here (cells_inside here d))
-    all_inside given = cells_under here (k given) (bel given) stable aliases false (ReadsUnder paths x.left) (cells_inside here d) good.inside.0 good.inside.1 under_inside
+    all_inside given = cells_under here (k given) (bel given) stable words false (ReadsUnder paths x.left) (cells_inside here d) good.inside.0 good.inside.1 under_inside
 
     all_written : (given : Option Kind) → All (λ q. All (WritesUnder paths x.left) (guard_ways (k given) stable q)) (places here (written_cells here d))
-    all_written given = cells_under here (k given) (bel given) stable aliases true (WritesUnder paths x.left) (written_cells here d) good.written.0 good.written.1 under_written
+    all_written given = cells_under here (k given) (bel given) stable words true (WritesUnder paths x.left) (written_cells here d) good.written.0 good.written.1 under_written
 
     -- what is loaded before the call, and where there is none
     args_read : (c : Call) (b : Bool) (q : Term) → p.call ≡ Some c → AllLoad c.args b q → All (ReadsUnder paths x.right) (guard_ways (k None) stable q)
@@ -206,15 +206,15 @@ module _ (here : Scope) (l : Layout) (locals : ℕ → Option Kind) (bel : (give
 
     pub terms : TermsAt l locals stable sig paths p x
     terms = record {
-      args_fit = deed.args_fit here l locals bel stable aliases small result d facts asked;
-      right_fits = deed.right_fits here l locals bel stable aliases small result (answer_of sig p.call) d facts asked;
-      left_fits = deed.left_fits here l locals bel stable aliases small result (answer_of sig p.call) d facts asked;
+      args_fit = deed.args_fit here l locals bel stable words small result d facts asked;
+      right_fits = deed.right_fits here l locals bel stable words small result (answer_of sig p.call) d facts asked;
+      left_fits = deed.left_fits here l locals bel stable words small result (answer_of sig p.call) d facts asked;
       args_read = args_read;
       right_read = λ b q h f. right_read (answer_of sig p.call) b q f;
       left_read = left_read (answer_of sig p.call);
       old_read = old_read (answer_of sig p.call);
-      whole = λ place o kind y h. subst IsWholeGiven (ap operator_of h) (deed.operator_whole here l locals bel stable aliases small result d facts);
+      whole = λ place o kind y h. subst IsWholeGiven (ap operator_of h) (deed.operator_whole here l locals bel stable words small result d facts);
       written = cell_written (answer_of sig p.call);
-      whole_local = λ n o kind y h. subst IsWholeGiven (ap operator_of h) (deed.operator_whole here l locals bel stable aliases small result d facts);
-      silent = λ b q h f. deed.silent here l locals bel stable aliases small result d facts h b q f;
+      whole_local = λ n o kind y h. subst IsWholeGiven (ap operator_of h) (deed.operator_whole here l locals bel stable words small result d facts);
+      silent = λ b q h f. deed.silent here l locals bel stable words small result d facts h b q f;
     }

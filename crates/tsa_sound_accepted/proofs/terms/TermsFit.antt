@@ -16,9 +16,8 @@ use Rattle.tsa_tree.specs.declared.meaning.Entry.{Entry}
 use Rattle.tsa_tree.specs.declared.meaning.Meaning.{Meaning}
 use Rattle.tsa_tree.specs.declared.meaning.Meaning.TheVariants as known
 use Rattle.tsa_tree.specs.declared.number.Number.TheVariants as numeral
-use Rattle.tsa_tree.specs.expressions.Sound.{SoundExpression, is_sound, are_sound, is_value}
+use Rattle.tsa_tree.specs.expressions.Sound.{Words, SoundExpression, is_sound, are_sound, is_value}
 use Rattle.tsa_tree.specs.expressions.Syntax.{Expression, Arguments, number, null, named, call, unary, binary, field, index, none, more}
-use Rattle.tsa_tree.specs.tokens.Signs.{Aliases}
 use Rattle.tsa_tree.specs.types.Arithmetic.{is_int}
 use Rattle.tsa_tree.specs.types.Constants.{enumerator, number_value}
 use Rattle.tsa_tree.specs.types.Expressions.{type_of, types_of, all_typed, member_of, member_type, owner}
@@ -74,7 +73,7 @@ placed_is k (converted to x) t e = cc
 placed_is k (prefixed o x) t e = cc
 placed_is k (joined o x y) t e = cc
 
-module _ (here : Scope) (k : Setting) (bel : Belongs here k) (stable : ℕ → Bool) (aliases : Aliases) (small : (name : List ℕ) → IsSmall (enumerator (known_in here name))) where
+module _ (here : Scope) (k : Setting) (bel : Belongs here k) (stable : ℕ → Bool) (words : Words) (small : (name : List ℕ) → IsSmall (enumerator (known_in here name))) where
   abbrev Kept : Expression → Type 0
   Kept e = Holds k (meaning here e).term (meaning here e).type
 
@@ -126,7 +125,7 @@ module _ (here : Scope) (k : Setting) (bel : Belongs here k) (stable : ℕ → B
   call_const None c p = never (sym c)
   call_const (Some x) c p = never (sym c)
 
-  pub const_where : (e : Expression) → SoundExpression aliases e → has_call e ≡ false → (t : ExpressionType) → type_of (context_of here) e ≡ Some t → ConstWhere (meaning here e)
+  pub const_where : (e : Expression) → SoundExpression words e → has_call e ≡ false → (t : ExpressionType) → type_of (context_of here) e ≡ Some t → ConstWhere (meaning here e)
   unfolding type_of types_of meaning
   const_where (number n u span) sound free t is c p = never (sym c)
   const_where (null span) sound free t is c p = never (sym c)
@@ -137,15 +136,15 @@ module _ (here : Scope) (k : Setting) (bel : Belongs here k) (stable : ℕ → B
   const_where (field base name arrow span) sound free t is c p =
       let f : ExpressionType → Option ExpressionType = λ x. option_map (member_type arrow x) (member_of (context_of here) arrow name.text x) in
       let parts = of_owner f (lacks (λ x. is_some (owner arrow x)) (type_of (context_of here) base)) (type_of (context_of here) base) t is in
-      let s = (both_true (is_sound aliases base) _ sound).0 in
-      field_const arrow name.text (meaning here base) (holds here k bel aliases base s (free_gives here k base free) parts.0 parts.1.0) c p
+      let s = (both_true (is_sound words base) _ sound).0 in
+      field_const arrow name.text (meaning here base) (holds here k bel words base s (free_gives here k base free) parts.0 parts.1.0) c p
   const_where (index base at span) sound free t is c p =
       let l = type_of (context_of here) base in
       let r = type_of (context_of here) at in
       let parts = of_two (λ a i. element_type a) (breaks_index l r) l r t is in
-      let s = (both_true (is_sound aliases base) (is_sound aliases at) sound).0 in
+      let s = (both_true (is_sound words base) (is_sound words at) sound).0 in
       let f = (neither (has_call base) (has_call at) free).0 in
-      let h : Kept base = holds here k bel aliases base s (free_gives here k base f) parts.1.0.0 parts.1.0.1 in
+      let h : Kept base = holds here k bel words base s (free_gives here k base f) parts.1.0.0 parts.1.0.1 in
       let e = subst (λ y. breaks_index (Some (meaning here base).type) y ≡ false) (typed here at parts.1.1.0 parts.1.1.1)
       (subst (λ x. breaks_index x r ≡ false) (typed here base parts.1.0.0 parts.1.0.1) parts.0) in
       let array = not_false (is_array (meaning here base).type) (neither (lacks is_array (Some (meaning here base).type)) (lacks is_integer (Some (meaning here at).type)) e).0 in
@@ -216,23 +215,23 @@ module _ (here : Scope) (k : Setting) (bel : Belongs here k) (stable : ℕ → B
   member_fits true s (Some m) h g = g
   member_fits false s (Some m) h g = h
 
-  no_guards : (inner : Expression) (t : ExpressionType) → SoundExpression aliases inner → has_call inner ≡ false → type_of (context_of here) inner ≡ Some t
+  no_guards : (inner : Expression) (t : ExpressionType) → SoundExpression words inner → has_call inner ≡ false → type_of (context_of here) inner ≡ Some t
       → access_guards k.layout stable here inner ≡ [] → guard_ways k stable (meaning here inner).term ≡ []
   no_guards inner t sound free is no_ways =
-      agreement.agree here k bel stable aliases inner sound (free_gives here k inner free) t is (ap (list_any is_none) no_ways) ∙ no_ways
+      agreement.agree here k bel stable words inner sound (free_gives here k inner free) t is (ap (list_any is_none) no_ways) ∙ no_ways
 
   -- An expression without a call.
   pub record IsFit (e : Expression) : Type 0 where
     pub term : Fits (meaning here e).term
     pub value : Fits (loaded (meaning here e))
 
-  with_value : (e : Expression) (t : ExpressionType) → SoundExpression aliases e → has_call e ≡ false → type_of (context_of here) e ≡ Some t → Fits (meaning here e).term → IsFit e
+  with_value : (e : Expression) (t : ExpressionType) → SoundExpression words e → has_call e ≡ false → type_of (context_of here) e ≡ Some t → Fits (meaning here e).term → IsFit e
   with_value e t sound free is fits = record {
     term = fits;
-    value = value_fits (meaning here e) (holds here k bel aliases e sound (free_gives here k e free) t is) (const_where e sound free t is) fits;
+    value = value_fits (meaning here e) (holds here k bel words e sound (free_gives here k e free) t is) (const_where e sound free t is) fits;
   }
 
-  term_fits : (e : Expression) → SoundExpression aliases e → has_call e ≡ false → AddressesFree k.layout stable here e → (t : ExpressionType) → type_of (context_of here) e ≡ Some t
+  term_fits : (e : Expression) → SoundExpression words e → has_call e ≡ false → AddressesFree k.layout stable here e → (t : ExpressionType) → type_of (context_of here) e ≡ Some t
       → Fits (meaning here e).term
   unfolding type_of types_of meaning
   term_fits (number n u span) sound free addresses t is = literal_in_range n u sound
@@ -258,7 +257,7 @@ module _ (here : Scope) (k : Setting) (bel : Belongs here k) (stable : ℕ → B
       let l = type_of (context_of here) left in
       let r = type_of (context_of here) right in
       let parts = of_two (binary_type o) (breaks_binary o l r) l r t is in
-      let s = both_true (is_sound aliases left) (is_sound aliases right) sound in
+      let s = both_true (is_sound words left) (is_sound words right) sound in
       let f = neither (has_call left) (has_call right) free in
       operands_fit o (meaning here left) (meaning here right)
       (with_value left parts.1.0.0 s.0 f.0 parts.1.0.1 (term_fits left s.0 f.0 addresses.0 parts.1.0.0 parts.1.0.1)).value
@@ -266,20 +265,20 @@ module _ (here : Scope) (k : Setting) (bel : Belongs here k) (stable : ℕ → B
   term_fits (field base name arrow span) sound free addresses t is =
       let f : ExpressionType → Option ExpressionType = λ x. option_map (member_type arrow x) (member_of (context_of here) arrow name.text x) in
       let parts = of_owner f (lacks (λ x. is_some (owner arrow x)) (type_of (context_of here) base)) (type_of (context_of here) base) t is in
-      let s = (both_true (is_sound aliases base) _ sound).0 in
+      let s = (both_true (is_sound words base) _ sound).0 in
       let inner = with_value base parts.0 s free parts.1.0 (term_fits base s free addresses parts.0 parts.1.0) in
       member_fits arrow (meaning here base) (option_and_then (λ struct. numbered (members_at here struct) name.text 0) (owner arrow (meaning here base).type)) inner.term inner.value
   term_fits (index base at span) sound free addresses t is =
       let l = type_of (context_of here) base in
       let r = type_of (context_of here) at in
       let parts = of_two (λ a i. element_type a) (breaks_index l r) l r t is in
-      let s = both_true (is_sound aliases base) (is_sound aliases at) sound in
+      let s = both_true (is_sound words base) (is_sound words at) sound in
       let f = neither (has_call base) (has_call at) free in (
         term_fits base s.0 f.0 addresses.0 parts.1.0.0 parts.1.0.1,
         (with_value at parts.1.1.0 s.1 f.1 parts.1.1.1 (term_fits at s.1 f.1 addresses.1 parts.1.1.0 parts.1.1.1)).value,
       )
 
-  pub fits : (e : Expression) → SoundExpression aliases e → has_call e ≡ false → AddressesFree k.layout stable here e → (t : ExpressionType) → type_of (context_of here) e ≡ Some t → IsFit e
+  pub fits : (e : Expression) → SoundExpression words e → has_call e ≡ false → AddressesFree k.layout stable here e → (t : ExpressionType) → type_of (context_of here) e ≡ Some t → IsFit e
   fits e sound free addresses t is = with_value e t sound free is (term_fits e sound free addresses t is)
 
   -- a value where one of a kind is wanted
@@ -304,7 +303,7 @@ module _ (here : Scope) (k : Setting) (bel : Belongs here k) (stable : ℕ → B
   one_typed None rest h = never (sym h)
   one_typed (Some t) rest h = ((t, refl), h)
 
-  pub arguments_fit : (params : List ThingType) (args : Arguments) → are_sound aliases args ≡ true → have_call args ≡ false → ArgumentsFree k.layout stable here args
+  pub arguments_fit : (params : List ThingType) (args : Arguments) → are_sound words args ≡ true → have_call args ≡ false → ArgumentsFree k.layout stable here args
       → all_typed (types_of (context_of here) args) ≡ true → AllFit k stable (arguments here params args)
   unfolding arguments types_of
   arguments_fit [] none sound free addresses all = tt
@@ -312,6 +311,6 @@ module _ (here : Scope) (k : Setting) (bel : Belongs here k) (stable : ℕ → B
   arguments_fit (p ∷ params) none sound free addresses all = tt
   arguments_fit (p ∷ params) (more e rest) sound free addresses all =
       let one = one_typed (type_of (context_of here) e) (types_of (context_of here) rest) all in
-      let s = both_true (is_sound aliases e) (are_sound aliases rest) sound in
+      let s = both_true (is_sound words e) (are_sound words rest) sound in
       let f = neither (has_call e) (have_call rest) free in
       (as_kind_fits p.kind (meaning here e) (fits e s.0 f.0 addresses.0 one.0.0 one.0.1).value, arguments_fit params rest s.1 f.1 addresses.1 one.1)

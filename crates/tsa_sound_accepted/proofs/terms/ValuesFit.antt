@@ -11,9 +11,8 @@ use Rattle.tsa_tree.specs.declared.kind.ThingType.{ThingType}
 use Rattle.tsa_tree.specs.declared.meaning.Entry.{Entry}
 use Rattle.tsa_tree.specs.declared.meaning.Meaning.{Meaning}
 use Rattle.tsa_tree.specs.declared.meaning.Meaning.TheVariants as known
-use Rattle.tsa_tree.specs.expressions.Sound.{SoundExpression, is_sound, are_sound}
+use Rattle.tsa_tree.specs.expressions.Sound.{Words, SoundExpression, is_sound, are_sound}
 use Rattle.tsa_tree.specs.expressions.Syntax.{Expression, number, null, named, call, unary, binary, field, index}
-use Rattle.tsa_tree.specs.tokens.Signs.{Aliases}
 use Rattle.tsa_tree.specs.types.Constants.{constant_of, enumerator, is_known_enumerator, is_made_of_constants, worked, without_trap}
 use Rattle.tsa_tree.specs.types.Expressions.{type_of}
 use Rattle.tsa_tree.specs.types.Operands.{integer_kind, pointer_kind, unsigned_kind, breaks_prefix, breaks_binary, prefix_type, binary_type}
@@ -260,7 +259,7 @@ module _ (here : Scope) where
       free_whole (index base at span) f = ap not f
 
   -- Values that may be calls, and the arguments of these.
-  module _ (l : Layout) (locals : ℕ → Option Kind) (bel : (given : Option Kind) → Belongs here (at_point l locals given)) (stable : ℕ → Bool) (aliases : Aliases)
+  module _ (l : Layout) (locals : ℕ → Option Kind) (bel : (given : Option Kind) → Belongs here (at_point l locals given)) (stable : ℕ → Bool) (words : Words)
       (small : (name : List ℕ) → IsSmall (enumerator (known_in here name)))
     where
       abbrev Fits : Option Kind → Term → Type 0
@@ -270,11 +269,11 @@ module _ (here : Scope) where
       answer_fits given None = tt
       answer_fits given (Some x) = tt
 
-      free_fits : (given : Option Kind) (e : Expression) (t : ExpressionType) → SoundExpression aliases e → has_call e ≡ false → AddressesFree l stable here e
+      free_fits : (given : Option Kind) (e : Expression) (t : ExpressionType) → SoundExpression words e → has_call e ≡ false → AddressesFree l stable here e
           → type_of (context_of here) e ≡ Some t → Fits given (loaded (meaning here e))
-      free_fits given e t sound free addresses is = (fits here (at_point l locals given) (bel given) stable aliases small e sound free addresses t is).value
+      free_fits given e t sound free addresses is = (fits here (at_point l locals given) (bel given) stable words small e sound free addresses t is).value
 
-      pub whole_fits : (given : Option Kind) (e : Expression) (t : ExpressionType) → is_whole e ≡ true → SoundExpression aliases e → AddressesFree l stable here e
+      pub whole_fits : (given : Option Kind) (e : Expression) (t : ExpressionType) → is_whole e ≡ true → SoundExpression words e → AddressesFree l stable here e
           → type_of (context_of here) e ≡ Some t → Fits given (loaded (meaning here e))
       unfolding meaning
       whole_fits given (call callee args span) t whole sound addresses is = answer_fits given (known_in here callee.text)
@@ -289,15 +288,15 @@ module _ (here : Scope) where
       whole_fits given (index base at span) t whole sound addresses is =
           free_fits given (index base at span) t sound (not_true (has_call base || has_call at) whole) addresses is
 
-      compared_fits : (given : Option Kind) (o : BinaryOp) (left right : Expression) (x y : ExpressionType) → SoundExpression aliases left → SoundExpression aliases right
+      compared_fits : (given : Option Kind) (o : BinaryOp) (left right : Expression) (x y : ExpressionType) → SoundExpression words left → SoundExpression words right
           → AddressesFree l stable here left → AddressesFree l stable here right → type_of (context_of here) left ≡ Some x → type_of (context_of here) right ≡ Some y
           → is_comparison (context_of here) left right ≡ true → Fits given (operands o (meaning here left) (meaning here right))
       compared_fits given o left right x y sound other a b is as_well h =
           let sides = sides_whole left right h in
-          operands_fit here (at_point l locals given) (bel given) stable aliases small o (meaning here left) (meaning here right)
+          operands_fit here (at_point l locals given) (bel given) stable words small o (meaning here left) (meaning here right)
           (whole_fits given left x sides.0 sound a is) (whole_fits given right y sides.1 other b as_well)
 
-      pub condition_fits : (given : Option Kind) (e : Expression) (t : ExpressionType) → is_condition (context_of here) e ≡ true → SoundExpression aliases e
+      pub condition_fits : (given : Option Kind) (e : Expression) (t : ExpressionType) → is_condition (context_of here) e ≡ true → SoundExpression words e
           → AddressesFree l stable here e → type_of (context_of here) e ≡ Some t → Fits given (loaded (meaning here e))
       unfolding type_of meaning
       condition_fits given (unary prefix.Not x span) t h sound addresses is =
@@ -307,13 +306,13 @@ module _ (here : Scope) where
           let x = type_of (context_of here) left in
           let y = type_of (context_of here) right in
           let parts = of_two (binary_type op.Equal) (breaks_binary op.Equal x y) x y t is in
-          let s = both_true (is_sound aliases left) (is_sound aliases right) sound in
+          let s = both_true (is_sound words left) (is_sound words right) sound in
           compared_fits given op.Equal left right parts.1.0.0 parts.1.1.0 s.0 s.1 addresses.0 addresses.1 parts.1.0.1 parts.1.1.1 h
       condition_fits given (binary op.Unequal left right span) t h sound addresses is =
           let x = type_of (context_of here) left in
           let y = type_of (context_of here) right in
           let parts = of_two (binary_type op.Unequal) (breaks_binary op.Unequal x y) x y t is in
-          let s = both_true (is_sound aliases left) (is_sound aliases right) sound in
+          let s = both_true (is_sound words left) (is_sound words right) sound in
           compared_fits given op.Unequal left right parts.1.0.0 parts.1.1.0 s.0 s.1 addresses.0 addresses.1 parts.1.0.1 parts.1.1.1 h
       condition_fits given (unary prefix.Minus x span) t h sound addresses is = whole_fits given (unary prefix.Minus x span) t h sound addresses is
       condition_fits given (unary prefix.Flip x span) t h sound addresses is = whole_fits given (unary prefix.Flip x span) t h sound addresses is
@@ -351,13 +350,13 @@ module _ (here : Scope) where
       or_fits None p h g c f = g c f
       or_fits (Some x) p h g c f = h c f
 
-      pub whole_call_fits : (e : Expression) (t : ExpressionType) → is_whole e ≡ true → SoundExpression aliases e → AddressesFree l stable here e → type_of (context_of here) e ≡ Some t
+      pub whole_call_fits : (e : Expression) (t : ExpressionType) → is_whole e ≡ true → SoundExpression words e → AddressesFree l stable here e → type_of (context_of here) e ≡ Some t
           → CallFits (call_in here e)
       unfolding call_in
       whole_call_fits (call callee args span) t whole sound addresses is =
           let typed = call_called here callee args span t is in λ c f.
           subst (λ x. AllFit (at_point l locals None) stable x.args) (some_same (sym (ap (call_of here args) typed.known) ∙ f))
-          (arguments_fit here (at_point l locals None) (bel None) stable aliases small (params_in here typed.n) args (both_true _ (are_sound aliases args) sound).1
+          (arguments_fit here (at_point l locals None) (bel None) stable words small (params_in here typed.n) args (both_true _ (are_sound words args) sound).1
           (not_true (have_call args) whole) addresses typed.all)
       whole_call_fits (number n u span) t whole sound addresses is = none_fits (call_in here (number n u span)) (no_call here (number n u span) refl)
       whole_call_fits (null span) t whole sound addresses is = none_fits (call_in here (null span)) (no_call here (null span) refl)
@@ -371,14 +370,14 @@ module _ (here : Scope) where
       whole_call_fits (index base at span) t whole sound addresses is =
           none_fits (call_in here (index base at span)) (no_call here (index base at span) (not_true (has_call base || has_call at) whole))
 
-      sides_call_fit : (left right : Expression) (x y : ExpressionType) → SoundExpression aliases left → SoundExpression aliases right
+      sides_call_fit : (left right : Expression) (x y : ExpressionType) → SoundExpression words left → SoundExpression words right
           → AddressesFree l stable here left → AddressesFree l stable here right → type_of (context_of here) left ≡ Some x → type_of (context_of here) right ≡ Some y
           → is_comparison (context_of here) left right ≡ true → CallFits (or_call (call_in here left) (call_in here right))
       sides_call_fit left right x y sound other a b is as_well h =
           let sides = sides_whole left right h in
           or_fits (call_in here left) (call_in here right) (whole_call_fits left x sides.0 sound a is) (whole_call_fits right y sides.1 other b as_well)
 
-      pub condition_call_fits : (e : Expression) (t : ExpressionType) → is_condition (context_of here) e ≡ true → SoundExpression aliases e → AddressesFree l stable here e
+      pub condition_call_fits : (e : Expression) (t : ExpressionType) → is_condition (context_of here) e ≡ true → SoundExpression words e → AddressesFree l stable here e
           → type_of (context_of here) e ≡ Some t → CallFits (call_in here e)
       unfolding type_of call_in
       condition_call_fits (unary prefix.Not x span) t h sound addresses is =
@@ -388,13 +387,13 @@ module _ (here : Scope) where
           let x = type_of (context_of here) left in
           let y = type_of (context_of here) right in
           let parts = of_two (binary_type op.Equal) (breaks_binary op.Equal x y) x y t is in
-          let s = both_true (is_sound aliases left) (is_sound aliases right) sound in
+          let s = both_true (is_sound words left) (is_sound words right) sound in
           sides_call_fit left right parts.1.0.0 parts.1.1.0 s.0 s.1 addresses.0 addresses.1 parts.1.0.1 parts.1.1.1 h
       condition_call_fits (binary op.Unequal left right span) t h sound addresses is =
           let x = type_of (context_of here) left in
           let y = type_of (context_of here) right in
           let parts = of_two (binary_type op.Unequal) (breaks_binary op.Unequal x y) x y t is in
-          let s = both_true (is_sound aliases left) (is_sound aliases right) sound in
+          let s = both_true (is_sound words left) (is_sound words right) sound in
           sides_call_fit left right parts.1.0.0 parts.1.1.0 s.0 s.1 addresses.0 addresses.1 parts.1.0.1 parts.1.1.1 h
       condition_call_fits (call callee args span) t h sound addresses is = whole_call_fits (call callee args span) t h sound addresses is
       condition_call_fits (unary prefix.Minus x span) t h sound addresses is = none_fits None refl

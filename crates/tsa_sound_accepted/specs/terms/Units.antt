@@ -1,7 +1,7 @@
 -- The terms of accepted units are as the laws of turns ask.
 use Rattle.std.specs.Prelude.{◌≡◌, ℕ, List, [], Some, None, IsSome}
 use Rattle.tsa_tree.specs.types.FirstFailing.{first_failing}
-use Rattle.tsa_tree.specs.units.Sound.{SoundItems}
+use Rattle.tsa_tree.specs.units.Sound.{SpellableItems}
 use Rattle.tsa_tree.specs.units.Syntax.{UnitItem}
 use Rattle.tsa_place_model.specs.Calls.{Layout}
 use Rattle.tsa_core.specs.Meanings.{Call}
@@ -14,9 +14,9 @@ use Rattle.tsa_sound.specs.BodyFacts.{AllLead}
 use Rattle.tsa_sound.specs.FramesFit.{stable_of}
 use Rattle.tsa_sound_accepted.specs.terms.PointTerms.{PointTerms}
 
--- A unit that was read has right types, its places, and is in the profile.
+-- The items of a unit, or of several as one list, can be spelled, have right types, their places, and are in the profile.
 pub record IsInProfile (items : List UnitItem) (l : Layout) : Type 0 where
-  pub sound : SoundItems [] items
+  pub spellable : SpellableItems items
   pub typed : first_failing items ≡ None
   pub placed : HasPlaces items l
   pub profiled : refusal_of_profile items ≡ None

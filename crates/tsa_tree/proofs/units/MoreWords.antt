@@ -1,6 +1,7 @@
 -- What can be spelled by some words can be spelled by more of them; so what one text spells can be spelled beside others.
-use Rattle.std.proofs.Common.{ℕ, ◌≡◌, refl, List, [], ◌∷◌, ◌++◌, Bool, true, false, ◌&&◌, Option, Some, None}
+use Rattle.std.proofs.Common.{ℕ, ◌≡◌, refl, List, [], ◌∷◌, ◌++◌, Bool, true, false, ◌&&◌, Option, Some, None, Ok}
 use Rattle.std.proofs.lemmas.Bool.{and_parts, and_from}
+use Rattle.tsa_base.specs.Tokens.{Lexeme, tokens_of}
 use Rattle.tsa_tree.specs.attributes.Sound.{SoundTaken, SoundAttributes}
 use Rattle.tsa_tree.specs.attributes.Syntax.{Attribute, Taking, taking, a_text, one_expression, expressions, a_try}
 use Rattle.tsa_tree.specs.declarations.Sound.{SoundBase, SoundInitialiser, SoundInitialisers, SoundInit, SoundLocalInit, SoundDeclarator}
@@ -16,12 +17,14 @@ use Rattle.tsa_tree.specs.statements.Syntax.{empty, local, simple, if_alone, if_
 use Rattle.tsa_tree.specs.statements.Syntax.{otherwise, label, break, continue, goto, return, Statements}
 use Rattle.tsa_tree.specs.statements.Syntax as statements
 use Rattle.tsa_tree.specs.tokens.Signs.{Aliases}
+use Rattle.tsa_tree.specs.units.Answers.{Spells}
 use Rattle.tsa_tree.specs.units.Shapes.{item_shapes}
 use Rattle.tsa_tree.specs.units.Sound.{SoundTags, SoundItem, SoundItems, SpellableItem, SpellableItems}
 use Rattle.tsa_tree.specs.units.SoundLaw.{SoundIsSpellable, WellReadIsSpellable, SpellableTogether}
 use Rattle.tsa_tree.specs.units.Syntax.{UnitItem, structure_item, alias_item, enumeration_item, global_item, function_item, body_item}
 use Rattle.tsa_tree.specs.units.Syntax.{names_of_item}
-use Rattle.tsa_tree.proofs.units.Read.{well_read_sound}
+use Rattle.tsa_tree.proofs.units.Read.{unit_sound, well_read_sound}
+use Rattle.tsa_grammar.specs.Reading.{all}
 
 module _ (few many : Words) (things : (text : List ℕ) → few.things text ≡ true → many.things text ≡ true)
     (types : (text : List ℕ) → few.types text ≡ true → many.types text ≡ true) where
@@ -193,6 +196,10 @@ item_spellable aliases x h = item_more (words_beside aliases) all_words (thing_i
 pub sound_is_spellable : SoundIsSpellable
 sound_is_spellable aliases [] h = tt
 sound_is_spellable aliases (x ∷ xs) h = (item_spellable aliases x h.0, sound_is_spellable (aliases ++ names_of_item x) xs h.1)
+
+-- a unit that the tokens of a text spell can be spelled
+pub unit_spellable : (text : List ℕ) (tokens : List Lexeme) (items : List UnitItem) → tokens_of text ≡ Ok tokens → Spells tokens all items → SpellableItems items
+unit_spellable text tokens items e h = sound_is_spellable [] items (unit_sound text tokens items e h)
 
 pub well_read_spellable : WellReadIsSpellable
 well_read_spellable items well = sound_is_spellable [] (item_shapes items) (well_read_sound items well)
