@@ -22,14 +22,14 @@ none_some : {a : Lock} {A : Type 0} → None ≡ Some a → A
 none_some e = cc
 
 -- counts of a list
-one_more_at : (ns : List ℕ) (t : ℕ) → count_of (one_more ns t) t ≡ count_of ns t + 1
+pub one_more_at : (ns : List ℕ) (t : ℕ) → count_of (one_more ns t) t ≡ count_of ns t + 1
 unfolding count_of one_more
 one_more_at [] zero = refl
 one_more_at [] (suc t) = one_more_at [] t
 one_more_at (n ∷ ns) zero = omega arith
 one_more_at (n ∷ ns) (suc t) = one_more_at ns t
 
-none_more_at : (ns : List ℕ) (t u : ℕ) → (u ≡ t → ⊥) → count_of (one_more ns t) u ≡ count_of ns u
+pub none_more_at : (ns : List ℕ) (t u : ℕ) → (u ≡ t → ⊥) → count_of (one_more ns t) u ≡ count_of ns u
 unfolding count_of one_more
 none_more_at [] zero zero other = absurd (other refl)
 none_more_at [] zero (suc u) other = refl
@@ -40,14 +40,14 @@ none_more_at (n ∷ ns) zero (suc u) other = refl
 none_more_at (n ∷ ns) (suc t) zero other = refl
 none_more_at (n ∷ ns) (suc t) (suc u) other = none_more_at ns t u (λ e. other (ap suc e))
 
-one_less_at : (ns : List ℕ) (t : ℕ) → 0 < count_of ns t → count_of ns t ≡ count_of (one_less ns t) t + 1
+pub one_less_at : (ns : List ℕ) (t : ℕ) → 0 < count_of ns t → count_of ns t ≡ count_of (one_less ns t) t + 1
 unfolding count_of one_less
 one_less_at [] t some = absurd (omega (arith, some))
 one_less_at (zero ∷ ns) zero some = absurd (omega (arith, some))
 one_less_at (suc n ∷ ns) zero some = omega arith
 one_less_at (n ∷ ns) (suc t) some = one_less_at ns t some
 
-none_less_at : (ns : List ℕ) (t u : ℕ) → (u ≡ t → ⊥) → count_of ns u ≡ count_of (one_less ns t) u
+pub none_less_at : (ns : List ℕ) (t u : ℕ) → (u ≡ t → ⊥) → count_of ns u ≡ count_of (one_less ns t) u
 unfolding count_of one_less
 none_less_at [] t u other = refl
 none_less_at (n ∷ ns) zero zero other = absurd (other refl)

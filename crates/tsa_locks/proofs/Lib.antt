@@ -1,3 +1,4 @@
 pub mod Holding
 pub mod Takings
+pub mod SameLocks
 pub mod LockExamples

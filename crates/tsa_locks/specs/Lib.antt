@@ -1,3 +1,4 @@
 pub mod Locks
 pub mod Laws
+pub mod Sameness
 pub mod Examples

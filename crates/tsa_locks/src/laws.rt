@@ -1,6 +1,7 @@
 //! The laws of locks.
 ghost use Rattle.tsa_locks.specs.Examples.{TakingsAreAsWritten};
 ghost use Rattle.tsa_locks.specs.Laws.{HoldsChange, LocksAreTakenWhereTheyCanBe};
+ghost use Rattle.tsa_locks.specs.Sameness.{LocksAreTheirHolds};
 
 /// Whoever takes a lock holds it once more, and whoever gives it back once less; nobody else's holds change. Who is in the way holds the
 /// lock.
@@ -13,6 +14,12 @@ pub fn holds_change_as_taken_and_given()
 #[tactic(auto, using(crate::proofs::Takings::locks_are_taken_where_they_can_be))]
 pub fn locks_are_taken_where_they_can_be()
     ensures { LocksAreTakenWhereTheyCanBe }
+{}
+
+/// Locks that each thread holds as often are one lock: they are taken and given back alike, and one that nobody shares is free.
+#[tactic(auto, using(crate::proofs::SameLocks::locks_are_their_holds))]
+pub fn locks_are_their_holds()
+    ensures { LocksAreTheirHolds }
 {}
 
 /// Takings and givings of single locks are as they are written out.

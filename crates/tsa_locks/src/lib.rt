@@ -4,5 +4,6 @@
 mod laws;
 
 pub use laws::{
-    holds_change_as_taken_and_given, locks_are_taken_where_they_can_be, takings_are_as_written,
+    holds_change_as_taken_and_given, locks_are_taken_where_they_can_be, locks_are_their_holds,
+    takings_are_as_written,
 };
