@@ -19,7 +19,7 @@ use Rattle.tsa_mean.specs.Acts.{Act, act_of, to_read, to_write, to_step, to_set,
 use Rattle.tsa_mean.specs.Acts.{to_enter, to_leave, to_trap}
 use Rattle.tsa_mean.specs.Laws.{Changes}
 use Rattle.tsa_mean.specs.Runs.{step, turn_of}
-use Rattle.tsa_mean.specs.Sound.{Start}
+use Rattle.tsa_mean.specs.Sound.{Opening}
 use Rattle.tsa_mean.specs.Starts.{Begin, thread_of}
 use Rattle.tsa_mean.specs.StateLaws.{HasItsFrames, IsLockAt, StateIsKept, StatesAreKept}
 use Rattle.tsa_mean.specs.States.{Frame, State, Thread, running, trapped, ended, lock_at, thread_at}
@@ -171,10 +171,10 @@ all_begin u [] thread = tt
 all_begin u (b ∷ begins) zero = omega arith
 all_begin u (b ∷ begins) (suc thread) = all_begin u begins thread
 
-start_is_kept : (u : Program) (s : State) → Start u s → StateIsKept u s
-start_is_kept u s start = record {
-  locks = λ place. subst (IsLockAt u place) (sym (ap (λ locks. slice_index_or locks place free) start.locks ∙ all_free u.layout.places place)) tt;
-  frames = λ thread. subst (λ threads. HasItsFrames (slice_get threads thread)) (sym start.threads) (all_begin u start.begins thread);
+opening_is_kept : (u : Program) (s : State) → Opening u s → StateIsKept u s
+opening_is_kept u s opening = record {
+  locks = λ place. subst (IsLockAt u place) (sym (ap (λ locks. slice_index_or locks place free) opening.locks ∙ all_free u.layout.places place)) tt;
+  frames = λ thread. subst (λ threads. HasItsFrames (slice_get threads thread)) (sym opening.threads) (all_begin u opening.begins thread);
 }
 
 turn_is_kept : (u : Program) (s : State) (pick : Pick) → StateIsKept u s → StateIsKept u (step u s pick).0
@@ -185,4 +185,4 @@ turn_is_kept u s pick is = record {
 }
 
 pub states_are_kept : StatesAreKept
-states_are_kept = record { start = start_is_kept; turn = turn_is_kept }
+states_are_kept = record { opening = opening_is_kept; turn = turn_is_kept }

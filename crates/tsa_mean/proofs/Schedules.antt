@@ -8,7 +8,7 @@ use Rattle.tsa_tree.specs.types.Texts.{unit_in}
 use Rattle.tsa_core.specs.Programs.{Program, program_of}
 use Rattle.tsa_sched.specs.declared.pick.Pick.{Pick}
 use Rattle.tsa_mean.specs.Sound.{Start}
-use Rattle.tsa_mean.specs.Starts.{Begin, BeginsWell, first_state}
+use Rattle.tsa_mean.specs.Starts.{AsksNothing, Begin, BeginsWell, first_state}
 use Rattle.tsa_mean.specs.Texts.{begin, events, events_in}
 use Rattle.tsa_mean.specs.Traces.{bank}
 use Rattle.tsa_mean.proofs.Lists.{all_more, all_none}
@@ -43,18 +43,22 @@ back = begin 2 (Pointer (Some 4) ∷ Pointer (Some 0) ∷ Int (pos 2) ∷ [])
 
 there_begins : BeginsWell quick_program there
 unfolding turned
-there_begins = record { body = refl; asks_nothing = refl; args = refl }
+there_begins = record { body = refl; args = refl }
 
 back_begins : BeginsWell quick_program back
 unfolding turned
-back_begins = record { body = refl; asks_nothing = refl; args = refl }
+back_begins = record { body = refl; args = refl }
 
 both_begin : All (BeginsWell quick_program) both_ways
 both_begin = all_more (BeginsWell quick_program) there (back ∷ []) there_begins (all_more (BeginsWell quick_program) back [] back_begins (all_none (BeginsWell quick_program)))
 
+both_ask_nothing : All (AsksNothing quick_program) both_ways
+unfolding turned
+both_ask_nothing = all_more (AsksNothing quick_program) there (back ∷ []) refl (all_more (AsksNothing quick_program) back [] refl (all_none (AsksNothing quick_program)))
+
 quick_start : Start quick_program (first_state quick_program both_ways)
 unfolding turned
-quick_start = first_states_are_starts quick_program both_ways both_begin (well_typed quick_program.layout refl)
+quick_start = first_states_are_starts.start quick_program both_ways both_begin both_ask_nothing (well_typed quick_program.layout refl)
 
 pub transfers_can_start : TransfersCanStart
 transfers_can_start = subst (λ tokens. Start (program_of (unit_in tokens)) (first_state (program_of (unit_in tokens)) both_ways)) (tokens_are bank) quick_start

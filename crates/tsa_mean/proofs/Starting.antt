@@ -1,6 +1,6 @@
 -- First states are starts.
 use Rattle.std.proofs.Common.{◌≡◌, ◌∙◌, ℕ, zero, suc, Bool, true, false, ◌||◌, List, [], ◌∷◌, length, map, Some, None, option_map}
-use Rattle.std.proofs.Common.{slice_get, slice_index_or, refl, ap, sym, subst}
+use Rattle.std.proofs.Common.{All, slice_get, slice_index_or, refl, ap, sym, subst}
 use Rattle.std.specs.List.{list_all}
 use Rattle.std.specs.Prelude.{unwrap_or}
 use Rattle.tsa_base.specs.declared.value.Value.TheVariants.{Pointer}
@@ -8,7 +8,10 @@ use Rattle.tsa_base.proofs.Truths.{both}
 use Rattle.tsa_place_model.specs.Calls.{is_structure, Layout}
 use Rattle.tsa_place_model.specs.declared.place.Placed.{Placed}
 use Rattle.tsa_place_model.specs.Stores.{is_value_of, IsWellTyped, start}
+use Rattle.tsa_core.specs.Programs.{Program}
 use Rattle.tsa_mean.specs.Laws.{FirstStatesAreStarts}
+use Rattle.tsa_mean.specs.Sound.{Opening}
+use Rattle.tsa_mean.specs.Starts.{Begin, BeginsWell, first_state}
 
 -- the first store
 stands : (places : List Placed) (place : ℕ) → unwrap_or (option_map (λ p. p.initial) (slice_get places place)) (Pointer None) ≡ slice_index_or (map (λ p. p.initial) places) place (Pointer None)
@@ -25,8 +28,8 @@ same_length : (places : List Placed) → length (map (λ p. p.initial) places) �
 same_length [] = refl
 same_length (p ∷ places) = ap suc (same_length places)
 
-pub first_states_are_starts : FirstStatesAreStarts
-first_states_are_starts u begins well typed = record {
+abbrev first_opening : (u : Program) (begins : List Begin) → All (BeginsWell u) begins → IsWellTyped u.layout (start u.layout) → Opening u (first_state u begins)
+first_opening u begins well typed = record {
   begins = begins;
   well = well;
   threads = refl;
@@ -34,6 +37,12 @@ first_states_are_starts u begins well typed = record {
   whole = same_length u.layout.places;
   typed = λ place p is cell. subst (λ v. is_value_of u.layout p.kind v ≡ true) (stands u.layout.places place) (typed place p is cell);
   consts = λ place p is cell const. is_initial u.layout.places place p is;
+}
+
+pub first_states_are_starts : FirstStatesAreStarts
+first_states_are_starts = record {
+  opening = first_opening;
+  start = λ u begins well ask_nothing typed. record { opening = first_opening u begins well typed; ask_nothing = ask_nothing };
 }
 
 -- a store that is well-typed place by place

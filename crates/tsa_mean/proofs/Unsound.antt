@@ -15,7 +15,7 @@ use Rattle.tsa_mean.specs.Acts.{act_of, to_take, to_write}
 use Rattle.tsa_mean.specs.Examples.{LockedWritesCanStart, ThreadsBeginWhereNothingIsAsked, UnlockedWritesAreUnsound}
 use Rattle.tsa_mean.specs.Frames.{frame_of_call}
 use Rattle.tsa_mean.specs.Sound.{IsPick, Race, Sound, Start}
-use Rattle.tsa_mean.specs.Starts.{Begin, BeginsWell, first_state, no_holds}
+use Rattle.tsa_mean.specs.Starts.{AsksNothing, Begin, BeginsWell, first_state, no_holds}
 use Rattle.tsa_mean.specs.States.{Frame, running, Thread, thread_at}
 use Rattle.tsa_mean.specs.Texts.{turns, without}
 use Rattle.tsa_mean.specs.Traces.{locked_write, twice, unlocked_write}
@@ -51,21 +51,24 @@ second = record { function = 2; args = [] }
 two_begin : (u : Program) → BeginsWell u second → All (BeginsWell u) (twice 2)
 two_begin u well = all_more (BeginsWell u) second (second ∷ []) well (all_more (BeginsWell u) second [] well (all_none (BeginsWell u)))
 
+two_ask_nothing : (u : Program) → AsksNothing u second → All (AsksNothing u) (twice 2)
+two_ask_nothing u silent = all_more (AsksNothing u) second (second ∷ []) silent (all_more (AsksNothing u) second [] silent (all_none (AsksNothing u)))
+
 unlocked_begins : BeginsWell unlocked_program second
 unfolding turned
-unlocked_begins = record { body = refl; asks_nothing = refl; args = refl }
+unlocked_begins = record { body = refl; args = refl }
 
 locked_begins : BeginsWell locked_program second
 unfolding turned
-locked_begins = record { body = refl; asks_nothing = refl; args = refl }
+locked_begins = record { body = refl; args = refl }
 
 unlocked_starts : Start unlocked_program (first_state unlocked_program (twice 2))
 unfolding turned
-unlocked_starts = first_states_are_starts unlocked_program (twice 2) (two_begin unlocked_program unlocked_begins) (well_typed unlocked_program.layout refl)
+unlocked_starts = first_states_are_starts.start unlocked_program (twice 2) (two_begin unlocked_program unlocked_begins) (two_ask_nothing unlocked_program refl) (well_typed unlocked_program.layout refl)
 
 locked_starts : Start locked_program (first_state locked_program (twice 2))
 unfolding turned
-locked_starts = first_states_are_starts locked_program (twice 2) (two_begin locked_program locked_begins) (well_typed locked_program.layout refl)
+locked_starts = first_states_are_starts.start locked_program (twice 2) (two_begin locked_program locked_begins) (two_ask_nothing locked_program refl) (well_typed locked_program.layout refl)
 
 one_pick : All IsPick (turns (0 ∷ []))
 one_pick = all_more IsPick (record { thread = 0; answer = pos 0 }) [] (record { thread = omega arith; answer = refl }) (all_none IsPick)

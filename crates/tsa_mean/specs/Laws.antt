@@ -13,8 +13,8 @@ use Rattle.tsa_sched.specs.declared.pick.Pick.{Pick}
 use Rattle.tsa_mean.specs.Acts.{Act, act_of, to_give, to_write, touched_cell}
 use Rattle.tsa_mean.specs.Runs.{idle, run, step}
 use Rattle.tsa_mean.specs.Safe.{IsSafe}
-use Rattle.tsa_mean.specs.Sound.{Start}
-use Rattle.tsa_mean.specs.Starts.{Begin, BeginsWell, first_state}
+use Rattle.tsa_mean.specs.Sound.{Opening, Start}
+use Rattle.tsa_mean.specs.Starts.{AsksNothing, Begin, BeginsWell, first_state}
 use Rattle.tsa_mean.specs.States.{Frame, Holds, State, Thread, running, trapped, ended, holds_of, lock_at, thread_at, value_at}
 use Rattle.tsa_mean.specs.Steps.{is_reentrant_at, perform}
 use Rattle.tsa_mean.specs.Violations.{violates}
@@ -120,6 +120,9 @@ abbrev pub WhatIsNotHeldIsAViolation : Type 0
 WhatIsNotHeldIsAViolation = (u : Program) (s : State) (thread : ℕ) (answer : ℤ) (frame : Frame) (below : List Frame) (mode : Option Mode) (lock : ℕ)
     → (violates u (holds_of s thread) frame (to_give mode lock) ≡ true) ↔ ((perform u s thread frame below answer (to_give mode lock)).1 ≡ event.NotHeld lock)
 
--- the state with the initial values in which threads begin well is a start, where these values are of their cells' types
-abbrev pub FirstStatesAreStarts : Type 0
-FirstStatesAreStarts = (u : Program) (begins : List Begin) → All (BeginsWell u) begins → IsWellTyped u.layout (start u.layout) → Start u (first_state u begins)
+-- Where the initial values are of their cells' types, a run may open with them in the state in which threads begin well; that is a start
+-- where their functions ask nothing.
+pub record FirstStatesAreStarts : Type 0 where
+  pub opening : (u : Program) (begins : List Begin) → All (BeginsWell u) begins → IsWellTyped u.layout (start u.layout) → Opening u (first_state u begins)
+  pub start : (u : Program) (begins : List Begin) → All (BeginsWell u) begins → All (AsksNothing u) begins → IsWellTyped u.layout (start u.layout)
+      → Start u (first_state u begins)

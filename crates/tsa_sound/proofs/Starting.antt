@@ -25,7 +25,7 @@ use Rattle.tsa_locks.specs.Locks.{count_of, free, holds}
 use Rattle.tsa_mean.specs.Frames.{frame_of_call}
 use Rattle.tsa_mean.specs.Returns.{if_lock, lock_of}
 use Rattle.tsa_mean.specs.Sound.{Start}
-use Rattle.tsa_mean.specs.Starts.{Begin, BeginsWell, are_values_of, binds_caller, no_holds, thread_of}
+use Rattle.tsa_mean.specs.Starts.{AsksNothing, Begin, BeginsWell, are_values_of, binds_caller, no_holds, thread_of}
 use Rattle.tsa_mean.specs.States.{Frame, Holds, State, holds_of}
 use Rattle.tsa_mean.specs.WorthLaws.{values}
 use Rattle.tsa_mean.proofs.Keeping.{states_are_kept}
@@ -78,7 +78,7 @@ not_lent e = cc
 not_pending : (v : ℕ) → Free ≡ Pending v → ⊥
 not_pending v e = cc
 
-module _ (u : Program) (x : ProgramRows) (b : Begin) (well : BeginsWell u b) (own : FunctionFacts u x b.function) where
+module _ (u : Program) (x : ProgramRows) (b : Begin) (well : BeginsWell u b) (asks_nothing : AsksNothing u b) (own : FunctionFacts u x b.function) where
   abbrev f : Function
   f = function_at u b.function
 
@@ -86,7 +86,7 @@ module _ (u : Program) (x : ProgramRows) (b : Begin) (well : BeginsWell u b) (ow
   new = frame_of_call u b.function b.args no_holds
 
   silent : (a : Attr) → Contains f.attrs a → entry_by (Some a.kind) ≡ Free
-  silent a i = begins_free a.kind (none_of (λ a. binds_caller a.kind) f.attrs well.asks_nothing a i)
+  silent a i = begins_free a.kind (none_of (λ a. binds_caller a.kind) f.attrs asks_nothing a i)
 
   entry_free : (d : Way) → entry f d ≡ Free
   entry_free d = by (claim f.attrs d) refl
@@ -143,12 +143,12 @@ module _ (u : Program) (x : ProgramRows) (b : Begin) (well : BeginsWell u b) (ow
   }
 
 module _ (u : Program) (x : ProgramRows) (facts : ProgramFacts u x) (held : Holds) (none : (lock : ℕ) (mode : Mode) → held lock mode ≡ 0) where
-  threads_fit : (begins : List Begin) → All (BeginsWell u) begins → (t : ℕ) → ThreadFits u x held (slice_get (map (thread_of u) begins) t)
-  threads_fit [] well t = tt
-  threads_fit (b ∷ begins) well zero =
+  threads_fit : (begins : List Begin) → All (BeginsWell u) begins → All (AsksNothing u) begins → (t : ℕ) → ThreadFits u x held (slice_get (map (thread_of u) begins) t)
+  threads_fit [] well silent t = tt
+  threads_fit (b ∷ begins) well silent zero =
       let first = all_first (BeginsWell u) b begins well in
-      begun u x b first (facts.functions b.function first.body) held none
-  threads_fit (b ∷ begins) well (suc t) = threads_fit begins (all_rest (BeginsWell u) b begins well) t
+      begun u x b first (all_first (AsksNothing u) b begins silent) (facts.functions b.function first.body) held none
+  threads_fit (b ∷ begins) well silent (suc t) = threads_fit begins (all_rest (BeginsWell u) b begins well) (all_rest (AsksNothing u) b begins silent) t
 
 free_at : (places : List Placed) (lock : ℕ) → slice_index_or (map (λ (p : Placed). free) places) lock free ≡ free
 free_at [] lock = refl
@@ -162,14 +162,14 @@ free_holds_none t Shared = refl
 
 pub starts_have_the_invariant : StartsHaveTheInvariant
 starts_have_the_invariant u x s facts start = record {
-  typed = start.typed;
-  constant = start.consts;
-  enough = ap length start.locks ∙ map_length (λ (p : Placed). free) u.layout.places;
-  kept = states_are_kept.start u s start;
-  threads = λ t. subst (λ ts. ThreadFits u x (holds_of s t) (slice_get ts t)) (sym start.threads)
+  typed = start.opening.typed;
+  constant = start.opening.consts;
+  enough = ap length start.opening.locks ∙ map_length (λ (p : Placed). free) u.layout.places;
+  kept = states_are_kept.opening u s start.opening;
+  threads = λ t. subst (λ ts. ThreadFits u x (holds_of s t) (slice_get ts t)) (sym start.opening.threads)
       (threads_fit u x facts (holds_of s t)
-      (λ lock mode. ap (λ l. holds l t mode) (ap (λ ls. slice_index_or ls lock free) start.locks ∙ free_at u.layout.places lock) ∙ free_holds_none t mode)
-      start.begins start.well t);
+      (λ lock mode. ap (λ l. holds l t mode) (ap (λ ls. slice_index_or ls lock free) start.opening.locks ∙ free_at u.layout.places lock) ∙ free_holds_none t mode)
+      start.opening.begins start.opening.well start.ask_nothing t);
 }
 
 pub programs_are_sound : ProgramsAreSound
