@@ -11,7 +11,7 @@ use Rattle.tsa_rules.specs.Points.{edges_of, is_status}
 use Rattle.tsa_rules.specs.Effects.{entry, effect}
 use Rattle.tsa_rules.specs.Fails.{Rule, TS01, TS02, TS03, TS04, TS05, TS06, TS07, TS08, TS09, TS10, TS11, TS12, all_rules, fails}
 use Rattle.tsa_rules.specs.Sheets.{Sheet, status_in, is_listed, status_by, rows_of, begins_with, goes_by, edge_passes, holds_at}
-use Rattle.tsa_rules.specs.Sheets.{status_passes, point_passes, points_pass, SheetsThatPassAreKept}
+use Rattle.tsa_rules.specs.Sheets.{status_passes, point_passes, points_pass, SheetsThatPassAreKept, SheetsThatPassArePossible}
 use Rattle.tsa_rules.proofs.Tests.{never, left_part, right_part, same}
 
 where_so : (a b : Bool) → (not a || b) ≡ true → a ≡ true → b ≡ true
@@ -82,8 +82,6 @@ sheets_that_pass_are_kept u f x e =
       start = left_part ((rows_of x).has_point 0) (list_all (begins_with f (rows_of x)) x.paths) outset;
       entry_is = λ c among. same ((rows_of x).status 0 c) (entry f c)
           (each (begins_with f (rows_of x)) x.paths (right_part ((rows_of x).has_point 0) (list_all (begins_with f (rows_of x)) x.paths) outset) c among);
-      possible = λ p c h among. left_part (is_status u f c ((rows_of x).status p c)) (list_all (holds_at u f p ((rows_of x).status p c) c) all_rules)
-          (status_passed u f x points p c among (slice_get x.points p) refl h);
       goes_on = λ p q o h next. left_part ((rows_of x).has_point q) (list_all (goes_by u f (rows_of x) (edge p o q)) x.paths) (edge_kept u f x edges p q o h next);
       goes_along = λ p q o c h next among. same ((rows_of x).status q c) (effect u f p c o ((rows_of x).status p c))
           (each (goes_by u f (rows_of x) (edge p o q)) x.paths
@@ -93,3 +91,11 @@ sheets_that_pass_are_kept u f x e =
           (right_part (is_status u f c ((rows_of x).status p c)) (list_all (holds_at u f p ((rows_of x).status p c) c) all_rules)
           (status_passed u f x points p c among (slice_get x.points p) refl h)) rule (has_rule rule));
     }
+
+pub sheets_that_pass_are_possible : SheetsThatPassArePossible
+sheets_that_pass_are_possible u f x e p c h among =
+    let rest = right_part ((rows_of x).has_point 0 && list_all (begins_with f (rows_of x)) x.paths)
+    (list_all (edge_passes u f x.paths (rows_of x)) (edges_of f) && points_pass u f x.paths 0 x.points) e in
+    let points = right_part (list_all (edge_passes u f x.paths (rows_of x)) (edges_of f)) (points_pass u f x.paths 0 x.points) rest in
+    left_part (is_status u f c ((rows_of x).status p c)) (list_all (holds_at u f p ((rows_of x).status p c) c) all_rules)
+    (status_passed u f x points p c among (slice_get x.points p) refl h)

@@ -12,7 +12,7 @@ ghost use Rattle.tsa_rules.specs.Marks.{MarksAreMadeStepByStep, MarksTellKinds};
 ghost use Rattle.tsa_rules.specs.OrderLaws.{WarningsAreToldInOrder};
 ghost use Rattle.tsa_rules.specs.RuleLaws.{AccessesNeedTheirLocks, ReturnsAreAsDeclared, NamesOfCallsDiffer, DeclarationsFindFreePaths};
 ghost use Rattle.tsa_rules.specs.Sets.{SetsAreTheirStatuses, PossibleStatusesHavePlaces};
-ghost use Rattle.tsa_rules.specs.Sheets.{SheetsThatPassAreKept, ProgramsThatPassHaveNoWarnings};
+ghost use Rattle.tsa_rules.specs.Sheets.{SheetsThatPassAreKept, SheetsThatPassArePossible, ProgramsThatPassHaveNoWarnings};
 ghost use Rattle.tsa_rules.specs.StatusLaws.{StatusesStayPossible, OneStatusWhereEdgesAgree, RulesSpeakOfNamedPaths};
 ghost use Rattle.tsa_rules.specs.TestLaws.{TestsOfCallsTellTheAnswer, TestsOfVariablesTellTheAnswer, OtherTestsDecideNothing};
 ghost use Rattle.tsa_rules.specs.TestLaws.{UntriedLocksAreFree, TryVariablesAreNumbered};
@@ -106,9 +106,10 @@ pub fn programs_that_pass_have_no_warnings()
     ensures { ProgramsThatPassHaveNoWarnings }
 {}
 
-/// The rows of a sheet that passes are kept.
+/// The rows of a sheet that passes are kept, and their statuses are ones that their paths may have.
 pub fn sheets_that_pass_are_kept()
-    ensures { SheetsThatPassAreKept }
+    ensures kept { SheetsThatPassAreKept }
+    ensures possible { SheetsThatPassArePossible }
 {}
 
 /// Where a rule doesn't fail for a status, the status is as the rule asks, by cases of the attribute and the status.

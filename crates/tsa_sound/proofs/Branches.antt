@@ -60,7 +60,7 @@ module _ (u : Program) (x : ProgramRows) (held : Holds) (frame : Frame) (below :
 
   module _ (c : Way) (i : Contains (paths_of x frame) c) where
     less : (w : ℕ) → status_before x frame c ≡ Pending w → nat_lt w (length (try_variables u (function_of u frame))) ≡ true
-    less w is = sym (ap (is_status u (function_of u frame) c) is) ∙ facts.kept.possible frame.point c fits.top.listed i
+    less w is = sym (ap (is_status u (function_of u frame) c) is) ∙ facts.possible frame.point c fits.top.listed i
 
     decided : (w : ℕ) → status_before x frame c ≡ Pending w → IsDecided u (function_of u frame) frame.locals c (slice_get (try_variables u (function_of u frame)) w)
     decided w is = fits.top.answers c w i (now_is u x held frame below facts fits test.bare c ∙ is)

@@ -16,7 +16,7 @@ use Rattle.tsa_rules.specs.KeptLaws.{locked_write}
 use Rattle.tsa_path.specs.Substitution.{as_pointer, given}
 use Rattle.tsa_rules.specs.Points.{attrs_at, edges_of, function_at, point_at, uses_at}
 use Rattle.tsa_rules.specs.Sheets.{passes}
-use Rattle.tsa_rules.proofs.Sheets.{sheets_that_pass_are_kept}
+use Rattle.tsa_rules.proofs.Sheets.{sheets_that_pass_are_kept, sheets_that_pass_are_possible}
 use Rattle.tsa_mean.proofs.Lists.{all_more, all_none}
 use Rattle.tsa_mean.proofs.RunExamples.{turned}
 use Rattle.tsa_sound.specs.CallFacts.{CallFacts, first_pointed, of_lock}
@@ -270,6 +270,7 @@ function_facts : FunctionFacts locked_write rows 2
 unfolding worked
 function_facts = record {
   kept = sheets_that_pass_are_kept locked_write w sheet kept_passes;
+  possible = sheets_that_pass_are_possible locked_write w sheet kept_passes;
   once = alone;
   own = all_none IsNamed;
   called = named;

@@ -17,7 +17,7 @@ use Rattle.tsa_core.proofs.BodyExamples.{worked}
 use Rattle.tsa_path.specs.Substitution.{as_pointer, given}
 use Rattle.tsa_rules.specs.Points.{is_index, mentions, attrs_at, edges_of, function_at, point_at, uses_at}
 use Rattle.tsa_rules.specs.Sheets.{passes}
-use Rattle.tsa_rules.proofs.Sheets.{sheets_that_pass_are_kept}
+use Rattle.tsa_rules.proofs.Sheets.{sheets_that_pass_are_kept, sheets_that_pass_are_possible}
 use Rattle.tsa_mean.proofs.Lists.{all_more, all_none}
 use Rattle.tsa_mean.proofs.RunExamples.{turned}
 use Rattle.tsa_sound.specs.CallFacts.{CallFacts, first_pointed, of_lock}
@@ -231,6 +231,7 @@ pub callee_facts : FunctionFacts locked_call call_rows 2
 unfolding worked
 callee_facts = record {
   kept = sheets_that_pass_are_kept locked_call v give_sheet kept_passes;
+  possible = sheets_that_pass_are_possible locked_call v give_sheet kept_passes;
   once = alone;
   own = subst (All IsNamed) own_attrs one_named;
   called = named;

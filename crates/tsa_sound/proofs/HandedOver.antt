@@ -157,7 +157,7 @@ module _ (u : Program) (x : ProgramRows) (frame : Frame) (below : List Frame) (f
     further_below (Some lock) lent = (lent.0, (let more = lent.1 in omega (arith, more)))
 
     depth : (n : ℕ) → status_before x frame c ≡ status.Exclusive n → 0 < n
-    depth n is = by (sym (ap (is_status u (function_of u frame) c) is) ∙ facts.kept.possible frame.point c row.listed i)
+    depth n is = by (sym (ap (is_status u (function_of u frame) c) is) ∙ facts.possible frame.point c row.listed i)
       where
         by : is_status u (function_of u frame) c (status.Exclusive n) ≡ true → 0 < n
         by e = let l : 1 ≤ n = leb-true 1 n (both (nat_le 1 n) _ e).0 in omega (arith, l)

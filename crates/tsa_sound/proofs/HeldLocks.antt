@@ -43,9 +43,9 @@ module _ (u : Program) (x : ProgramRows) (held : Holds) (frame : Frame) (below :
     (c : Way) (i : Contains (paths_of x frame) c) where
   -- the status now is one that the path can have
   possible_by : (work : Work) → is_status u (function_of u frame) c (status_by u frame work c (status_before x frame c)) ≡ true
-  possible_by (calling args) = facts.kept.possible frame.point c fits.top.listed i
+  possible_by (calling args) = facts.possible frame.point c fits.top.listed i
   possible_by (working right left old) =
-      statuses_stay_possible.goes_on u (function_of u frame) frame.point c Next (status_before x frame c) (facts.kept.possible frame.point c fits.top.listed i)
+      statuses_stay_possible.goes_on u (function_of u frame) frame.point c Next (status_before x frame c) (facts.possible frame.point c fits.top.listed i)
 
   -- what a frame owns its thread holds
   owns : (s : Status) (lock : ℕ) (mode : Mode) → settled_in u frame (status_now u x frame) c ≡ s → lock_in u frame.locals c ≡ Some lock → 0 < units s mode → 0 < held lock mode

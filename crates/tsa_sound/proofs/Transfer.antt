@@ -84,7 +84,7 @@ module _ (u : Program) (x : ProgramRows) (frame : Frame) (facts : FunctionFacts 
   fits_at c i = by (claim ats c) refl
     where
       of : (a : Attr) → IsClaim ats c a → FitsClaim (is_reentrant u f c) (Some a.kind) (status_before x frame c)
-      of a is = fits_claim (is_reentrant u f c) (length (try_variables u f)) a.kind (status_before x frame c) (facts.kept.possible frame.point c listed i)
+      of a is = fits_claim (is_reentrant u f c) (length (try_variables u f)) a.kind (status_before x frame c) (facts.possible frame.point c listed i)
           (all_at (λ a. names c a ≡ true → FitsRequires a.kind (status_before x frame c)) ats a (fits_rule TS03 c i) is.there is.naming)
           (all_at (λ a. names c a ≡ true → FitsRequiresShared a.kind (status_before x frame c)) ats a (fits_rule TS04 c i) is.there is.naming)
           (all_at (λ a. names c a ≡ true → FitsAcquire (is_reentrant u f c) a.kind (status_before x frame c)) ats a (fits_rule TS06 c i) is.there is.naming)

@@ -55,6 +55,7 @@ module _ (items : List UnitItem) (l : Layout) (u : Program) (is : u ≡ program_
         let rows = units_keep_their_rows items u (sym is) quiet n bodied in
         record {
           kept = rows.kept;
+          possible = rows.possible;
           once = rows.once;
           own = rows.own;
           called = rows.called;

@@ -1,9 +1,12 @@
 //! The laws of kept rows, and of what is set.
-ghost use Rattle.tsa_sound_accepted.specs.kept.Laws.{LocalsAreSetApart, PathsAreNamedOnce, RowsAreKeptWhereNoRuleFails, UnitsKeepTheirRows};
+ghost use Rattle.tsa_sound_accepted.specs.kept.Laws.{LocalsAreSetApart, PathsAreNamedOnce, RowsAreKeptWhereNoRuleFails, RowsArePossibleWhereNoRuleFails};
+ghost use Rattle.tsa_sound_accepted.specs.kept.Laws.{UnitsKeepTheirRows};
 
-/// Where no rule fails, the rows that are read off walks are kept: each point that edges reach has one status of each path.
+/// Where no rule fails, the rows that are read off walks are kept: each point that edges reach has one status of each path, which is one
+/// that the path may have.
 pub fn rows_are_kept_where_no_rule_fails()
-    ensures { RowsAreKeptWhereNoRuleFails }
+    ensures kept { RowsAreKeptWhereNoRuleFails }
+    ensures possible { RowsArePossibleWhereNoRuleFails }
 {}
 
 /// The paths of a function stand once each among those that it names, with all that its attributes and those of what it calls name.

@@ -17,7 +17,7 @@ use Rattle.tsa_profile.proofs.FunctionPaths.{functions_are}
 use Rattle.tsa_sound_accepted.specs.kept.Laws.{LocalsAreSetApart, SetsApart, UnitsKeepTheirRows}
 use Rattle.tsa_sound_accepted.proofs.kept.NamedPaths.{paths_are_named_once}
 use Rattle.tsa_sound_accepted.proofs.kept.SetsApart.{sets_apart}
-use Rattle.tsa_sound_accepted.proofs.kept.RowsOfWalks.{rows_are_kept}
+use Rattle.tsa_sound_accepted.proofs.kept.RowsOfWalks.{rows_are_kept, rows_are_possible}
 
 -- A function of a program, with its declaration.
 record Made (items : List UnitItem) (n : ℕ) (f : Function) : Type 0 where
@@ -61,6 +61,7 @@ units_keep_their_rows items u same quiet n body =
     let at : slice_get u.functions n ≡ Some f = is_there (slice_get u.functions n) body in
     record {
       kept = rows_are_kept u quiet n f at (paths_of u f);
+      possible = rows_are_possible u quiet n f at (paths_of u f);
       once = paths_are_named_once.once u f;
       own = paths_are_named_once.own u f;
       called = paths_are_named_once.called u f (uses_beside items u same n f at);

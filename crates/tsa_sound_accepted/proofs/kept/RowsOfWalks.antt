@@ -8,7 +8,7 @@ use Rattle.tsa_core.specs.Control.{Outcome, edge}
 use Rattle.tsa_core.specs.Programs.{Function, Program}
 use Rattle.tsa_rules.specs.Effects.{effect}
 use Rattle.tsa_rules.specs.Fails.{fails}
-use Rattle.tsa_rules.specs.KeptRows.{AreKept}
+use Rattle.tsa_rules.specs.KeptRows.{AreKept, ArePossible}
 use Rattle.tsa_rules.specs.Points.{edges_of, is_status}
 use Rattle.tsa_rules.specs.declared.rule.Rule.{Rule}
 use Rattle.tsa_rules.specs.declared.rule.Rule.TheVariants.{TS10}
@@ -18,7 +18,7 @@ use Rattle.tsa_rules.specs.Warnings.{HasNoWarnings, warning}
 use Rattle.tsa_rules.proofs.EdgeInduction.{carried}
 use Rattle.tsa_rules.proofs.OneStatus.{one_status_where_edges_agree}
 use Rattle.tsa_rules.proofs.Possible.{statuses_stay_possible}
-use Rattle.tsa_sound_accepted.specs.kept.Laws.{RowsAreKeptWhereNoRuleFails}
+use Rattle.tsa_sound_accepted.specs.kept.Laws.{RowsAreKeptWhereNoRuleFails, RowsArePossibleWhereNoRuleFails}
 use Rattle.tsa_sound_accepted.specs.kept.Visits.{Visit, Visits, Walk, status_along, first_visit, next_visit, or_visit, rows_of, visit_by}
 use Rattle.tsa_sound_accepted.specs.kept.Visits.{visits_from, visits_of, visits_with, with_visit}
 
@@ -258,11 +258,16 @@ module _ (u : Program) (quiet : HasNoWarnings u) (n : ℕ) (f : Function) (there
   kept paths = record {
     start = (the_whole no_way).first;
     entry_is = λ c among. one c 0 _ _ (reached_at c 0 (the_whole c).first) (entry_edge, record { leads = refl; before = []; is_walk = tt; brings = refl });
-    possible = λ p c h among. let x = reached_at c p h in subst (λ s. is_status u f c s ≡ true) x.1.brings (possible c x.0 x.1.before p x.1.is_walk x.1.leads);
     goes_on = λ p q o h among. (the_whole no_way).all p q o among h;
     goes_along = λ p q o c h among listed. one c q _ _ (reached_at c q ((the_whole c).all p q o among h)) (further c p q o _ among (reached_at c p h));
     breaks_none = λ rule p c h among. passes c rule p _ (reached_at c p h);
   }
 
+  are_possible : (paths : List Way) → ArePossible u f paths (rows_of u f)
+  are_possible paths p c h among = let x = reached_at c p h in subst (λ s. is_status u f c s ≡ true) x.1.brings (possible c x.0 x.1.before p x.1.is_walk x.1.leads)
+
 pub rows_are_kept : RowsAreKeptWhereNoRuleFails
 rows_are_kept u quiet n f there paths = kept u quiet n f there paths
+
+pub rows_are_possible : RowsArePossibleWhereNoRuleFails
+rows_are_possible u quiet n f there paths = are_possible u quiet n f there paths

@@ -11,7 +11,7 @@ use Rattle.tsa_place_model.specs.Leading.{HasPlaces}
 use Rattle.tsa_core.specs.Programs.{Function, Program, program_of}
 use Rattle.tsa_core.specs.Terms.{Term}
 use Rattle.tsa_path.specs.Sameness.{same_way}
-use Rattle.tsa_rules.specs.KeptRows.{AreKept}
+use Rattle.tsa_rules.specs.KeptRows.{AreKept, ArePossible}
 use Rattle.tsa_rules.specs.Points.{attrs_at, function_at, mentions, point_at, points_of, try_variables}
 use Rattle.tsa_rules.specs.Warnings.{HasNoWarnings}
 use Rattle.tsa_profile.specs.Units.{refusal_of_profile}
@@ -23,6 +23,11 @@ use Rattle.tsa_sound_accepted.specs.kept.Visits.{rows_of}
 abbrev pub RowsAreKeptWhereNoRuleFails : Type 0
 RowsAreKeptWhereNoRuleFails = (u : Program) → HasNoWarnings u → (n : ℕ) (f : Function) → slice_get u.functions n ≡ Some f → (paths : List Way)
     → AreKept u f paths (rows_of u f)
+
+-- and their statuses are ones that the paths may have
+abbrev pub RowsArePossibleWhereNoRuleFails : Type 0
+RowsArePossibleWhereNoRuleFails = (u : Program) → HasNoWarnings u → (n : ℕ) (f : Function) → slice_get u.functions n ≡ Some f → (paths : List Way)
+    → ArePossible u f paths (rows_of u f)
 
 -- the paths of a function are listed once each, and with them all that its own attributes and those of the functions that it calls name
 pub record PathsAreNamedOnce : Type 0 where
@@ -46,6 +51,7 @@ LocalsAreSetApart = (items : List UnitItem) (l : Layout) → first_failing items
 -- The paths of a function with its rows, and what the laws of turns ask of both.
 pub record RowsAreKept (u : Program) (n : ℕ) : Type 0 where
   pub kept : AreKept u (function_at u n) (paths_of u (function_at u n)) (rows_of u (function_at u n))
+  pub possible : ArePossible u (function_at u n) (paths_of u (function_at u n)) (rows_of u (function_at u n))
   pub once : AllPairs (λ c d. same_way c d ≡ false) (paths_of u (function_at u n))
   pub own : All (λ a. IsAmong (paths_of u (function_at u n)) a.path) (function_at u n).attrs
   pub called : (p : ℕ) → All (λ a. IsAmong (paths_of u (function_at u n)) a.path) (attrs_at u (function_at u n) p)
