@@ -373,3 +373,11 @@ body_is s body points none_yet names ls one two es n is1 same listed is2 out =
     let all : ls ≡ L = listed ∙ ap (λ a. a.labels) is1 ∙ append-nil (labels_all body 0 points) ∙ ap (labels_all body 0) n in
     out ∙ ap (λ a. a.edges) is2 ∙ append-nil (edges_all s body 0 points (jumps s points points names)) ∙ ap (λ k. edges_all s body 0 k (jumps s k k names)) n
     ∙ all_edges_alike s names L (λ name. same name ∙ ap (λ xs. found xs name) all) s s (kept_same s) (kept_same s) body 0 c c c
+
+-- The whole body, where it has no labels.
+pub body_at_once : (s : Scope) (body : Statements) (points : ℕ) (none_yet : Labels) (one : Ahead) (es : List Edge) → points ≡ count_all body → none_yet ≡ []
+    → one ≡ with_statements s body 0 points (jumps s points points none_yet) (ahead [] [] []) → one.labels ≡ [] → es ≡ one.edges → es ≡ body_edges s body
+body_at_once s body points none_yet one es n unknown is bare out =
+    let same : none_yet ≡ labels_all body 0 points = unknown ∙ sym (sym (append-nil (labels_all body 0 points)) ∙ sym (ap (λ a. a.labels) is) ∙ bare) in
+    out ∙ ap (λ a. a.edges) is ∙ append-nil (edges_all s body 0 points (jumps s points points none_yet)) ∙ ap (λ ls. edges_all s body 0 points (jumps s points points ls)) same
+    ∙ ap (λ k. edges_all s body 0 k (jumps s k k (labels_all body 0 k))) n

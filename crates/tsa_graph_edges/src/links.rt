@@ -53,8 +53,8 @@ fn walked<'a>(
     Ok(ahead)
 }
 
-/// The edges of a body of so many points, but for its end, in order of the text. A first walk finds the labels, and a second one, where
-/// they are known, the edges.
+/// The edges of a body of so many points, but for its end, in order of the text. A first walk finds the labels; where there are none, it has
+/// found the edges too, and else a second one finds them, where the labels are known.
 pub fn body_links<'a>(
     scope: &Scope<'a>,
     body: &[Stmt<'a>],
@@ -66,6 +66,9 @@ pub fn body_links<'a>(
     let alloc = scope.allocator();
     let none = Names::new(alloc);
     let found = walked(scope, &none, body, points)?;
+    if found.has_no_labels() {
+        return Ok(found.into_links());
+    }
     let labels = known_labels(alloc, found.into_labels())?;
     let ahead = walked(scope, &labels, body, points)?;
     Ok(ahead.into_links())

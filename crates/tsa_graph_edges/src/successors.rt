@@ -1,5 +1,5 @@
 //! What a walk through a body from its end on has come by: edges, the cases of the switch that it is in, and labels.
-ghost use Rattle.std.specs.Prelude.{◌≡◌, ◌∷◌, ◌++◌, [], map, reverse, OnOk, IfOk};
+ghost use Rattle.std.specs.Prelude.{◌≡◌, ◌↔◌, ◌∷◌, ◌++◌, [], map, reverse, IsTrue, OnOk, IfOk};
 ghost use Rattle.tsa_core.specs.Control.{case_edge, case_edges, rest_edges, has_default as spec_has_default, switch_edges};
 ghost use Rattle.tsa_graph_edges.specs.Successors.{ahead, with_edges, with_cases, with_labels, set_edges, set_cases};
 ghost use Rattle.tsa_graph_edges.specs.Links.{edge_of};
@@ -175,6 +175,13 @@ impl<'a> Ahead<'a> {
         let mut links = self.links;
         links.reverse();
         links
+    }
+
+    /// Whether there are no labels.
+    pub fn has_no_labels(&self) -> bool
+        ensures { IsTrue result ↔ (self.now.labels ≡ []) }
+    {
+        self.labels.is_empty()
     }
 
     /// The labels, from the last one on.
