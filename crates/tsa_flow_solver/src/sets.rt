@@ -78,7 +78,7 @@ fn walk<L: Lanes>(lanes: &L, block: &Block, from: Stand, to: usize) -> Statuses
 }
 
 impl Reached {
-    /// Where a stage begins at a place of a block or before it, with the statuses of a lane there.
+    /// Where the last stage begins that isn't behind a place of a block, with the statuses of a lane there.
     fn stand(&self, place: Place, lane: u32) -> Stand
         ensures lane { result.lane ≡ lane }
         ensures before { result.at ≤ place.index }
@@ -87,8 +87,10 @@ impl Reached {
             (slice_index_or self.now.stages place.block [])
             → IsCarried cases b (set_at (lane_of self.now.joins.rows.items lane) place.block) result.at result.set }
     {
-        let number = place.index as usize / STAGE;
-        match self.stages.at(place.block as usize).get(number) {
+        let stages = self.stages.at(place.block as usize);
+        let last = stages.len().saturating_sub(1);
+        let number = (place.index as usize / STAGE).min(last);
+        match stages.get(number) {
             Some(row) => Stand {
                 lane,
                 at: number * STAGE,
