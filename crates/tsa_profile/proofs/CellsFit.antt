@@ -37,7 +37,7 @@ use Rattle.tsa_core.proofs.TypedTerms.{some_same}
 use Rattle.tsa_path.proofs.ArgumentPaths.{bound}
 use Rattle.tsa_path.proofs.Pointers.{spot_of}
 use Rattle.tsa_path.proofs.StandDeclared.{StandsAs}
-use Rattle.tsa_profile.proofs.ConstantPlaces.{Around, At, guarded, constant_place_at}
+use Rattle.tsa_profile.proofs.ConstantPlaces.{Around, At, constant_place_at, one_is, way_guarded}
 use Rattle.tsa_profile.proofs.GoodValues.{is_data, may, good, zero_good}
 use Rattle.tsa_profile.proofs.InitialisersFit.{Fit}
 use Rattle.tsa_profile.proofs.NumbersFit.{value_is_fit, int_is_int}
@@ -45,14 +45,9 @@ use Rattle.tsa_profile.proofs.SmallNames.{Plain, small_known}
 
 -- where a constant pointer leads to something guarded or not, a pointer may point there
 abbrev pub Allows : (Placed → Bool) → Layout → Scope → Expression → Type 0
-Allows free whole here (unary prefix.Address inner span) = (p : Placed) → is_structure p.kind ≡ true → p.is_guarded ≡ guarded whole here inner → free p ≡ true
+Allows free whole here (unary prefix.Address inner span) =
+    (own : ℕ) → is_constant_place (context_of here) own false inner ≡ true → (p : Placed) → is_structure p.kind ≡ true → p.is_guarded ≡ way_guarded whole here inner → free p ≡ true
 Allows free whole here e = Unit {0}
-
-one_is : (f : ExpressionType → ExpressionType) (b : Bool) (o : Option ExpressionType) (t : ExpressionType) → unless b (option_map f o) ≡ Some t
-    → (b ≡ false) × ((x : ExpressionType) × ((o ≡ Some x) × (f x ≡ t)))
-one_is f true o t e = cc
-one_is f false None t e = cc
-one_is f false (Some x) t e = (refl, (x, (refl, some_same e)))
 
 -- the struct that a place is
 struct_is : (t : ExpressionType) → is_struct_place t ≡ true → (n : ℕ) × (t.thing.kind ≡ type.Structure n)
@@ -108,18 +103,18 @@ module _ (here there : Scope) (l whole : Layout) (own : ℕ) (a : Around here th
   pointer_at n to_const (Some place) known = known place refl
 
   address_good : (n : ℕ) (to_const k : Bool) (inner : Expression) (x : ExpressionType) → unless (breaks_prefix prefix.Address (type_of c inner)) (option_map (prefix_type prefix.Address) (type_of c inner)) ≡ Some x
-      → goes_to x (cell_thing (type.Pointer n to_const) k) ≡ true → is_constant_place c own inner ≡ true
-      → ((p : Placed) → is_structure p.kind ≡ true → p.is_guarded ≡ guarded whole here inner → free p ≡ true)
+      → goes_to x (cell_thing (type.Pointer n to_const) k) ≡ true → is_constant_place c own false inner ≡ true
+      → ((p : Placed) → is_structure p.kind ≡ true → p.is_guarded ≡ way_guarded whole here inner → free p ≡ true)
       → (place : ℕ) → option_and_then (λ w. evaluated l no_locals None w.way) (leads no_stable there false inner) ≡ Some place → may free n to_const (slice_get l.places place) ≡ true
   address_good n to_const k inner x is goes constant allowed place e =
       let t = one_is (prefix_type prefix.Address) (breaks_prefix prefix.Address (type_of c inner)) (type_of c inner) x is in
       let object = not_false (is_struct_place t.1.0) (subst (λ o. breaks_prefix prefix.Address o ≡ false) t.1.1.0 t.0) in
       let m = struct_is t.1.0 object in
       let b = bound (λ w. evaluated l no_locals None w.way) (leads no_stable there false inner) place e in
-      let at = constant_place_at here there l whole own a inner t.1.0 b.0 constant t.1.1.0 b.1.0 in
+      let at = constant_place_at here there l whole own a false inner t.1.0 b.0 constant t.1.1.0 b.1.0 in
       let pointer : x ≡ typed.value (type.Pointer m.0 t.1.0.thing.is_const) = sym t.1.1.1 ∙ address_is t.1.0.thing.is_const t.1.0.thing.kind t.1.0.thing.length m.0 m.1 in
-      points n m.0 to_const k place t.1.0.thing.kind t.1.0.thing.is_const (guarded whole here inner) m.1
-      (subst (λ y. goes_to y (cell_thing (type.Pointer n to_const) k) ≡ true) pointer goes) allowed (place_is b.0 t.1.0 (guarded whole here inner) place at b.1.1)
+      points n m.0 to_const k place t.1.0.thing.kind t.1.0.thing.is_const (way_guarded whole here inner) m.1
+      (subst (λ y. goes_to y (cell_thing (type.Pointer n to_const) k) ≡ true) pointer goes) allowed (place_is b.0 t.1.0 (way_guarded whole here inner) place at b.1.1)
     where
       address_is : (const : Bool) (kind : Kind) (length : Option ℕ) (m : ℕ) → kind ≡ type.Structure m
           → typed.value (address_of (record { kind = kind; length = length; is_const = const })) ≡ typed.value (type.Pointer m const)
@@ -130,7 +125,7 @@ module _ (here there : Scope) (l whole : Layout) (own : ℕ) (a : Around here th
   unfolding leads type_of
   pointer_good n to_const k (unary prefix.Address inner span) x is goes constant allowed =
       pointer_at n to_const (option_and_then (λ w. evaluated l no_locals None w.way) (leads no_stable there false inner))
-      (λ place e. address_good n to_const k inner x is goes constant allowed place e)
+      (λ place e. address_good n to_const k inner x is goes constant (allowed own constant) place e)
   pointer_good n to_const k (null span) x is goes constant allowed = refl
   pointer_good n to_const k (number zero u span) x is goes constant allowed = refl
   pointer_good n to_const k (number (suc m) u span) x is goes constant allowed = never (sym constant)

@@ -1,8 +1,9 @@
 -- A constant place of an initialiser is a place of an earlier global, const and guarded as its expression is.
 use Rattle.std.proofs.Common.{◌≡◌, ◌∙◌, ℕ, zero, suc, ◌<◌, ◌≤◌, arith, pos, negsuc, nat_lt, nat_eq, Bool, true, false, not, ◌||◌, List, []}
-use Rattle.std.proofs.Common.{◌∷◌, ◌++◌, length, map, Option, Some, None, is_some, option_map, option_and_then, slice_get, refl, sym, ap}
+use Rattle.std.proofs.Common.{◌∷◌, ◌++◌, length, map, Option, Some, None, is_none, is_some, option_map, option_and_then, slice_get, refl, sym, ap}
 use Rattle.std.proofs.Common.{ap₂, subst, if◌then◌else◌, eqb-true}
 use Rattle.std.proofs.lemmas.Bool.Decides.{nat_tests}
+use Rattle.tsa_tree.specs.declared.expr.UnaryOp.TheVariants as prefix
 use Rattle.tsa_tree.specs.declared.kind.ExpressionType.{ExpressionType}
 use Rattle.tsa_tree.specs.declared.kind.Kind.{Kind}
 use Rattle.tsa_tree.specs.declared.kind.Kind.TheVariants as type
@@ -16,8 +17,11 @@ use Rattle.tsa_tree.specs.expressions.Syntax.{Expression, number, null, named, c
 use Rattle.tsa_tree.specs.types.DeclaredTypes.{value_in}
 use Rattle.tsa_tree.specs.types.Expressions.{type_of, unless, both, entry_type, member_type, member_of, owner}
 use Rattle.tsa_tree.specs.types.Initialisers.{is_earlier, is_constant_place}
-use Rattle.tsa_tree.specs.types.Operands.{lacks, breaks_index, element_type}
+use Rattle.tsa_tree.specs.types.Known.{Context}
+use Rattle.tsa_tree.specs.types.Operands.{address_of, breaks_index, breaks_prefix, element_type, followed, is_struct_place, lacks}
+use Rattle.tsa_tree.specs.types.Operands.{only, prefix_type, structure_of}
 use Rattle.tsa_tree.specs.types.Scopes.{Scope, context_of, known_in}
+use Rattle.tsa_tree.specs.types.Types as typed
 use Rattle.tsa_tree.specs.types.Types.{place}
 use Rattle.tsa_tree.specs.types.Lookups.{members_at, numbered}
 use Rattle.tsa_place_model.specs.Arguments.{way_of}
@@ -34,8 +38,9 @@ use Rattle.tsa_place_model.specs.Layouts.{Part, Structures, no_members, structur
 use Rattle.tsa_place_model.specs.Parts.{no_stable}
 use Rattle.tsa_place_model.specs.Places.{has_some}
 use Rattle.tsa_place_model.proofs.GlobalsInRow.{IsLaid}
+use Rattle.tsa_core.specs.Meanings.{meaning}
 use Rattle.tsa_core.specs.Uses.{access_guards, member_guards, field_guards, name_guards}
-use Rattle.tsa_core.proofs.KindTests.{both_true}
+use Rattle.tsa_core.proofs.KindTests.{both_true, not_false}
 use Rattle.tsa_core.proofs.KindsOfTerms.{of_owner}
 use Rattle.tsa_core.proofs.ScopesAlike.{Alike, no_function, known_alike}
 use Rattle.tsa_core.proofs.TypedTerms.{some_same, terms_have_types, member_numbered}
@@ -68,6 +73,12 @@ mapped : {A B : Type 0} (f : A → B) (o : Option A) (b : B) → option_map f o 
 mapped f None b e = cc
 mapped f (Some a) b e = (a, (refl, some_same e))
 
+pub one_is : (f : ExpressionType → ExpressionType) (b : Bool) (o : Option ExpressionType) (t : ExpressionType) → unless b (option_map f o) ≡ Some t
+    → (b ≡ false) × ((x : ExpressionType) × ((o ≡ Some x) × (f x ≡ t)))
+one_is f true o t e = cc
+one_is f false None t e = cc
+one_is f false (Some x) t e = (refl, (x, (refl, some_same e)))
+
 two_is : (f : ExpressionType → ExpressionType → ExpressionType) (b : Bool) (o p : Option ExpressionType) (t : ExpressionType) → unless b (both f o p) ≡ Some t
     → (x : ExpressionType) × ((o ≡ Some x) × ((y : ExpressionType) × (f x y ≡ t)))
 two_is f true o p t e = cc
@@ -83,7 +94,7 @@ empty_map : {A B : Type 0} (f : A → B) (xs : List A) → is_empty (map f xs) �
 empty_map f [] = refl
 empty_map f (x ∷ rest) = refl
 
-empty_append : {A : Type 0} (xs ys : List A) → not (is_empty (xs ++ ys)) ≡ (not (is_empty xs) || not (is_empty ys))
+pub empty_append : {A : Type 0} (xs ys : List A) → not (is_empty (xs ++ ys)) ≡ (not (is_empty xs) || not (is_empty ys))
 empty_append [] ys = refl
 empty_append (x ∷ rest) ys = refl
 
@@ -232,6 +243,51 @@ module _ (l : Layout) where
 abbrev pub guarded : Layout → Scope → Expression → Bool
 guarded whole here e = not (is_empty (access_guards whole no_stable here e))
 
+-- Whether guards are declared anywhere on the way to a constant place, also before an address that `*` or `->` follows.
+abbrev pub way_guarded : Layout → Scope → Expression → Bool
+way_guarded whole here (named name span) = guarded whole here (named name span)
+way_guarded whole here (field base name arrow span) =
+    way_guarded whole here base || not (is_empty (field_guards whole here (way_of no_stable here arrow base) name.text (owner arrow (meaning here base).type)))
+way_guarded whole here (index base at span) = way_guarded whole here base
+way_guarded whole here (unary prefix.Address inner span) = way_guarded whole here inner
+way_guarded whole here (unary prefix.Follow inner span) = way_guarded whole here inner
+way_guarded whole here e = false
+
+-- the type of the place that an expression stands for, or of the one that it points to
+abbrev place_type : (as_pointer : Bool) → ExpressionType → ExpressionType
+place_type false t = t
+place_type true t = place (followed t.thing.kind)
+
+-- An arrow's member is a point's, of what the pointer points to.
+module _ (c : Context) (name : List ℕ) where
+  abbrev Same : Bool → ExpressionType → ExpressionType → Type 0
+  Same arrow x t =
+      (owner false (place_type arrow x) ≡ owner arrow x)
+      × (option_map (member_type false (place_type arrow x)) (member_of c false name (place_type arrow x)) ≡ Some t)
+
+  arrow_is : (kind : Kind) (length : Option ℕ) (const is_place is_zero : Bool) (t : ExpressionType)
+      → option_map (member_type true (record { thing = record { kind = kind; length = length; is_const = const }; is_place = is_place; is_zero = is_zero }))
+      (member_of c true name (record { thing = record { kind = kind; length = length; is_const = const }; is_place = is_place; is_zero = is_zero })) ≡ Some t
+      → Same true (record { thing = record { kind = kind; length = length; is_const = const }; is_place = is_place; is_zero = is_zero }) t
+  arrow_is (type.Pointer n to_const) None const is_place is_zero t e = (refl, e)
+  arrow_is (type.Pointer n to_const) (Some k) const is_place is_zero t e = cc
+  arrow_is type.Int None const is_place is_zero t e = cc
+  arrow_is type.Int (Some k) const is_place is_zero t e = cc
+  arrow_is type.Unsigned None const is_place is_zero t e = cc
+  arrow_is type.Unsigned (Some k) const is_place is_zero t e = cc
+  arrow_is type.Void None const is_place is_zero t e = cc
+  arrow_is type.Void (Some k) const is_place is_zero t e = cc
+  arrow_is (type.Structure n) None const is_place is_zero t e = cc
+  arrow_is (type.Structure n) (Some k) const is_place is_zero t e = cc
+  arrow_is type.Null None const is_place is_zero t e = cc
+  arrow_is type.Null (Some k) const is_place is_zero t e = cc
+  arrow_is type.Function None const is_place is_zero t e = cc
+  arrow_is type.Function (Some k) const is_place is_zero t e = cc
+
+  member_as_point : (arrow : Bool) (x t : ExpressionType) → option_map (member_type arrow x) (member_of c arrow name x) ≡ Some t → Same arrow x t
+  member_as_point false x t e = (refl, e)
+  member_as_point true x t e = arrow_is x.thing.kind x.thing.length x.thing.is_const x.is_place x.is_zero t e
+
 module _ (here there : Scope) (l whole : Layout) (own : ℕ) (a : Around here there l whole own) where
   -- a global
   global_at : (n : ℕ) (t : ThingType) (part : Part) → slice_get l.globals n ≡ Some part → part.thing ≡ t
@@ -299,18 +355,16 @@ module _ (here there : Scope) (l whole : Layout) (own : ℕ) (a : Around here th
           ∙ ap (λ q. not (is_empty (part_guards q))) is
           ∙ sym (some_guards m.guards)
 
-    member_guarded : (t : ExpressionType) (o : Option Way) (outer : List (Option Way)) → not (is_empty outer) ≡ g
-        → option_map (member_type false x) (member_of (context_of here) false name x) ≡ Some t → At l (not (is_empty (outer ++ field_guards whole here o name (owner false x)))) d t
-    member_guarded t o outer is e =
+    member_is : (t : ExpressionType) (o : Option Way) → option_map (member_type false x) (member_of (context_of here) false name x) ≡ Some t
+        → At l (g || not (is_empty (field_guards whole here o name (owner false x)))) d t
+    member_is t o e =
         let m = mapped (λ m. m.thing) (slice_get (structure_at l.structs i.struct).members i.number) i.thing (a.members i.struct name i.number i.thing found_here) in
-        subst (λ y. At l (not (is_empty (outer ++ field_guards whole here o name (owner false x)))) d y) (type_is t e)
-        (subst (λ b. At l b d (member_type false x i.thing)) (sym (both_guards m.0 m.1.0 m.1.1)) (inner_at m.0 m.1.0 m.1.1))
+        subst (λ y. At l (g || not (is_empty (field_guards whole here o name (owner false x)))) d y) (type_is t e)
+        (subst (λ b. At l (g || b) d (member_type false x i.thing)) (sym (its_guards m.0 m.1.0 m.1.1)) (inner_at m.0 m.1.0 m.1.1))
       where
-        both_guards : (m : Part) (at : slice_get (structure_at l.structs i.struct).members i.number ≡ Some m) (same : m.thing ≡ i.thing)
-            → not (is_empty (outer ++ field_guards whole here o name (owner false x))) ≡ (g || has_some m.guards)
-        both_guards m at same =
-            empty_append outer (field_guards whole here o name (owner false x))
-            ∙ ap₂ (λ p q. p || q) is (ap (λ q. not (is_empty (field_guards whole here o name q))) owner_is ∙ guards_are m at same o)
+        its_guards : (m : Part) (at : slice_get (structure_at l.structs i.struct).members i.number ≡ Some m) (same : m.thing ≡ i.thing)
+            → not (is_empty (field_guards whole here o name (owner false x))) ≡ has_some m.guards
+        its_guards m at same = ap (λ q. not (is_empty (field_guards whole here o name q))) owner_is ∙ guards_are m at same o
 
   -- an element
   element_at : (g : Bool) (before : Led) (x : ExpressionType) → At l g before x → (at : Expression) (d : Led) → Piece no_stable there at before d → At l g d (element_type x)
@@ -323,32 +377,68 @@ module _ (here there : Scope) (l whole : Layout) (own : ℕ) (a : Around here th
             (element_steps l a.laid a.heads i.step x.thing.kind (x.thing.is_const, g) (is_index no_stable there i.count at i.step i.step_is));
       })
 
-  pub constant_place_at : (e : Expression) (t : ExpressionType) (d : Led) → is_constant_place (context_of here) own e ≡ true → type_of (context_of here) e ≡ Some t
-      → leads no_stable there false e ≡ Some d → At l (guarded whole here e) d t
+  -- the address of a struct object points to it
+  pointed_at : (g : Bool) (d : Led) (x t : ExpressionType) → At l g d x → is_struct_place x ≡ true → prefix_type prefix.Address x ≡ t → At l g d (place_type true t)
+  pointed_at g d x t h object is = subst (λ y. At l g d (place_type true y)) is (by x.thing.kind x.thing.length x.thing.is_const (both_true x.is_place _ object).1 h.kind h.length h.ends)
+    where
+      by : (kind : Kind) (length : Option ℕ) (const : Bool) → is_some (only (is_none length) (structure_of kind)) ≡ true → d.thing.kind ≡ kind → d.thing.length ≡ length
+          → Ends l d.way kind (const, g) → At l g d (place_type true (typed.value (address_of (record { kind = kind; length = length; is_const = const }))))
+      by (type.Structure n) None const e kind length ends = record { kind = kind; length = length; ends = ends }
+      by type.Int None const e kind length ends = never (sym e)
+      by type.Unsigned None const e kind length ends = never (sym e)
+      by type.Void None const e kind length ends = never (sym e)
+      by (type.Pointer n c) None const e kind length ends = never (sym e)
+      by type.Null None const e kind length ends = never (sym e)
+      by type.Function None const e kind length ends = never (sym e)
+      by kind (Some k) const e k_is length ends = never (sym e)
+
+  pub constant_place_at : (p : Bool) (e : Expression) (t : ExpressionType) (d : Led) → is_constant_place (context_of here) own p e ≡ true
+      → type_of (context_of here) e ≡ Some t → leads no_stable there p e ≡ Some d → At l (way_guarded whole here e) d (place_type p t)
   unfolding type_of leads access_guards
-  constant_place_at (named name span) t d c is e =
+  constant_place_at false (named name span) t d c is e =
       known_at name.text (known_in here name.text) refl c t d is
       (ap (option_and_then (name_way no_stable there name.text)) (sym (known_alike here there a.alike name.text)) ∙ e)
-  constant_place_at (field base name false span) t d c is e =
-      let f : ExpressionType → Option ExpressionType = λ x. option_map (member_type false x) (member_of (context_of here) false name.text x) in
-      let parts = of_owner f (lacks (λ x. is_some (owner false x)) (type_of (context_of here) base)) (type_of (context_of here) base) t is in
-      let b = bound (member_step there name.text) (leads no_stable there false base) d e in
+  constant_place_at false (field base name arrow span) t d c is e =
+      let f : ExpressionType → Option ExpressionType = λ x. option_map (member_type arrow x) (member_of (context_of here) arrow name.text x) in
+      let parts = of_owner f (lacks (λ x. is_some (owner arrow x)) (type_of (context_of here) base)) (type_of (context_of here) base) t is in
+      let b = bound (member_step there name.text) (leads no_stable there arrow base) d e in
       let i = member_by there name.text b.0.way b.0.thing.kind b.0.thing.length b.0.thing.is_const b.0.is_stable d b.1.1 in
-      let known = constant_place_at base parts.0 b.0 c parts.1.0 b.1.0 in
-      subst (λ y. At l (not (is_empty (access_guards whole no_stable here base ++ field_guards whole here (way_of no_stable here false base) name.text (owner false y)))) d t)
-      (sym (terms_have_types here base parts.0 parts.1.0))
-      (member_guarded (guarded whole here base) b.0 parts.0 known name.text d i t (way_of no_stable here false base) (access_guards whole no_stable here base) refl parts.1.1)
-  constant_place_at (field base name true span) t d c is e = never (sym c)
-  constant_place_at (index base at span) t d c is e =
+      let known = constant_place_at arrow base parts.0 b.0 c parts.1.0 b.1.0 in
+      let same = member_as_point (context_of here) name.text arrow parts.0 t parts.1.1 in
+      subst (λ o. At l (way_guarded whole here base || not (is_empty (field_guards whole here (way_of no_stable here arrow base) name.text o))) d t)
+      (same.0 ∙ sym (ap (owner arrow) (terms_have_types here base parts.0 parts.1.0)))
+      (member_is (way_guarded whole here base) b.0 (place_type arrow parts.0) known name.text d i t (way_of no_stable here arrow base) same.1)
+  constant_place_at false (index base at span) t d c is e =
       let left = type_of (context_of here) base in
       let right = type_of (context_of here) at in
       let parts = two_is (λ x i. element_type x) (breaks_index left right) left right t is in
       let b = bound (element_step no_stable there at) (leads no_stable there false base) d e in
       let i = element_by no_stable there at b.0.way b.0.thing.kind b.0.thing.length b.0.thing.is_const b.0.is_stable d b.1.1 in
-      let known = constant_place_at base parts.0 b.0 (both_true (is_constant_place (context_of here) own base) _ c).0 parts.1.0 b.1.0 in
-      subst (λ y. At l (guarded whole here base) d y) parts.1.1.1 (element_at (guarded whole here base) b.0 parts.0 known at d i)
-  constant_place_at (number n u span) t d c is e = never (sym c)
-  constant_place_at (null span) t d c is e = never (sym c)
-  constant_place_at (call callee args span) t d c is e = never (sym c)
-  constant_place_at (unary o inner span) t d c is e = never (sym c)
-  constant_place_at (binary o left right span) t d c is e = never (sym c)
+      let known = constant_place_at false base parts.0 b.0 (both_true (is_constant_place (context_of here) own false base) _ c).0 parts.1.0 b.1.0 in
+      subst (λ y. At l (way_guarded whole here base) d y) parts.1.1.1 (element_at (way_guarded whole here base) b.0 parts.0 known at d i)
+  constant_place_at false (unary prefix.Follow inner span) t d c is e =
+      let x = one_is (prefix_type prefix.Follow) (breaks_prefix prefix.Follow (type_of (context_of here) inner)) (type_of (context_of here) inner) t is in
+      subst (λ y. At l (way_guarded whole here inner) d y) x.1.1.1 (constant_place_at true inner x.1.0 d c x.1.1.0 e)
+  constant_place_at true (unary prefix.Address inner span) t d c is e =
+      let x = one_is (prefix_type prefix.Address) (breaks_prefix prefix.Address (type_of (context_of here) inner)) (type_of (context_of here) inner) t is in
+      let object = not_false (is_struct_place x.1.0) (subst (λ o. breaks_prefix prefix.Address o ≡ false) x.1.1.0 x.0) in
+      pointed_at (way_guarded whole here inner) d x.1.0 t (constant_place_at false inner x.1.0 d c x.1.1.0 e) object x.1.1.1
+  constant_place_at false (number n u span) t d c is e = never (sym c)
+  constant_place_at false (null span) t d c is e = never (sym c)
+  constant_place_at false (call callee args span) t d c is e = never (sym c)
+  constant_place_at false (unary prefix.Minus inner span) t d c is e = never (sym c)
+  constant_place_at false (unary prefix.Not inner span) t d c is e = never (sym c)
+  constant_place_at false (unary prefix.Flip inner span) t d c is e = never (sym c)
+  constant_place_at false (binary o left right span) t d c is e = never (sym c)
+  constant_place_at true (number n u span) t d c is e = never (sym c)
+  constant_place_at true (null span) t d c is e = never (sym c)
+  constant_place_at true (call callee args span) t d c is e = never (sym c)
+  constant_place_at true (unary prefix.Minus inner span) t d c is e = never (sym c)
+  constant_place_at true (unary prefix.Not inner span) t d c is e = never (sym c)
+  constant_place_at true (unary prefix.Flip inner span) t d c is e = never (sym c)
+  constant_place_at true (binary o left right span) t d c is e = never (sym c)
+  constant_place_at true (named name span) t d c is e = never (sym c)
+  constant_place_at true (field base name arrow span) t d c is e = never (sym c)
+  constant_place_at true (index base at span) t d c is e = never (sym c)
+  constant_place_at true (unary prefix.Follow inner span) t d c is e = never (sym c)
+  constant_place_at false (unary prefix.Address inner span) t d c is e = never (sym c)

@@ -179,33 +179,50 @@ module _ (here there : Scope) (alike : Alike here there) (d : Declaration) (type
   value_is : (e : Expression) → value_in (context_of bare) e ≡ value_in (context_of here) e
   value_is e = value_same (behind_item here (global_item d)) (with_globals (there.globals + 1) bare) further e ∙ same_value (context_of here) (context_of inner) constants_here e
 
-  place_is : (e : Expression) → is_constant_place (context_of inner) own e ≡ true → leads no_stable bare false e ≡ leads no_stable here false e
+  place_is : (p : Bool) (e : Expression) → is_constant_place (context_of inner) own p e ≡ true → leads no_stable bare p e ≡ leads no_stable here p e
   unfolding leads
-  place_is (named name span) h =
+  place_is false (named name span) h =
       let known = known_inner name.text in
       let outer : is_earlier own (or_other (known_in here name.text) (it name.text)) ≡ true = sym (ap (is_earlier own) known) ∙ h in
       let same = known ∙ before_it own (known_in here name.text) (bytes_eq name.text d.name.text) (global_entry here d).thing outer in
       let early : is_earlier own (known_in here name.text) ≡ true = sym (ap (is_earlier own) same) ∙ h in
       ap (option_and_then (name_way no_stable bare name.text)) (known_bare name.text ∙ ap no_function same ∙ earlier_kept own (known_in here name.text) early)
       ∙ name_same own here bare name.text (known_in here name.text) early
-  place_is (field base name false span) h =
-      ap (option_and_then (member_step bare name.text)) (place_is base h) ∙ each (member_step bare name.text) (member_step here name.text) (λ x. member_same here bare name.text x further.structs) (leads no_stable here false base)
-  place_is (field base name true span) h = never (sym h)
-  place_is (index base at span) h =
-      ap (option_and_then (element_step no_stable bare at)) (place_is base (both_true (is_constant_place (context_of inner) own base) (is_index (length_at (type_of (context_of inner) base)) (constant_of (context_of inner) at)) h).0)
+  place_is false (field base name arrow span) h =
+      ap (option_and_then (member_step bare name.text)) (place_is arrow base h)
+      ∙ each (member_step bare name.text) (member_step here name.text) (λ x. member_same here bare name.text x further.structs) (leads no_stable here arrow base)
+  place_is false (index base at span) h =
+      ap (option_and_then (element_step no_stable bare at))
+      (place_is false base (both_true (is_constant_place (context_of inner) own false base) (is_index (length_at (type_of (context_of inner) base)) (constant_of (context_of inner) at)) h).0)
       ∙ each (element_step no_stable bare at) (element_step no_stable here at) (λ x. element_same here bare at x (value_is at)) (leads no_stable here false base)
-  place_is (number n u span) h = never (sym h)
-  place_is (null span) h = never (sym h)
-  place_is (call name args span) h = never (sym h)
-  place_is (unary o inside span) h = never (sym h)
-  place_is (binary o left right span) h = never (sym h)
+  place_is false (unary prefix.Follow inside span) h = place_is true inside h
+  place_is true (unary prefix.Address inside span) h = place_is false inside h
+  place_is false (number n u span) h = never (sym h)
+  place_is false (null span) h = never (sym h)
+  place_is false (call name args span) h = never (sym h)
+  place_is false (unary prefix.Minus inside span) h = never (sym h)
+  place_is false (unary prefix.Not inside span) h = never (sym h)
+  place_is false (unary prefix.Flip inside span) h = never (sym h)
+  place_is false (binary o left right span) h = never (sym h)
+  place_is true (number n u span) h = never (sym h)
+  place_is true (null span) h = never (sym h)
+  place_is true (call name args span) h = never (sym h)
+  place_is true (unary prefix.Minus inside span) h = never (sym h)
+  place_is true (unary prefix.Not inside span) h = never (sym h)
+  place_is true (unary prefix.Flip inside span) h = never (sym h)
+  place_is true (binary o left right span) h = never (sym h)
+  place_is true (named name span) h = never (sym h)
+  place_is true (field base name arrow span) h = never (sym h)
+  place_is true (index base at span) h = never (sym h)
+  place_is true (unary prefix.Follow inside span) h = never (sym h)
+  place_is false (unary prefix.Address inside span) h = never (sym h)
 
   address_is : (l : Layout) (e : Expression) → is_constant_pointer (context_of inner) own e ≡ true → address_in bare l e ≡ address_in here l e
   unfolding leads
   address_is l (null span) h = refl
   address_is l (number zero u span) h = refl
   address_is l (number (suc n) u span) h = never (sym h)
-  address_is l (unary prefix.Address inside span) h = ap (option_and_then (λ w. evaluated l no_locals None w.way)) (place_is inside h)
+  address_is l (unary prefix.Address inside span) h = ap (option_and_then (λ w. evaluated l no_locals None w.way)) (place_is false inside h)
   address_is l (unary prefix.Follow inside span) h = never (sym h)
   address_is l (unary prefix.Minus inside span) h = never (sym h)
   address_is l (unary prefix.Not inside span) h = never (sym h)

@@ -62,7 +62,7 @@ any p = true
 
 module _ (whole : Layout) where
   allows_any : (here : Scope) (e : Expression) → Allows any whole here e
-  allows_any here (unary prefix.Address inner span) = λ p object is. refl
+  allows_any here (unary prefix.Address inner span) = λ own constant p object is. refl
   allows_any here (unary prefix.Follow inner span) = tt
   allows_any here (unary prefix.Minus inner span) = tt
   allows_any here (unary prefix.Not inner span) = tt

@@ -27,65 +27,16 @@ use Rattle.tsa_types_expressions.specs.Found.{index_constant, constant_in}
 use Rattle.tsa_types_expressions.proofs.ConstantLaws.{constant_is}
 use Rattle.tsa_types_declarations.specs.Cells.{fixed_by}
 
--- a place of a global before the one of a number
-abbrev pub is_before : ℕ → Constant → Bool
-is_before own (constant.Place n) = nat_lt n own
-is_before own _ = false
+-- a place of a global before the one of a number, or the address of one
+abbrev pub is_before : ℕ → (as_pointer : Bool) → Constant → Bool
+is_before own false (constant.Place n) = nat_lt n own
+is_before own true (constant.Address n) = nat_lt n own
+is_before own as_pointer _ = false
 
--- a number, or no constant at all
-abbrev is_plain : Constant → Bool
-is_plain (constant.Number r) = true
-is_plain constant.Other = true
-is_plain _ = false
-
-abbrev is_address : UnaryOp → Bool
-is_address prefix.Address = true
-is_address _ = false
-
--- every prefix operator but `&` makes a number, or no constant
-prefix_plain : (op : UnaryOp) (k : Constant) → is_address op ≡ false → is_plain (prefix_constant op k) ≡ true
-prefix_plain prefix.Minus (constant.Number r) h = refl
-prefix_plain prefix.Minus constant.Null h = refl
-prefix_plain prefix.Minus (constant.Place n) h = refl
-prefix_plain prefix.Minus (constant.Address n) h = refl
-prefix_plain prefix.Minus constant.Other h = refl
-prefix_plain prefix.Not (constant.Number r) h = refl
-prefix_plain prefix.Not constant.Null h = refl
-prefix_plain prefix.Not (constant.Place n) h = refl
-prefix_plain prefix.Not (constant.Address n) h = refl
-prefix_plain prefix.Not constant.Other h = refl
-prefix_plain prefix.Flip (constant.Number r) h = refl
-prefix_plain prefix.Flip constant.Null h = refl
-prefix_plain prefix.Flip (constant.Place n) h = refl
-prefix_plain prefix.Flip (constant.Address n) h = refl
-prefix_plain prefix.Flip constant.Other h = refl
-prefix_plain prefix.Address k h = cc
-prefix_plain prefix.Follow k h = refl
-
--- a binary operator does too
-binary_plain : (op : BinaryOp) (k l : Constant) → is_plain (binary_constant op k l) ≡ true
-binary_plain op (constant.Number r) (constant.Number s) = refl
-binary_plain op (constant.Number r) constant.Null = refl
-binary_plain op (constant.Number r) (constant.Place n) = refl
-binary_plain op (constant.Number r) (constant.Address n) = refl
-binary_plain op (constant.Number r) constant.Other = refl
-binary_plain op constant.Null l = refl
-binary_plain op (constant.Place n) l = refl
-binary_plain op (constant.Address n) l = refl
-binary_plain op constant.Other l = refl
-
--- which constants are places of earlier globals
+-- which constants are places of earlier globals, and addresses of them
 module _ (own : ℕ) where
-  -- neither a number nor what is no constant is one
-  plain_before : (k : Constant) → is_plain k ≡ true → is_before own k ≡ false
-  plain_before (constant.Number r) h = refl
-  plain_before constant.Null h = refl
-  plain_before (constant.Place n) h = cc
-  plain_before (constant.Address n) h = refl
-  plain_before constant.Other h = refl
-
-  -- a name is one that means an earlier global
-  meaning_before : (m : Meaning) (t : ThingType) → is_earlier own (Some (record { meaning = m; thing = t })) ≡ is_before own (entry_constant m)
+  -- a name is a place where it means an earlier global, and never an address
+  meaning_before : (m : Meaning) (t : ThingType) → is_earlier own (Some (record { meaning = m; thing = t })) ≡ is_before own false (entry_constant m)
   meaning_before (known.Global n) t = refl
   meaning_before (known.Local n) t = refl
   meaning_before (known.Function n) t = refl
@@ -93,63 +44,188 @@ module _ (own : ℕ) where
   meaning_before (known.Constant z) t = refl
   meaning_before known.TypeName t = refl
 
-  known_before : (o : Option Entry) → is_earlier own o ≡ is_before own (known_constant o)
+  known_before : (o : Option Entry) → is_earlier own o ≡ is_before own false (known_constant o)
   known_before None = refl
   known_before (Some e) = meaning_before e.meaning e.thing
 
-  -- `&` of a place is none
-  address_before : (k : Constant) → is_before own (prefix_constant prefix.Address k) ≡ false
-  address_before (constant.Number r) = refl
-  address_before constant.Null = refl
-  address_before (constant.Place n) = refl
-  address_before (constant.Address n) = refl
-  address_before constant.Other = refl
+  no_address : (m : Meaning) → false ≡ is_before own true (entry_constant m)
+  no_address (known.Global n) = refl
+  no_address (known.Local n) = refl
+  no_address (known.Function n) = refl
+  no_address known.Owned = refl
+  no_address (known.Constant z) = refl
+  no_address known.TypeName = refl
 
-  prefix_before : (op : UnaryOp) (k : Constant) → is_before own (prefix_constant op k) ≡ false
-  prefix_before prefix.Minus k = plain_before (prefix_constant prefix.Minus k) (prefix_plain prefix.Minus k refl)
-  prefix_before prefix.Not k = plain_before (prefix_constant prefix.Not k) (prefix_plain prefix.Not k refl)
-  prefix_before prefix.Flip k = plain_before (prefix_constant prefix.Flip k) (prefix_plain prefix.Flip k refl)
-  prefix_before prefix.Address k = address_before k
-  prefix_before prefix.Follow k = refl
+  known_no_address : (o : Option Entry) → false ≡ is_before own true (known_constant o)
+  known_no_address None = refl
+  known_no_address (Some e) = no_address e.meaning
 
-  -- a member of one is one, by a point
-  field_before : (arrow : Bool) (k : Constant) → (not arrow && is_before own k) ≡ is_before own (field_constant arrow k)
-  field_before true k = refl
-  field_before false (constant.Number r) = refl
-  field_before false constant.Null = refl
-  field_before false (constant.Place n) = refl
-  field_before false (constant.Address n) = refl
-  field_before false constant.Other = refl
+  -- `&` of a place is an address, and `*` of an address a place
+  address_of : (k : Constant) → is_before own false k ≡ is_before own true (prefix_constant prefix.Address k)
+  address_of (constant.Number r) = refl
+  address_of constant.Null = refl
+  address_of (constant.Place n) = refl
+  address_of (constant.Address n) = refl
+  address_of constant.Other = refl
 
-  in_range : (n : ℕ) (a b : Bool) → nat_lt n own ≡ a → (a && b) ≡ is_before own (if b then constant.Place n else constant.Other)
+  followed : (k : Constant) → is_before own true k ≡ is_before own false (prefix_constant prefix.Follow k)
+  followed (constant.Number r) = refl
+  followed constant.Null = refl
+  followed (constant.Place n) = refl
+  followed (constant.Address n) = refl
+  followed constant.Other = refl
+
+  -- neither is the other one, and no number is either
+  no_place : (k : Constant) → false ≡ is_before own false (prefix_constant prefix.Address k)
+  no_place (constant.Number r) = refl
+  no_place constant.Null = refl
+  no_place (constant.Place n) = refl
+  no_place (constant.Address n) = refl
+  no_place constant.Other = refl
+
+  no_pointer : (k : Constant) → false ≡ is_before own true (prefix_constant prefix.Follow k)
+  no_pointer (constant.Number r) = refl
+  no_pointer constant.Null = refl
+  no_pointer (constant.Place n) = refl
+  no_pointer (constant.Address n) = refl
+  no_pointer constant.Other = refl
+
+  minus_before : (p : Bool) (k : Constant) → false ≡ is_before own p (prefix_constant prefix.Minus k)
+  minus_before true (constant.Number r) = refl
+  minus_before true constant.Null = refl
+  minus_before true (constant.Place n) = refl
+  minus_before true (constant.Address n) = refl
+  minus_before true constant.Other = refl
+  minus_before false (constant.Number r) = refl
+  minus_before false constant.Null = refl
+  minus_before false (constant.Place n) = refl
+  minus_before false (constant.Address n) = refl
+  minus_before false constant.Other = refl
+
+  not_before : (p : Bool) (k : Constant) → false ≡ is_before own p (prefix_constant prefix.Not k)
+  not_before true (constant.Number r) = refl
+  not_before true constant.Null = refl
+  not_before true (constant.Place n) = refl
+  not_before true (constant.Address n) = refl
+  not_before true constant.Other = refl
+  not_before false (constant.Number r) = refl
+  not_before false constant.Null = refl
+  not_before false (constant.Place n) = refl
+  not_before false (constant.Address n) = refl
+  not_before false constant.Other = refl
+
+  flip_before : (p : Bool) (k : Constant) → false ≡ is_before own p (prefix_constant prefix.Flip k)
+  flip_before true (constant.Number r) = refl
+  flip_before true constant.Null = refl
+  flip_before true (constant.Place n) = refl
+  flip_before true (constant.Address n) = refl
+  flip_before true constant.Other = refl
+  flip_before false (constant.Number r) = refl
+  flip_before false constant.Null = refl
+  flip_before false (constant.Place n) = refl
+  flip_before false (constant.Address n) = refl
+  flip_before false constant.Other = refl
+
+  binary_before : (p : Bool) (op : BinaryOp) (k l : Constant) → false ≡ is_before own p (binary_constant op k l)
+  binary_before true op (constant.Number r) (constant.Number s) = refl
+  binary_before true op (constant.Number r) constant.Null = refl
+  binary_before true op (constant.Number r) (constant.Place n) = refl
+  binary_before true op (constant.Number r) (constant.Address n) = refl
+  binary_before true op (constant.Number r) constant.Other = refl
+  binary_before true op constant.Null l = refl
+  binary_before true op (constant.Place n) l = refl
+  binary_before true op (constant.Address n) l = refl
+  binary_before true op constant.Other l = refl
+  binary_before false op (constant.Number r) (constant.Number s) = refl
+  binary_before false op (constant.Number r) constant.Null = refl
+  binary_before false op (constant.Number r) (constant.Place n) = refl
+  binary_before false op (constant.Number r) (constant.Address n) = refl
+  binary_before false op (constant.Number r) constant.Other = refl
+  binary_before false op constant.Null l = refl
+  binary_before false op (constant.Place n) l = refl
+  binary_before false op (constant.Address n) l = refl
+  binary_before false op constant.Other l = refl
+
+  -- a member of a place is one, by a point, and of what an address leads to, by an arrow
+  member_before : (arrow : Bool) (k : Constant) → is_before own arrow k ≡ is_before own false (field_constant arrow k)
+  member_before true (constant.Number r) = refl
+  member_before true constant.Null = refl
+  member_before true (constant.Place n) = refl
+  member_before true (constant.Address n) = refl
+  member_before true constant.Other = refl
+  member_before false (constant.Number r) = refl
+  member_before false constant.Null = refl
+  member_before false (constant.Place n) = refl
+  member_before false (constant.Address n) = refl
+  member_before false constant.Other = refl
+
+  member_no_address : (arrow : Bool) (k : Constant) → false ≡ is_before own true (field_constant arrow k)
+  member_no_address true (constant.Number r) = refl
+  member_no_address true constant.Null = refl
+  member_no_address true (constant.Place n) = refl
+  member_no_address true (constant.Address n) = refl
+  member_no_address true constant.Other = refl
+  member_no_address false (constant.Number r) = refl
+  member_no_address false constant.Null = refl
+  member_no_address false (constant.Place n) = refl
+  member_no_address false (constant.Address n) = refl
+  member_no_address false constant.Other = refl
+
+  in_range : (n : ℕ) (a b : Bool) → nat_lt n own ≡ a → (a && b) ≡ is_before own false (if b then constant.Place n else constant.Other)
   in_range n true true h = sym h
   in_range n true false h = refl
   in_range n false true h = sym h
   in_range n false false h = refl
 
-  -- an element of one is one, by an index in range
-  index_before : (l : Option ℕ) (k i : Constant) → (is_before own k && is_index l (number_in i)) ≡ is_before own (index_constant l k i)
+  -- an element of a place is one, by an index in range
+  index_before : (l : Option ℕ) (k i : Constant) → (is_before own false k && is_index l (number_in i)) ≡ is_before own false (index_constant l k i)
   index_before l (constant.Number r) i = refl
   index_before l constant.Null i = refl
   index_before l (constant.Place n) i = in_range n (nat_lt n own) (is_index l (number_in i)) refl
   index_before l (constant.Address n) i = refl
   index_before l constant.Other i = refl
 
+  element_no_address : (n : ℕ) (b : Bool) → false ≡ is_before own true (if b then constant.Place n else constant.Other)
+  element_no_address n true = refl
+  element_no_address n false = refl
+
+  index_no_address : (l : Option ℕ) (k i : Constant) → false ≡ is_before own true (index_constant l k i)
+  index_no_address l (constant.Number r) i = refl
+  index_no_address l constant.Null i = refl
+  index_no_address l (constant.Place n) i = element_no_address n (is_index l (number_in i))
+  index_no_address l (constant.Address n) i = refl
+  index_no_address l constant.Other i = refl
+
   module _ (c : Context) where
     -- an expression is one where what it is as a constant is
-    pub place_is : (e : Expression) → is_constant_place c own e ≡ is_before own (constant_in c e)
+    pub place_is : (p : Bool) (e : Expression) → is_constant_place c own p e ≡ is_before own p (constant_in c e)
     unfolding constant_in
-    place_is (number n u span) = refl
-    place_is (null span) = refl
-    place_is (named name span) = known_before (c.known name.text)
-    place_is (call callee args span) = refl
-    place_is (unary op inner span) = sym (prefix_before op (constant_in c inner))
-    place_is (binary op left right span) =
-        sym (plain_before (binary_constant op (constant_in c left) (constant_in c right)) (binary_plain op (constant_in c left) (constant_in c right)))
-    place_is (field base name arrow span) = ap (λ b. not arrow && b) (place_is base) ∙ field_before arrow (constant_in c base)
-    place_is (index base at span) =
-        ap (λ b. b && is_index (length_at (type_of c base)) (constant_of c at)) (place_is base)
-        ∙ ap (λ n. is_before own (constant_in c base) && is_index (length_at (type_of c base)) n) (constant_is c at)
+    place_is true (number n u span) = refl
+    place_is false (number n u span) = refl
+    place_is true (null span) = refl
+    place_is false (null span) = refl
+    place_is true (named name span) = known_no_address (c.known name.text)
+    place_is false (named name span) = known_before (c.known name.text)
+    place_is true (call callee args span) = refl
+    place_is false (call callee args span) = refl
+    place_is true (unary prefix.Address inner span) = place_is false inner ∙ address_of (constant_in c inner)
+    place_is false (unary prefix.Address inner span) = no_place (constant_in c inner)
+    place_is true (unary prefix.Follow inner span) = no_pointer (constant_in c inner)
+    place_is false (unary prefix.Follow inner span) = place_is true inner ∙ followed (constant_in c inner)
+    place_is true (unary prefix.Minus inner span) = minus_before true (constant_in c inner)
+    place_is false (unary prefix.Minus inner span) = minus_before false (constant_in c inner)
+    place_is true (unary prefix.Not inner span) = not_before true (constant_in c inner)
+    place_is false (unary prefix.Not inner span) = not_before false (constant_in c inner)
+    place_is true (unary prefix.Flip inner span) = flip_before true (constant_in c inner)
+    place_is false (unary prefix.Flip inner span) = flip_before false (constant_in c inner)
+    place_is true (binary op left right span) = binary_before true op (constant_in c left) (constant_in c right)
+    place_is false (binary op left right span) = binary_before false op (constant_in c left) (constant_in c right)
+    place_is true (field base name arrow span) = member_no_address arrow (constant_in c base)
+    place_is false (field base name arrow span) = place_is arrow base ∙ member_before arrow (constant_in c base)
+    place_is true (index base at span) = index_no_address (length_at (type_of c base)) (constant_in c base) (constant_in c at)
+    place_is false (index base at span) =
+        ap (λ b. b && is_index (length_at (type_of c base)) (constant_of c at)) (place_is false base)
+        ∙ ap (λ n. is_before own false (constant_in c base) && is_index (length_at (type_of c base)) n) (constant_is c at)
         ∙ index_before (length_at (type_of c base)) (constant_in c base) (constant_in c at)
 
 -- only the number 0 is one
@@ -211,79 +287,103 @@ module _ (c : Context) where
   member_zero arrow name None = refl
   member_zero arrow name (Some t) = made_zero (member_type arrow t) (λ m. refl) (member_of c arrow name t)
 
--- which constants are pointers, where they aren't the number 0
+-- Which constants are pointers, where they aren't the number 0: null, and addresses of earlier globals' places.
+abbrev is_null : Constant → Bool
+is_null constant.Null = true
+is_null _ = false
+
+prefix_not_null : (op : UnaryOp) (k : Constant) → is_null (prefix_constant op k) ≡ false
+prefix_not_null prefix.Minus (constant.Number r) = refl
+prefix_not_null prefix.Minus constant.Null = refl
+prefix_not_null prefix.Minus (constant.Place n) = refl
+prefix_not_null prefix.Minus (constant.Address n) = refl
+prefix_not_null prefix.Minus constant.Other = refl
+prefix_not_null prefix.Not (constant.Number r) = refl
+prefix_not_null prefix.Not constant.Null = refl
+prefix_not_null prefix.Not (constant.Place n) = refl
+prefix_not_null prefix.Not (constant.Address n) = refl
+prefix_not_null prefix.Not constant.Other = refl
+prefix_not_null prefix.Flip (constant.Number r) = refl
+prefix_not_null prefix.Flip constant.Null = refl
+prefix_not_null prefix.Flip (constant.Place n) = refl
+prefix_not_null prefix.Flip (constant.Address n) = refl
+prefix_not_null prefix.Flip constant.Other = refl
+prefix_not_null prefix.Address (constant.Number r) = refl
+prefix_not_null prefix.Address constant.Null = refl
+prefix_not_null prefix.Address (constant.Place n) = refl
+prefix_not_null prefix.Address (constant.Address n) = refl
+prefix_not_null prefix.Address constant.Other = refl
+prefix_not_null prefix.Follow (constant.Number r) = refl
+prefix_not_null prefix.Follow constant.Null = refl
+prefix_not_null prefix.Follow (constant.Place n) = refl
+prefix_not_null prefix.Follow (constant.Address n) = refl
+prefix_not_null prefix.Follow constant.Other = refl
+
+binary_not_null : (op : BinaryOp) (k l : Constant) → is_null (binary_constant op k l) ≡ false
+binary_not_null op (constant.Number r) (constant.Number s) = refl
+binary_not_null op (constant.Number r) constant.Null = refl
+binary_not_null op (constant.Number r) (constant.Place n) = refl
+binary_not_null op (constant.Number r) (constant.Address n) = refl
+binary_not_null op (constant.Number r) constant.Other = refl
+binary_not_null op constant.Null l = refl
+binary_not_null op (constant.Place n) l = refl
+binary_not_null op (constant.Address n) l = refl
+binary_not_null op constant.Other l = refl
+
+field_not_null : (arrow : Bool) (k : Constant) → is_null (field_constant arrow k) ≡ false
+field_not_null true (constant.Number r) = refl
+field_not_null true constant.Null = refl
+field_not_null true (constant.Place n) = refl
+field_not_null true (constant.Address n) = refl
+field_not_null true constant.Other = refl
+field_not_null false (constant.Number r) = refl
+field_not_null false constant.Null = refl
+field_not_null false (constant.Place n) = refl
+field_not_null false (constant.Address n) = refl
+field_not_null false constant.Other = refl
+
+element_not_null : (n : ℕ) (b : Bool) → is_null (if b then constant.Place n else constant.Other) ≡ false
+element_not_null n true = refl
+element_not_null n false = refl
+
+index_not_null : (l : Option ℕ) (k i : Constant) → is_null (index_constant l k i) ≡ false
+index_not_null l (constant.Number r) i = refl
+index_not_null l constant.Null i = refl
+index_not_null l (constant.Place n) i = element_not_null n (is_index l (number_in i))
+index_not_null l (constant.Address n) i = refl
+index_not_null l constant.Other i = refl
+
+meaning_not_null : (m : Meaning) → is_null (entry_constant m) ≡ false
+meaning_not_null (known.Global n) = refl
+meaning_not_null (known.Local n) = refl
+meaning_not_null (known.Function n) = refl
+meaning_not_null known.Owned = refl
+meaning_not_null (known.Constant z) = refl
+meaning_not_null known.TypeName = refl
+
+known_not_null : (o : Option Entry) → is_null (known_constant o) ≡ false
+known_not_null None = refl
+known_not_null (Some e) = meaning_not_null e.meaning
+
+no_zero : (n : ℕ) → nat_eq (suc n) 0 ≡ false
+no_zero n = grind (arith, nat_tests)
+
+number_zero : (n : ℕ) (u : Bool) → (number_type n u).is_zero ≡ nat_eq n 0
+number_zero n true = refl
+number_zero n false = refl
+
 module _ (own : ℕ) where
-  -- neither a number nor what is no constant is one
-  plain_fixed : (k : Constant) → is_plain k ≡ true → fixed_by own false k ≡ false
-  plain_fixed (constant.Number r) h = refl
-  plain_fixed constant.Null h = cc
-  plain_fixed (constant.Place n) h = refl
-  plain_fixed (constant.Address n) h = cc
-  plain_fixed constant.Other h = refl
-
-  -- a name is none
-  meaning_fixed : (m : Meaning) → fixed_by own false (entry_constant m) ≡ false
-  meaning_fixed (known.Global n) = refl
-  meaning_fixed (known.Local n) = refl
-  meaning_fixed (known.Function n) = refl
-  meaning_fixed known.Owned = refl
-  meaning_fixed (known.Constant z) = refl
-  meaning_fixed known.TypeName = refl
-
-  known_fixed : (o : Option Entry) → fixed_by own false (known_constant o) ≡ false
-  known_fixed None = refl
-  known_fixed (Some e) = meaning_fixed e.meaning
-
-  -- `&` of a place is one where the place is that of an earlier global
-  address_fixed : (k : Constant) → fixed_by own false (prefix_constant prefix.Address k) ≡ is_before own k
-  address_fixed (constant.Number r) = refl
-  address_fixed constant.Null = refl
-  address_fixed (constant.Place n) = refl
-  address_fixed (constant.Address n) = refl
-  address_fixed constant.Other = refl
-
-  -- a member is none
-  field_fixed : (arrow : Bool) (k : Constant) → fixed_by own false (field_constant arrow k) ≡ false
-  field_fixed true k = refl
-  field_fixed false (constant.Number r) = refl
-  field_fixed false constant.Null = refl
-  field_fixed false (constant.Place n) = refl
-  field_fixed false (constant.Address n) = refl
-  field_fixed false constant.Other = refl
-
-  element_fixed : (n : ℕ) (b : Bool) → fixed_by own false (if b then constant.Place n else constant.Other) ≡ false
-  element_fixed n true = refl
-  element_fixed n false = refl
-
-  -- an element is none
-  index_fixed : (l : Option ℕ) (k i : Constant) → fixed_by own false (index_constant l k i) ≡ false
-  index_fixed l (constant.Number r) i = refl
-  index_fixed l constant.Null i = refl
-  index_fixed l (constant.Place n) i = element_fixed n (is_index l (number_in i))
-  index_fixed l (constant.Address n) i = refl
-  index_fixed l constant.Other i = refl
-
-  no_zero : (n : ℕ) → nat_eq (suc n) 0 ≡ false
-  no_zero n = grind (arith, nat_tests)
-
-  number_zero : (n : ℕ) (u : Bool) → (number_type n u).is_zero ≡ nat_eq n 0
-  number_zero n true = refl
-  number_zero n false = refl
+  fixed_before : (k : Constant) → is_null k ≡ false → fixed_by own false k ≡ is_before own true k
+  fixed_before (constant.Number r) h = refl
+  fixed_before constant.Null h = cc
+  fixed_before (constant.Place n) h = refl
+  fixed_before (constant.Address n) h = refl
+  fixed_before constant.Other h = refl
 
   module _ (c : Context) where
-    fixed_at : (e : Expression) → zero_in (type_of c e) ≡ false → (b : Bool) → fixed_by own false (constant_in c e) ≡ b
-        → fixed_by own (zero_in (type_of c e)) (constant_in c e) ≡ b
-    fixed_at e z b h = ap (λ x. fixed_by own x (constant_in c e)) z ∙ h
-
-    prefix_none : (op : UnaryOp) (inner : Expression) (span : Span) → zero_in (type_of c (unary op inner span)) ≡ false
-    unfolding type_of
-    prefix_none op inner span = unless_zero (breaks_prefix op (type_of c inner)) _ (made_zero (prefix_type op) (prefix_zero op) (type_of c inner))
-
-    other_prefix : (op : UnaryOp) (inner : Expression) (span : Span) → is_address op ≡ false
-        → fixed_by own (zero_in (type_of c (unary op inner span))) (constant_in c (unary op inner span)) ≡ false
-    unfolding constant_in
-    other_prefix op inner span h =
-        fixed_at (unary op inner span) (prefix_none op inner span) false (plain_fixed (prefix_constant op (constant_in c inner)) (prefix_plain op (constant_in c inner) h))
+    fixed_at : (e : Expression) → zero_in (type_of c e) ≡ false → is_null (constant_in c e) ≡ false
+        → fixed_by own (zero_in (type_of c e)) (constant_in c e) ≡ is_constant_place c own true e
+    fixed_at e z h = ap (λ x. fixed_by own x (constant_in c e)) z ∙ fixed_before (constant_in c e) h ∙ sym (place_is own c true e)
 
     call_none : (callee : Identifier) (args : Arguments) (span : Span) → zero_in (type_of c (call callee args span)) ≡ false
     unfolding type_of
@@ -292,32 +392,27 @@ module _ (own : ℕ) where
         (known_and (breaks_call c (types_of c args)) (c.known callee.text) || (known_and (miscounts c (types_of c args)) (c.known callee.text) || not (all_typed (types_of c args))))
         (option_map result_type (c.known callee.text)) (made_zero result_type (λ e. refl) (c.known callee.text))
 
-    field_none : (base : Expression) (name : Identifier) (arrow : Bool) (span : Span) → zero_in (type_of c (field base name arrow span)) ≡ false
-    unfolding type_of
-    field_none base name arrow span =
-        unless_zero (lacks (λ t. is_some (owner arrow t)) (type_of c base))
-        (option_and_then (λ t. option_map (member_type arrow t) (member_of c arrow name.text t)) (type_of c base)) (member_zero c arrow name.text (type_of c base))
-
     -- an expression is a constant pointer where its type and what it is as a constant say so
     pub pointer_is : (e : Expression) → fixed_by own (zero_in (type_of c e)) (constant_in c e) ≡ is_constant_pointer c own e
     unfolding constant_in type_of
     pointer_is (number zero u span) = number_zero zero u
     pointer_is (number (suc n) u span) = number_zero (suc n) u ∙ no_zero n
     pointer_is (null span) = refl
-    pointer_is (named name span) = fixed_at (named name span) (made_zero entry_type (λ e. entry_zero e.meaning e.thing) (c.known name.text)) false (known_fixed (c.known name.text))
-    pointer_is (call callee args span) = call_none callee args span
-    pointer_is (unary prefix.Minus inner span) = other_prefix prefix.Minus inner span refl
-    pointer_is (unary prefix.Not inner span) = other_prefix prefix.Not inner span refl
-    pointer_is (unary prefix.Flip inner span) = other_prefix prefix.Flip inner span refl
-    pointer_is (unary prefix.Address inner span) =
-        fixed_at (unary prefix.Address inner span) (prefix_none prefix.Address inner span) (is_constant_place c own inner)
-        (address_fixed (constant_in c inner) ∙ sym (place_is own c inner))
-    pointer_is (unary prefix.Follow inner span) = other_prefix prefix.Follow inner span refl
+    pointer_is (named name span) =
+        fixed_at (named name span) (made_zero entry_type (λ e. entry_zero e.meaning e.thing) (c.known name.text)) (known_not_null (c.known name.text))
+    pointer_is (call callee args span) = fixed_at (call callee args span) (call_none callee args span) refl
+    pointer_is (unary op inner span) =
+        fixed_at (unary op inner span) (unless_zero (breaks_prefix op (type_of c inner)) _ (made_zero (prefix_type op) (prefix_zero op) (type_of c inner)))
+        (prefix_not_null op (constant_in c inner))
     pointer_is (binary op left right span) =
         fixed_at (binary op left right span) (unless_zero (breaks_binary op (type_of c left) (type_of c right)) _ (both_zero (binary_type op) (binary_zero op) (type_of c left) (type_of c right)))
-        false (plain_fixed (binary_constant op (constant_in c left) (constant_in c right)) (binary_plain op (constant_in c left) (constant_in c right)))
-    pointer_is (field base name arrow span) = fixed_at (field base name arrow span) (field_none base name arrow span) false (field_fixed arrow (constant_in c base))
+        (binary_not_null op (constant_in c left) (constant_in c right))
+    pointer_is (field base name arrow span) =
+        fixed_at (field base name arrow span)
+        (unless_zero (lacks (λ t. is_some (owner arrow t)) (type_of c base))
+        (option_and_then (λ t. option_map (member_type arrow t) (member_of c arrow name.text t)) (type_of c base)) (member_zero c arrow name.text (type_of c base)))
+        (field_not_null arrow (constant_in c base))
     pointer_is (index base at span) =
         fixed_at (index base at span)
-        (unless_zero (breaks_index (type_of c base) (type_of c at)) _ (both_zero (λ a i. element_type a) (λ a b. refl) (type_of c base) (type_of c at))) false
-        (index_fixed (length_at (type_of c base)) (constant_in c base) (constant_in c at))
+        (unless_zero (breaks_index (type_of c base) (type_of c at)) _ (both_zero (λ a i. element_type a) (λ a b. refl) (type_of c base) (type_of c at)))
+        (index_not_null (length_at (type_of c base)) (constant_in c base) (constant_in c at))

@@ -52,7 +52,11 @@ prefix_number prefix.Address constant.Null = refl
 prefix_number prefix.Address (constant.Place n) = refl
 prefix_number prefix.Address (constant.Address n) = refl
 prefix_number prefix.Address constant.Other = refl
-prefix_number prefix.Follow k = refl
+prefix_number prefix.Follow (constant.Number r) = refl
+prefix_number prefix.Follow constant.Null = refl
+prefix_number prefix.Follow (constant.Place n) = refl
+prefix_number prefix.Follow (constant.Address n) = refl
+prefix_number prefix.Follow constant.Other = refl
 
 prefix_worth : (op : UnaryOp) (k : Constant) → is_number (prefix_constant op k) ≡ true → go_on (worth k) (operate_prefix op) ≡ worth (prefix_constant op k)
 prefix_worth prefix.Minus (constant.Number r) h = refl
@@ -75,7 +79,11 @@ prefix_worth prefix.Address constant.Null h = cc
 prefix_worth prefix.Address (constant.Place n) h = cc
 prefix_worth prefix.Address (constant.Address n) h = cc
 prefix_worth prefix.Address constant.Other h = cc
-prefix_worth prefix.Follow k h = cc
+prefix_worth prefix.Follow (constant.Number r) h = cc
+prefix_worth prefix.Follow constant.Null h = cc
+prefix_worth prefix.Follow (constant.Place n) h = cc
+prefix_worth prefix.Follow (constant.Address n) h = cc
+prefix_worth prefix.Follow constant.Other h = cc
 
 -- neither a number beside something, nor something beside a number, is one
 binary_number : (op : BinaryOp) (k l : Constant) → (is_number k && is_number l) ≡ is_number (binary_constant op k l)
@@ -101,7 +109,11 @@ binary_worth op (constant.Address n) l h = cc
 binary_worth op constant.Other l h = cc
 
 field_number : (arrow : Bool) (k : Constant) → false ≡ is_number (field_constant arrow k)
-field_number true k = refl
+field_number true (constant.Number r) = refl
+field_number true constant.Null = refl
+field_number true (constant.Place n) = refl
+field_number true (constant.Address n) = refl
+field_number true constant.Other = refl
 field_number false (constant.Number r) = refl
 field_number false constant.Null = refl
 field_number false (constant.Place n) = refl

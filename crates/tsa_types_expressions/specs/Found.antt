@@ -1,5 +1,5 @@
 -- An expression's type with what it is as a constant, in one pass over the expression; and that this says the same as the rules do.
-use Rattle.std.specs.Prelude.{ℕ, Bool, false, Option, Some, None, Result, Ok, Err, if◌then◌else◌}
+use Rattle.std.specs.Prelude.{ℕ, Bool, true, false, Option, Some, None, Result, Ok, Err, if◌then◌else◌}
 use Rattle.tsa_tree.specs.declared.expr.BinaryOp.{BinaryOp}
 use Rattle.tsa_tree.specs.declared.expr.UnaryOp.{UnaryOp}
 use Rattle.tsa_tree.specs.declared.expr.UnaryOp.TheVariants as prefix
@@ -57,6 +57,7 @@ found_value (Err failure) = None
 abbrev pub prefix_constant : UnaryOp → Constant → Constant
 prefix_constant prefix.Address (constant.Place n) = constant.Address n
 prefix_constant prefix.Address _ = constant.Other
+prefix_constant prefix.Follow (constant.Address n) = constant.Place n
 prefix_constant prefix.Follow _ = constant.Other
 prefix_constant op (constant.Number r) = constant.Number (go_on r (operate_prefix op))
 prefix_constant op _ = constant.Other
@@ -67,6 +68,7 @@ binary_constant op _ _ = constant.Other
 
 abbrev pub field_constant : Bool → Constant → Constant
 field_constant false (constant.Place n) = constant.Place n
+field_constant true (constant.Address n) = constant.Place n
 field_constant _ _ = constant.Other
 
 abbrev pub index_constant : Option ℕ → Constant → Constant → Constant

@@ -55,6 +55,7 @@ fn field_constant(arrow: bool, base: Constant) -> Constant
 {
     match (arrow, base) {
         (false, Constant::Place(number)) => Constant::Place(number),
+        (true, Constant::Address(number)) => Constant::Place(number),
         _ => Constant::Other,
     }
 }

@@ -54,12 +54,13 @@ pub fn worked_prefix(op: UnaryOp, inner: Result<Number, Trap>) -> Result<Number,
     operate_prefix(op, inner?)
 }
 
-/// A prefix operator on a constant: an address of a place, or a number.
+/// A prefix operator on a constant: an address of a place, that place again, or a number.
 fn prefix_constant(op: UnaryOp, inner: Constant) -> Constant
     ensures { result ≡ spec_prefix_constant op inner }
 {
     match (op, inner) {
         (UnaryOp::Address, Constant::Place(number)) => Constant::Address(number),
+        (UnaryOp::Follow, Constant::Address(number)) => Constant::Place(number),
         (UnaryOp::Address | UnaryOp::Follow, _) => Constant::Other,
         (_, Constant::Number(worth)) => Constant::Number(worked_prefix(op, worth)),
         _ => Constant::Other,
