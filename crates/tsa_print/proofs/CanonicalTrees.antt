@@ -187,7 +187,8 @@ module _ (aliases : Aliases) (ts : List Lexeme) where
       )
 
   mutual
-    pub expr : (t : Expression) (d k a : ℕ) → is_sound (words_beside aliases) t ≡ true → k ≤ 10 → Shows ts a (pieces t k) → Expr d k t a (a + length (pieces t k))
+    pub expr : (t : Expression) (d k a : ℕ) → is_sound (words_beside aliases) t ≡ true → k ≤ 10 → Shows ts a (pieces t k)
+        → Expr d k t a (a + length (pieces t k))
     expr (number v u s) d k a ok le h = post_expr k (number v u s) (post_number v u s d a h)
     expr (null s) d k a ok le h = post_expr k (null s) (post_null s d a h)
     expr (named n s) d k a ok le h = post_expr k (named n s) (post_named n s d a ok h)
@@ -249,7 +250,8 @@ module _ (aliases : Aliases) (ts : List Lexeme) where
           ap (λ x. more x (plain_arguments r.0)) e.2 ∙ ap (more (plain t)) r.2,
         )
 
-    pub rest : (xs : Arguments) (d a m : ℕ) (u : Expression) → are_sound (words_beside aliases) xs ≡ true → IsExpression ts aliases all d 0 u a m → Shows ts m (further xs)
+    pub rest : (xs : Arguments) (d a m : ℕ) (u : Expression) → are_sound (words_beside aliases) xs ≡ true → IsExpression ts aliases all d 0 u a m
+        → Shows ts m (further xs)
         → (us : Arguments) × IsSeries ts aliases all d (more u us) a (m + length (further xs)) × (plain_arguments us ≡ plain_arguments xs)
     rest none d a m u ok e h = (none, subst (λ n. IsSeries ts aliases all d (more u none) a n) (omega arith) (of_last e), refl)
     rest (more t xs) d a m u ok e h =

@@ -110,14 +110,16 @@ module _ (aliases : Aliases) where
         joins_loose false (initialiser_pieces (list items span)) (joins_between marks.OpenBrace marks.CloseBrace (initialisers_pieces items) refl refl
         (joins_initialisers items sound plain))
 
-    joins_initialisers : (items : Initialisers) → SoundInitialisers (words_beside aliases) items → ArePlain (in_initialisers items) → Joins true (initialisers_pieces items)
+    joins_initialisers : (items : Initialisers) → SoundInitialisers (words_beside aliases) items → ArePlain (in_initialisers items)
+        → Joins true (initialisers_pieces items)
     joins_initialisers no_more sound plain = joins_none true
     joins_initialisers (one_more first rest) sound plain =
         let parts = plain_parts (in_initialiser first) (in_initialisers rest) plain in
         joins_append true (initialiser_pieces first) (further_pieces rest) refl (joins_initialiser first sound.0 parts.0)
         (joins_further_pieces rest sound.1 parts.1)
 
-    joins_further_pieces : (items : Initialisers) → SoundInitialisers (words_beside aliases) items → ArePlain (in_initialisers items) → Joins true (further_pieces items)
+    joins_further_pieces : (items : Initialisers) → SoundInitialisers (words_beside aliases) items → ArePlain (in_initialisers items)
+        → Joins true (further_pieces items)
     joins_further_pieces no_more sound plain = joins_none true
     joins_further_pieces (one_more first rest) sound plain =
         let parts = plain_parts (in_initialiser first) (in_initialisers rest) plain in
@@ -137,7 +139,8 @@ joins_init aliases (Some (value x)) sound plain = joins_assigned aliases None x 
 joins_init aliases (Some (list items span)) sound plain =
     joins_before true (assigned None) (initialiser_pieces (list items span)) refl refl refl (joins_initialiser aliases (list items span) sound plain)
 
-joins_declaration : (aliases : Aliases) (d : Declaration) → SoundDeclarator (words_beside aliases) d → SoundAttributes (words_beside aliases) d.attrs → SoundInit (words_beside aliases) d.init →
+joins_declaration : (aliases : Aliases) (d : Declaration) → SoundDeclarator (words_beside aliases) d →
+    SoundAttributes (words_beside aliases) d.attrs → SoundInit (words_beside aliases) d.init →
     ArePlain (in_declaration d) → Joins true (declaration_pieces d)
 joins_declaration aliases d declarator attrs init plain =
     let parts = plain_parts (in_optional d.ctype.length) (in_attributes d.attrs ++ in_init d.init) plain in
@@ -150,7 +153,8 @@ joins_declaration aliases d declarator attrs init plain =
     (joins_append true (attributes_pieces d.attrs) (init_pieces d.init) refl (joins_attributes aliases d.attrs attrs later.0)
     (joins_init aliases d.init init later.1))))
 
-pub joins_global : (aliases : Aliases) (d : Declaration) → SoundGlobal (words_beside aliases) d → ArePlain (in_declaration d) → Joins true (declaration_pieces d)
+pub joins_global : (aliases : Aliases) (d : Declaration) → SoundGlobal (words_beside aliases) d → ArePlain (in_declaration d)
+    → Joins true (declaration_pieces d)
 joins_global aliases d sound plain = joins_declaration aliases d sound.0 sound.1 sound.2 plain
 
 local_init_sound : (aliases : Aliases) (init : Option Initialiser) → SoundLocalInit (words_beside aliases) init → SoundInit (words_beside aliases) init
@@ -160,9 +164,10 @@ local_init_sound aliases (Some (list items span)) sound = absurd sound
 
 pub joins_local : (aliases : Aliases) (d : Declaration) → SoundLocal (words_beside aliases) d → ArePlain (in_declaration d) → Joins true (declaration_pieces d)
 joins_local aliases d sound plain =
-    joins_declaration aliases d sound.0 (subst (λ attrs. SoundAttributes (words_beside aliases) attrs) (sym sound.1) tt) (local_init_sound aliases d.init sound.2) plain
+    joins_declaration aliases d sound.0 (subst (SoundAttributes (words_beside aliases)) (sym sound.1) tt) (local_init_sound aliases d.init sound.2) plain
 
-pub joins_members : (aliases : Aliases) (ds : List Declaration) → SoundMembers (words_beside aliases) ds → ArePlain (in_declarations ds) → Joins true (members_pieces ds)
+pub joins_members : (aliases : Aliases) (ds : List Declaration) → SoundMembers (words_beside aliases) ds → ArePlain (in_declarations ds)
+    → Joins true (members_pieces ds)
 joins_members aliases [] sound plain = joins_none true
 joins_members aliases (d ∷ others) sound plain =
     let parts = plain_parts (in_declaration d) (in_declarations others) plain in

@@ -22,7 +22,8 @@ use Rattle.tsa_print.proofs.Joins.{Joins, joins_none, joins_append}
 
 -- Parameters: after one without a name stands a comma or a parenthesis.
 
-joins_named : (aliases : Aliases) (t : DeclaredType) (name : Option Identifier) (qs : List Piece) → SoundType (words_beside aliases) t → SoundName (words_beside aliases) name →
+joins_named : (aliases : Aliases) (t : DeclaredType) (name : Option Identifier) (qs : List Piece) → SoundType (words_beside aliases) t →
+    SoundName (words_beside aliases) name →
     behind_star qs ≡ true → Joins true qs → Joins true (type_pieces t ++ (name_pieces name ++ qs))
 joins_named aliases t None qs sound named may joins = joins_type aliases t qs sound may joins
 joins_named aliases t (Some name) qs sound named may joins =
@@ -71,7 +72,8 @@ joins_value : (aliases : Aliases) (x : Option Expression) → SoundOptional (wor
 joins_value aliases None sound plain = joins_none true
 joins_value aliases (Some x) sound plain = joins_assigned aliases None x refl sound (plain_first x [] plain).0
 
-joins_constant : (aliases : Aliases) (c : EnumConstant) → SoundConstant (words_beside aliases) c → ArePlain (in_optional c.value) → Joins true (constant_pieces c)
+joins_constant : (aliases : Aliases) (c : EnumConstant) → SoundConstant (words_beside aliases) c → ArePlain (in_optional c.value)
+    → Joins true (constant_pieces c)
 joins_constant aliases c sound plain =
     joins_word c.name.text (value_pieces c.value) (word_of_name aliases c.name.text sound.0) (joins_value aliases c.value sound.1 plain)
 

@@ -82,7 +82,8 @@ module _ (aliases : Aliases) (ts : List Lexeme) where
       )
   taken_spelled d k t text success args a b e ok n h = absurd ok
 
-  pub attributes_spelled : (d : ℕ) (xs : List Attribute) (a b : ℕ) → SoundAttributes (words_beside aliases) xs → Run ts a (attributes_pieces xs) b → Attributes d xs a b
+  pub attributes_spelled : (d : ℕ) (xs : List Attribute) (a b : ℕ) → SoundAttributes (words_beside aliases) xs → Run ts a (attributes_pieces xs) b
+      → Attributes d xs a b
   attributes_spelled d [] a b ok h = subst (Attributes d [] a) h ([], of_no_group, refl)
   attributes_spelled d (x ∷ xs) a b ok h =
       let two = run_split ts a b (attribute_pieces x) (attributes_pieces xs) h in

@@ -94,7 +94,8 @@ module _ (aliases : Aliases) (ts : List Lexeme) where
 
   -- a struct without an alias
   structure_spelled : (tag : Identifier) (attrs : List Attribute) (members : List Declaration) (s : Span) (a b : ℕ) → SoundTag (Some tag)
-      → SoundAttributes (words_beside aliases) attrs → SoundMembers (words_beside aliases) members → Run ts a (item_pieces (structure_item (Some tag) None attrs members s)) b
+      → SoundAttributes (words_beside aliases) attrs → SoundMembers (words_beside aliases) members
+      → Run ts a (item_pieces (structure_item (Some tag) None attrs members s)) b
       → ItemRead (structure_item (Some tag) None attrs members s) a b
   structure_spelled tag attrs members s a b tag_ok attrs_ok ok h =
       let last = mark marks.Semicolon ∷ [] in
@@ -151,8 +152,10 @@ module _ (aliases : Aliases) (ts : List Lexeme) where
         two.2.1,
       )
 
-  enumeration_spelled : (tag other : Option Identifier) (values : List EnumConstant) (s : Span) (a b : ℕ) → SoundTag tag → SoundName (words_beside aliases) other
-      → SoundConstants (words_beside aliases) values → Run ts a (item_pieces (enumeration_item tag other values s)) b → ItemRead (enumeration_item tag other values s) a b
+  enumeration_spelled : (tag other : Option Identifier) (values : List EnumConstant) (s : Span) (a b : ℕ) → SoundTag tag
+      → SoundName (words_beside aliases) other
+      → SoundConstants (words_beside aliases) values → Run ts a (item_pieces (enumeration_item tag other values s)) b
+      → ItemRead (enumeration_item tag other values s) a b
   enumeration_spelled tag None values s a b tag_ok name_ok ok h =
       let last = mark marks.Semicolon ∷ [] in
       let body = mark marks.OpenBrace ∷ (constants_pieces values ++ (mark marks.CloseBrace ∷ last)) in
@@ -177,7 +180,8 @@ module _ (aliases : Aliases) (ts : List Lexeme) where
         enumeration_plain t.0 tag (Some (identifier_at ts us.1)) (Some name) us.0 values t.2 (ap Some (named_so ts us.1 name us.4.0)) us.3,
       )
 
-  alias_spelled : (name : Identifier) (t : DeclaredType) (s : Span) (a b : ℕ) → SoundType (words_beside aliases) t → t.length ≡ None → is_name aliases name.text ≡ true
+  alias_spelled : (name : Identifier) (t : DeclaredType) (s : Span) (a b : ℕ) → SoundType (words_beside aliases) t → t.length ≡ None
+      → is_name aliases name.text ≡ true
       → Run ts a (item_pieces (alias_item name t s)) b → ItemRead (alias_item name t s) a b
   alias_spelled name t s a b ok long named h =
       let two = run_split ts (a + 1) b (type_pieces t) (word name.text ∷ (mark marks.Semicolon ∷ [])) h.1 in
@@ -198,7 +202,8 @@ module _ (aliases : Aliases) (ts : List Lexeme) where
       subst (ItemRead (global_item x) a) two.2.1
       (global_item u.1, of_globals no_storage u.3 u.4 (seen aliases ts two.0 (mark marks.Semicolon) two.2.0), ap global_item u.5)
 
-  function_spelled : (x : Head) (a b : ℕ) → SoundHead (words_beside aliases) x → Run ts a (head_pieces x ++ mark marks.Semicolon ∷ []) b → ItemRead (function_item x) a b
+  function_spelled : (x : Head) (a b : ℕ) → SoundHead (words_beside aliases) x → Run ts a (head_pieces x ++ mark marks.Semicolon ∷ []) b
+      → ItemRead (function_item x) a b
   function_spelled x a b ok h =
       let two = run_split ts a b (head_pieces x) (mark marks.Semicolon ∷ []) h in
       let u = head_spelled aliases ts x a two.0 ok two.1 in

@@ -71,7 +71,8 @@ module _ (aliases : Aliases) (ts : List Lexeme) where
       × IsParameter ts aliases u a b
       × (plain_parameter u ≡ record { name = option_map plain_name name; ctype = plain_type t; span = nowhere })
 
-  parameter_spelled : (t : DeclaredType) (name : Option Identifier) (a b : ℕ) → SoundType (words_beside aliases) t → t.length ≡ None → SoundName (words_beside aliases) name
+  parameter_spelled : (t : DeclaredType) (name : Option Identifier) (a b : ℕ) → SoundType (words_beside aliases) t → t.length ≡ None
+      → SoundName (words_beside aliases) name
       → Run ts a (type_pieces t ++ name_pieces name) b → ParameterRead t name a b
   parameter_spelled t None a b ok long named h =
       let two = run_split ts a b (type_pieces t) [] h in

@@ -99,7 +99,8 @@ module _ (aliases : Aliases) (ts : List Lexeme) where
     statement_spelled w (goto name s) closing d a b e ok h = anywhere aliases ts w d (goto name s) a b (goto_step aliases ts name s d a b ok h)
     statement_spelled w (return x s) closing d a b e ok h = anywhere aliases ts w d (return x s) a b (return_step aliases ts x s d a b ok h)
 
-    pub statements_spelled : (xs : Statements) (d a b : ℕ) → SoundStatements (words_beside aliases) xs → Run ts a (statements_pieces xs) b → All aliases ts d xs a b
+    pub statements_spelled : (xs : Statements) (d a b : ℕ) → SoundStatements (words_beside aliases) xs → Run ts a (statements_pieces xs) b
+        → All aliases ts d xs a b
     statements_spelled none d a b ok h = subst (All aliases ts d none a) h (none, no_statement, refl)
     statements_spelled (more x xs) d a b ok h =
         let two = run_split ts a b (statement_pieces marks.CloseBlock x) (statements_pieces xs) h in

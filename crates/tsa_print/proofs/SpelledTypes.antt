@@ -65,7 +65,8 @@ module _ (aliases : Aliases) (ts : List Lexeme) where
     ap alias (named_so ts a name h.0),
   )
 
-  specifier_spelled : (base : Base) (c : Bool) (a b : ℕ) → SoundBase (words_beside aliases) base → Run ts a (const_pieces c ++ base_pieces base) b → Specifier base c a b
+  specifier_spelled : (base : Base) (c : Bool) (a b : ℕ) → SoundBase (words_beside aliases) base → Run ts a (const_pieces c ++ base_pieces base) b
+      → Specifier base c a b
   specifier_spelled base true a b ok h =
       let u = base_spelled base (a + 1) b ok h.1 in (
         record { base = u.0; is_const = true },

@@ -93,7 +93,8 @@ module _ (aliases : Aliases) (ts : List Lexeme) where
         λ ys b is. of_locals_first (of_locals u.3 (of_last_variable u.4)) semicolon is,
       )
 
-  pub simple_step : (x : Simple) (d a b : ℕ) → SoundSimple (words_beside aliases) x → Run ts a (simple_pieces x ++ mark marks.Semicolon ∷ []) b → Alone d (simple x) a b
+  pub simple_step : (x : Simple) (d a b : ℕ) → SoundSimple (words_beside aliases) x → Run ts a (simple_pieces x ++ mark marks.Semicolon ∷ []) b
+      → Alone d (simple x) a b
   simple_step x d a b ok h =
       let two = run_split ts a b (simple_pieces x) (mark marks.Semicolon ∷ []) h in
       let u = simple_spelled aliases ts x d a two.0 ok two.1 in

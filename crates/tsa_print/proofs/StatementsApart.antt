@@ -35,11 +35,13 @@ joins_simple aliases (assignment left o right span) sound plain =
     joins_append true (pieces left 10) (assigned o ∷ pieces right 0) refl (joins_expression aliases left 10 sound.0 parts.0)
     (joins_assigned aliases o right sound.1 sound.2 (plain_first right [] parts.1).0)
 
-joins_optional : (aliases : Aliases) (x : Option Expression) → SoundOptional (words_beside aliases) x → ArePlain (in_optional x) → Joins true (optional_pieces x)
+joins_optional : (aliases : Aliases) (x : Option Expression) → SoundOptional (words_beside aliases) x → ArePlain (in_optional x)
+    → Joins true (optional_pieces x)
 joins_optional aliases None sound plain = joins_none true
 joins_optional aliases (Some x) sound plain = joins_expression aliases x 0 sound (plain_first x [] plain).0
 
-joins_for_init : (aliases : Aliases) (init : ForInit) → SoundForInit (words_beside aliases) init → ArePlain (in_for_init init) → Joins true (for_init_pieces init)
+joins_for_init : (aliases : Aliases) (init : ForInit) → SoundForInit (words_beside aliases) init → ArePlain (in_for_init init)
+    → Joins true (for_init_pieces init)
 joins_for_init aliases no_init sound plain = joins_none true
 joins_for_init aliases (simple_init x) sound plain = joins_simple aliases x sound plain
 joins_for_init aliases (local_init d) sound plain = joins_local aliases d sound plain
@@ -168,7 +170,8 @@ module _ (aliases : Aliases) where
         (joins_word name.text (mark marks.Semicolon ∷ []) (word_of_name aliases name.text sound) semicolon)
     joins_statement closing in_block (return x span) closed sound plain = joins_return aliases x sound plain
 
-    pub joins_statements : (items : Statements) → SoundStatements (words_beside aliases) items → ArePlain (in_statements items) → Joins true (statements_pieces items)
+    pub joins_statements : (items : Statements) → SoundStatements (words_beside aliases) items → ArePlain (in_statements items)
+        → Joins true (statements_pieces items)
     joins_statements none sound plain = joins_none true
     joins_statements (more first rest) sound plain =
         let parts = plain_parts (in_statement first) (in_statements rest) plain in

@@ -38,14 +38,16 @@ joins_typedef None = joins_none true
 joins_typedef (Some name) = joins_word (codes "typedef") [] refl (joins_none true)
 
 -- the tag and the other name of a struct
-tags_parts : (aliases : Aliases) (tag other : Option Identifier) → SoundTags (words_beside aliases) tag other → SoundTag tag × SoundName (words_beside aliases) other
+tags_parts : (aliases : Aliases) (tag other : Option Identifier) → SoundTags (words_beside aliases) tag other
+    → SoundTag tag × SoundName (words_beside aliases) other
 tags_parts aliases None None sound = absurd sound
 tags_parts aliases None (Some name) sound = sound
 tags_parts aliases (Some tag) None sound = sound
 tags_parts aliases (Some tag) (Some name) sound = sound
 
 -- what stands after the closing brace of a struct or an enum
-joins_behind_brace : (aliases : Aliases) (other : Option Identifier) → SoundName (words_beside aliases) other → Joins true (name_pieces other ++ mark marks.Semicolon ∷ [])
+joins_behind_brace : (aliases : Aliases) (other : Option Identifier) → SoundName (words_beside aliases) other
+    → Joins true (name_pieces other ++ mark marks.Semicolon ∷ [])
 joins_behind_brace aliases other sound = joins_ended marks.Semicolon (name_pieces other) refl (joins_name aliases other sound)
 
 joins_structure : (aliases : Aliases) (tag other : Option Identifier) (attrs : List Attribute) (members : List Declaration) (span : Span) →

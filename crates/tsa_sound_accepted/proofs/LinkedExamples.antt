@@ -1,18 +1,17 @@
 -- Two texts as one list of items, worked out.
-use Rattle.std.proofs.Common.{◌≡◌, ◌∙◌, ℕ, true, false, List, [], ◌∷◌, ◌++◌, None, refl, subst}
+use Rattle.std.proofs.Common.{◌≡◌, ℕ, true, false, List, [], ◌∷◌, ◌++◌, None, refl, subst}
 use Rattle.tsa_base.specs.Tokens.{tokens_of}
 use Rattle.tsa_lex.specs.Quick.{quick_tokens_of}
 use Rattle.tsa_lex.proofs.Quick.{tokens_are}
 use Rattle.tsa_tree.specs.types.Texts.{unit_in}
-use Rattle.tsa_tree.specs.types.Units.{refusal_of_types}
+use Rattle.tsa_tree.specs.types.FirstFailing.{first_failing}
 use Rattle.tsa_tree.specs.units.Sound.{SoundItems, SpellableItems}
 use Rattle.tsa_tree.specs.units.Syntax.{UnitItem}
-use Rattle.tsa_tree.proofs.types.UnitNodes.{premises_tell_it}
 use Rattle.tsa_core.specs.Programs.{program_of}
 use Rattle.tsa_core.proofs.BodyExamples.{worked}
 use Rattle.tsa_rules.specs.KeptLaws.{each_alone, pointed}
 use Rattle.tsa_rules.specs.Sheets.{Sheet, program_passes}
-use Rattle.tsa_rules.specs.Statuses.{Free, Exclusive}
+use Rattle.tsa_rules.specs.declared.status.Status.TheVariants.{Free, Exclusive}
 use Rattle.tsa_rules.specs.Texts.{global}
 use Rattle.tsa_rules.specs.Warnings.{HasNoWarnings}
 use Rattle.tsa_rules.proofs.KeptPrograms.{programs_that_pass_have_no_warnings}
@@ -66,13 +65,13 @@ not_in_one_text : SoundItems [] quickly → ⊥
 unfolding worked
 not_in_one_text sound = impossible sound.1.1.0.2.0.0.1
 
-typed : refusal_of_types quickly ≡ None
+typed : first_failing quickly ≡ None
 unfolding worked
 typed = refl
 
 in_profile : IsInProfile quickly (program_of quickly).layout
 unfolding all
-in_profile = record { spellable = spellable; typed = premises_tell_it quickly ∙ typed; placed = refl; profiled = refl }
+in_profile = record { spellable = spellable; typed = typed; placed = refl; profiled = refl }
 
 -- a sheet for each function: two that take and give a lock, and the one that writes under it
 sheets : List Sheet

@@ -40,7 +40,8 @@ module _ (aliases : Aliases) where
       subst (λ ys. are_sound (words_beside aliases) ys ≡ true) parts.4 (rw (first, others) refl)
 
   -- what is excluded is as sound as what stands there
-  pub excluded_sound : (xs ys : Arguments) → without_nots xs ≡ Some ys → SoundTaken (words_beside aliases) expressions None None xs → SoundTaken (words_beside aliases) expressions None None ys
+  pub excluded_sound : (xs ys : Arguments) → without_nots xs ≡ Some ys → SoundTaken (words_beside aliases) expressions None None xs
+      → SoundTaken (words_beside aliases) expressions None None ys
   excluded_sound none ys e ok = absurd ok
   excluded_sound (more x xs) ys e ok =
       let parts = one_more_is (without_not x) (without_nots xs) ys e in

@@ -17,7 +17,8 @@ use Rattle.tsa_tree.proofs.expressions.ReadSound.{expression_sound, series_sound
 use Rattle.tsa_tree.proofs.attributes.Negatives.{of_negative, other_taking, excluded_sound}
 use Rattle.tsa_grammar.specs.Reading.{all}
 
-pub attributes_append : (aliases : Aliases) (xs ys : List Attribute) → SoundAttributes (words_beside aliases) xs → SoundAttributes (words_beside aliases) ys → SoundAttributes (words_beside aliases) (xs ++ ys)
+pub attributes_append : (aliases : Aliases) (xs ys : List Attribute) → SoundAttributes (words_beside aliases) xs
+    → SoundAttributes (words_beside aliases) ys → SoundAttributes (words_beside aliases) (xs ++ ys)
 attributes_append aliases [] ys h k = k
 attributes_append aliases (x ∷ xs) ys h k = (h.0, attributes_append aliases xs ys h.1 k)
 
@@ -26,7 +27,8 @@ module _ (aliases : Aliases) (tokens : List Lexeme) (real : AreTokensOfKinds tok
   several (of_last h) = series_sound aliases tokens real (of_last h)
   several (of_further h e xs) = series_sound aliases tokens real (of_further h e xs)
 
-  several_tried : {d : ℕ} {xs : Arguments} {a b : ℕ} (result : Bool) → IsSeries tokens aliases all d xs a b → SoundTaken (words_beside aliases) a_try None (Some result) xs
+  several_tried : {d : ℕ} {xs : Arguments} {a b : ℕ} (result : Bool) → IsSeries tokens aliases all d xs a b
+      → SoundTaken (words_beside aliases) a_try None (Some result) xs
   several_tried result (of_last h) = series_sound aliases tokens real (of_last h)
   several_tried result (of_further h e xs) = series_sound aliases tokens real (of_further h e xs)
 

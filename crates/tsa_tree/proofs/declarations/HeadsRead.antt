@@ -123,7 +123,8 @@ module _ (aliases : Aliases) (tokens : List Lexeme) (real : AreTokensOfKinds tok
   each_constant_sound (of_constant_and_comma h e) = (constant_sound h, tt)
   each_constant_sound (of_further_constant h e k) = (constant_sound h, each_constant_sound k)
 
-  some_constant : {xs : List EnumConstant} {a b : ℕ} → IsConstants tokens aliases all xs a b → SoundEachConstant (words_beside aliases) xs → SoundConstants (words_beside aliases) xs
+  some_constant : {xs : List EnumConstant} {a b : ℕ} → IsConstants tokens aliases all xs a b → SoundEachConstant (words_beside aliases) xs
+      → SoundConstants (words_beside aliases) xs
   some_constant (of_last_constant h) each = each
   some_constant (of_constant_and_comma h e) each = each
   some_constant (of_further_constant h e k) each = each

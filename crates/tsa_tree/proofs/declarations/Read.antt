@@ -30,7 +30,8 @@ abbrev pub SoundLocals : Words → List Declaration → Type 0
 SoundLocals words [] = Unit {0}
 SoundLocals words (d ∷ others) = SoundLocal words d × SoundLocals words others
 
-members_append : (aliases : Aliases) (xs ys : List Declaration) → SoundMembers (words_beside aliases) xs → SoundMembers (words_beside aliases) ys → SoundMembers (words_beside aliases) (xs ++ ys)
+members_append : (aliases : Aliases) (xs ys : List Declaration) → SoundMembers (words_beside aliases) xs → SoundMembers (words_beside aliases) ys
+    → SoundMembers (words_beside aliases) (xs ++ ys)
 members_append aliases [] ys h k = k
 members_append aliases (x ∷ xs) ys h k = (h.0, members_append aliases xs ys h.1 k)
 
@@ -80,13 +81,15 @@ module _ (aliases : Aliases) (tokens : List Lexeme) (real : AreTokensOfKinds tok
   member_unset : {d : ℕ} {x : Option Initialiser} {a b : ℕ} → IsInit tokens aliases all a_member d x a b → x ≡ None
   member_unset no_init = refl
 
-  global_sound : {d : ℕ} {t : Specified} {c : Declarator} {x : Declaration} {a m b : ℕ} → SoundBase (words_beside aliases) t.base → IsDeclarator tokens aliases c a m
+  global_sound : {d : ℕ} {t : Specified} {c : Declarator} {x : Declaration} {a m b : ℕ} → SoundBase (words_beside aliases) t.base
+      → IsDeclarator tokens aliases c a m
       → IsRest tokens aliases all a_global d t c x m b → SoundGlobal (words_beside aliases) x
   global_sound base h (of_rest l xs i) =
       let told = declarator_sound h in
       (((base, told.0), told.1, length_sound l), attributes_sound aliases tokens real xs, init_sound i)
 
-  member_sound : {d : ℕ} {t : Specified} {c : Declarator} {x : Declaration} {a m b : ℕ} → SoundBase (words_beside aliases) t.base → IsDeclarator tokens aliases c a m
+  member_sound : {d : ℕ} {t : Specified} {c : Declarator} {x : Declaration} {a m b : ℕ} → SoundBase (words_beside aliases) t.base
+      → IsDeclarator tokens aliases c a m
       → IsRest tokens aliases all a_member d t c x m b → SoundMember (words_beside aliases) x
   member_sound base h (of_rest l xs i) =
       let told = declarator_sound h in

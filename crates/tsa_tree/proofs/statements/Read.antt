@@ -25,7 +25,8 @@ spanning_sound : (aliases : Aliases) (x : Simple) (span : Span) → SoundSimple 
 spanning_sound aliases (evaluation x other) span h = h
 spanning_sound aliases (assignment left op right other) span h = h
 
-locals_before_sound : (aliases : Aliases) (xs : List Declaration) (ys : Statements) → SoundLocals (words_beside aliases) xs → SoundStatements (words_beside aliases) ys
+locals_before_sound : (aliases : Aliases) (xs : List Declaration) (ys : Statements) → SoundLocals (words_beside aliases) xs
+    → SoundStatements (words_beside aliases) ys
     → SoundStatements (words_beside aliases) (locals_before xs ys)
 locals_before_sound aliases [] ys h k = k
 locals_before_sound aliases (x ∷ xs) ys h k = (h.0, locals_before_sound aliases xs ys h.1 k)
@@ -56,7 +57,8 @@ module _ (aliases : Aliases) (tokens : List Lexeme) (real : AreTokensOfKinds tok
 
   -- a statement by itself is no local, so that it may stand everywhere
   mutual
-    statement_sound : {d : ℕ} {x : Statement} {a b : ℕ} (in_block : Bool) → IsStatement tokens aliases all d x a b → SoundStatement (words_beside aliases) in_block x
+    statement_sound : {d : ℕ} {x : Statement} {a b : ℕ} (in_block : Bool) → IsStatement tokens aliases all d x a b
+        → SoundStatement (words_beside aliases) in_block x
     statement_sound in_block (of_block o f h c) = statements_sound h
     statement_sound in_block (of_empty e) = tt
     statement_sound in_block (of_simple {x = x} h e) = spanning_sound aliases x _ (simple_sound h)

@@ -198,7 +198,8 @@ sound_is_spellable aliases [] h = tt
 sound_is_spellable aliases (x ∷ xs) h = (item_spellable aliases x h.0, sound_is_spellable (aliases ++ names_of_item x) xs h.1)
 
 -- a unit that the tokens of a text spell can be spelled
-pub unit_spellable : (text : List ℕ) (tokens : List Lexeme) (items : List UnitItem) → tokens_of text ≡ Ok tokens → Spells tokens all items → SpellableItems items
+pub unit_spellable : (text : List ℕ) (tokens : List Lexeme) (items : List UnitItem) → tokens_of text ≡ Ok tokens → Spells tokens all items
+    → SpellableItems items
 unit_spellable text tokens items e h = sound_is_spellable [] items (unit_sound text tokens items e h)
 
 pub well_read_spellable : WellReadIsSpellable
