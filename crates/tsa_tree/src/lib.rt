@@ -26,6 +26,6 @@ pub use laws::{
     rows_of_statements_are_productions, rows_of_units_are_productions, spans_lie_in_text,
     statements_are_as_written, the_first_failing_node_is_told, types_are_as_written,
     units_are_as_written, units_have_an_answer, what_is_refused_is_no_unit,
-    what_is_well_read_is_sound, what_runs_is_as_written,
+    what_is_sound_can_be_spelled, what_is_well_read_is_sound, what_runs_is_as_written,
 };
 pub use parsed::Parsed;

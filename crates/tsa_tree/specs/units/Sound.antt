@@ -35,8 +35,8 @@ abbrev pub SoundItems : Aliases → List UnitItem → Type 0
 SoundItems aliases [] = Unit {0}
 SoundItems aliases (item ∷ items) = SoundItem (words_beside aliases) item × SoundItems (aliases ++ names_of_item item) items
 
--- Of one text that is what is read. Of several texts as one list of items it fails where a thing of one bears the name of a type of
--- another; what follows doesn't, and is all that the laws of a unit ask of its text.
+-- What the laws of a unit ask of its text: the grammar can spell each item, where a word may name both a thing and a type. So the items of
+-- several texts as one list can be spelled, also where a member or a label of one bears the name of a type of another.
 abbrev pub SpellableItem : UnitItem → Type 0
 SpellableItem item = SoundItem all_words item
 
