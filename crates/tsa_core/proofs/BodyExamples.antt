@@ -8,7 +8,7 @@ use Rattle.tsa_place_model.specs.Layouts.{structure_at, size_of}
 use Rattle.tsa_place_model.specs.Places.{places_inside}
 use Rattle.tsa_place_model.specs.Parts.{argument_ways, guard_ways, parts_behind, members_after}
 use Rattle.tsa_place_model.specs.Items.{enumerators_behind}
-use Rattle.tsa_place_model.specs.Units.{placed_behind}
+use Rattle.tsa_place_model.specs.Units.{laid_behind}
 use Rattle.tsa_core.specs.Meanings.{meaning, arguments, call_in}
 use Rattle.tsa_core.specs.Control.{labels, labels_all, cases, cases_all, edges, edges_all}
 use Rattle.tsa_core.specs.Bodies.{known, known_all}
@@ -19,7 +19,7 @@ use Rattle.tsa_core.specs.Examples.{ControlIsAsWritten, PointsAreAsWritten, Uses
 
 -- to unfold this is to unfold all of it
 unfoldable pub worked : Unit {0}
-unfolding computed is_pair quick_longest front_with quick_pieces_at leads structure_at size_of places_inside argument_ways guard_ways parts_behind members_after enumerators_behind placed_behind meaning arguments call_in labels labels_all cases cases_all edges edges_all known known_all access_guards inner_cells argument_cells call_ways declared_functions bodied_function attr_args attrs_of lock_of lock_kinds program_of
+unfolding computed is_pair quick_longest front_with quick_pieces_at leads structure_at size_of places_inside argument_ways guard_ways parts_behind members_after enumerators_behind laid_behind meaning arguments call_in labels labels_all cases cases_all edges edges_all known known_all access_guards inner_cells argument_cells call_ways declared_functions bodied_function attr_args attrs_of lock_of lock_kinds program_of
 worked = tt
 
 pub control_is_as_written : ControlIsAsWritten

@@ -1,6 +1,6 @@
 -- Where a body of a typed unit begins, what is known belongs to the layout of the unit and to the kinds of the body's locals.
 use Rattle.std.proofs.Common.{◌≡◌, ◌∙◌, ℕ, zero, suc, ◌+◌, arith, Bool, true, false, not, ◌&&◌, List, [], ◌∷◌, length, Option, Some, None}
-use Rattle.std.proofs.Common.{is_some, slice_get, Result, Ok, if◌then◌else◌, refl, sym, ap, ap₂, subst}
+use Rattle.std.proofs.Common.{is_some, slice_get, if◌then◌else◌, refl, sym, ap, ap₂, subst}
 use Rattle.std.proofs.lemmas.List.Elements.{All-nil}
 use Rattle.std.specs.Str.{bytes_eq}
 use Rattle.tsa_base.specs.declared.token.Span.{Span}
@@ -30,7 +30,7 @@ use Rattle.tsa_place_model.specs.Calls.{Layout}
 use Rattle.tsa_place_model.specs.Leading.{HasPlaces}
 use Rattle.tsa_place_model.specs.Items.{behind_data}
 use Rattle.tsa_place_model.specs.GlobalPlaces.{no_places}
-use Rattle.tsa_place_model.specs.Units.{data_placed, too_many_at, or_behind, placed_behind}
+use Rattle.tsa_place_model.specs.Units.{data_placed, laid_behind}
 use Rattle.tsa_core.proofs.MappedLists.{map_front}
 use Rattle.tsa_core.specs.KindLaws.{kinds_of}
 use Rattle.tsa_core.specs.Programs.{Bodied, bodied_by, bodied_function, body_in}
@@ -234,20 +234,12 @@ module _ (all : List UnitItem) (here there : Scope) (head : Head) (body : Statem
       }
 
 -- The layout of items has that of the items before.
-no_more : (o : Option Span) (r : Result Layout Span) (m : Layout) → or_behind o r ≡ Ok m → r ≡ Ok m
-no_more None r m e = e
-no_more (Some span) r m e = absurd cc
-
-same_layout : (a b : Layout) → ◌≡◌ {A = Result Layout Span} (Ok a) (Ok b) → a ≡ b
-same_layout a b e = cc
-
-placed_grows : (items : List UnitItem) (there : Scope) (l m : Layout) → placed_behind there l items ≡ Ok m → Grows l m
-unfolding placed_behind
-placed_grows [] there l m e = subst (Grows l) (same_layout l m e) (grows_same l)
-placed_grows (item ∷ rest) there l m e =
-    grows_more l (data_placed there l item) m (item_grows there l item)
-    (placed_grows rest (behind_data there item) (data_placed there l item) m
-    (no_more (too_many_at there l item) (placed_behind (behind_data there item) (data_placed there l item) rest) m e))
+layout_grows : (items : List UnitItem) (there : Scope) (l : Layout) → Grows l (laid_behind there l items)
+unfolding laid_behind
+layout_grows [] there l = grows_same l
+layout_grows (item ∷ rest) there l =
+    grows_more l (data_placed there l item) (laid_behind (behind_data there item) (data_placed there l item) rest) (item_grows there l item)
+    (layout_grows rest (behind_data there item) (data_placed there l item))
 
 first_body : (hit : Bool) (x b : Bodied) (m : Layout) (other : Option Bodied) → BeginsIn x m → (other ≡ Some b → BeginsIn b m) → program.or_body hit x other ≡ Some b → BeginsIn b m
 first_body true x b m other begins later is = subst (λ y. BeginsIn y m) (some_same is) begins
@@ -265,17 +257,17 @@ module _ (all : List UnitItem) (name : List ℕ) (b : Bodied) (m : Layout) where
   by_item here there l (function_item head) other alike laid grows h runs later is = later is
 
   items_begin : (items : List UnitItem) (here there : Scope) (l : Layout) → Alike here there → IsLaidOut here l → first (items_premises here items) ≡ None
-      → items_run all here items ≡ true → placed_behind there l items ≡ Ok m → bodied_function name here items ≡ Some b → BeginsIn b m
-  unfolding items_premises items_run placed_behind bodied_function
+      → items_run all here items ≡ true → laid_behind there l items ≡ m → bodied_function name here items ≡ Some b → BeginsIn b m
+  unfolding items_premises items_run laid_behind bodied_function
   items_begin [] here there l alike laid h runs e is = absurd cc
   items_begin (item ∷ rest) here there l alike laid h runs e is =
       let told = none_of_both (item_premises here item) (items_premises (behind_item here item) rest) h in
       let run = both_true (item_runs all here item) (items_run all (behind_item here item) rest) runs in
-      let placed = no_more (too_many_at there l item) (placed_behind (behind_data there item) (data_placed there l item) rest) m e in
-      let grows = grows_more l (data_placed there l item) m (item_grows there l item) (placed_grows rest (behind_data there item) (data_placed there l item) m placed) in
+      let further = subst (Grows (data_placed there l item)) e (layout_grows rest (behind_data there item) (data_placed there l item)) in
+      let grows = grows_more l (data_placed there l item) m (item_grows there l item) further in
       by_item here there l item (bodied_function name (behind_item here item) rest) alike laid grows told.0 run.0
       (λ later. items_begin rest (behind_item here item) (behind_data there item) (data_placed there l item) (item_alike here there item alike told.0)
-      (item_laid l here there item alike told.0 laid) told.1 run.1 placed later)
+      (item_laid l here there item alike told.0 laid) told.1 run.1 e later)
       is
 
 pub unit_begins : (items : List UnitItem) (name : List ℕ) (b : Bodied) (m : Layout) → Runnable items → HasPlaces items m → bodied_function name (outset items) items ≡ Some b → BeginsIn b m

@@ -45,4 +45,5 @@ pub mod JustLoads
 pub mod UsesOfCells
 pub mod IntRange
 pub mod BodyExamples
+pub mod ManyPlaces
 pub mod EdgeTargets

@@ -17,13 +17,13 @@ use Rattle.tsa_tree.specs.types.Scopes.{Scope, found, further, with_name}
 use Rattle.tsa_tree.specs.types.Units.{outset}
 use Rattle.tsa_tree.specs.units.Syntax.{UnitItem}
 use Rattle.tsa_place_model.specs.Calls.{Layout}
-use Rattle.tsa_place_model.specs.Units.{placed_in}
+use Rattle.tsa_place_model.specs.Units.{laid_in}
 use Rattle.tsa_core.proofs.MappedLists.{map_at}
 use Rattle.tsa_core.specs.Bodies.{Known, knows, known_all, known_in_body, point_of}
 use Rattle.tsa_core.specs.KindLaws.{PointsHaveTheirKinds, signatures, kinds_of, setting}
 use Rattle.tsa_core.specs.Kinds.{Belongs}
 use Rattle.tsa_core.specs.PointKinds.{Signatures, PointHolds}
-use Rattle.tsa_core.specs.Programs.{program_of, layout_or_none, function_in, declared_functions, Bodied, body_in}
+use Rattle.tsa_core.specs.Programs.{program_of, function_in, declared_functions, Bodied, body_in}
 use Rattle.tsa_core.proofs.LaidScopes.{is_written_kind, kind_written}
 use Rattle.tsa_core.proofs.BodyScopes.{with_no_type, kind_kept, BeginsIn, unit_begins}
 use Rattle.tsa_core.proofs.CallsHold.{CallsFit}
@@ -38,7 +38,7 @@ use Rattle.tsa_core.proofs.TypedTerms.{some_same}
 pub program_signatures : (items : List UnitItem) → AreOf (signatures (program_of items)) (declared_functions (outset items) items)
 unfolding program_of
 program_signatures items n d is =
-    let make = function_in (layout_or_none (placed_in items)) items in
+    let make = function_in (laid_in items) items in
     let there = map_at make (declared_functions (outset items) items) n ∙ ap (option_map make) is in
     (ap (option_map (λ f. f.result)) there, ap (option_map (λ f. map (λ t. t.kind) f.params)) there)
 

@@ -6,12 +6,12 @@ use Rattle.tsa_tree.specs.types.Units.{outset}
 use Rattle.tsa_tree.specs.units.Syntax.{UnitItem}
 use Rattle.tsa_place_model.specs.Calls.{Layout}
 use Rattle.tsa_place_model.specs.Leading.{HasPlaces}
-use Rattle.tsa_place_model.specs.Units.{placed_in}
+use Rattle.tsa_place_model.specs.Units.{laid_in}
 use Rattle.tsa_core.proofs.MappedLists.{map_at}
 use Rattle.tsa_core.specs.Bodies.{Body}
 use Rattle.tsa_core.specs.KindLaws.{signatures, param_kinds, kinds_of, function_locals, ProgramsAreWellKinded}
 use Rattle.tsa_core.specs.PointKinds.{Signatures, PointHolds}
-use Rattle.tsa_core.specs.Programs.{Function, program_of, layout_or_none, function_in, Declared, declared_functions, Bodied}
+use Rattle.tsa_core.specs.Programs.{Function, program_of, function_in, Declared, declared_functions, Bodied}
 use Rattle.tsa_core.specs.Programs.{bodied_function, body_in}
 use Rattle.tsa_core.proofs.BodiesAgree.{bodies_agree}
 use Rattle.tsa_core.proofs.PointsHold.{points_have_kinds}
@@ -41,14 +41,14 @@ module _ (sig : Signatures) (l : Layout) where
 -- the layout of a program is that of its unit
 pub program_layout : (items : List UnitItem) (l : Layout) → HasPlaces items l → (program_of items).layout ≡ l
 unfolding program_of
-program_layout items l placed = ap layout_or_none placed
+program_layout items l placed = placed
 
 pub programs_well_kinded : ProgramsAreWellKinded
 unfolding program_of
 programs_well_kinded items l n f body sound runs placed at is =
     let sig = signatures (program_of items) in
     let ds = declared_functions (outset items) items in
-    let make = function_in (layout_or_none (placed_in items)) items in
+    let make = function_in (laid_in items) items in
     let one = mapped sig l make (slice_get ds n) f (sym (map_at make ds n) ∙ at) in
     let d = one.0 in
     let own = bodied_one sig l (bodied_function d.head.name.text (outset items) items) body (ap (λ x. x.body) one.1.1 ∙ is) in

@@ -13,3 +13,4 @@ pub mod KindLaws
 pub mod CaseLaws
 pub mod PointLoads
 pub mod Examples
+pub mod ManyPlaces

@@ -1,6 +1,7 @@
 //! Laws of the core program.
 ghost use Rattle.tsa_core.specs.CaseLaws.{CasesDiffer, ReadCasesStandApart, ReadCasesDiffer};
 ghost use Rattle.tsa_core.specs.Examples.{ControlIsAsWritten, PointsAreAsWritten, UsesAreAsWritten, ProgramsAreAsWritten};
+ghost use Rattle.tsa_core.specs.ManyPlaces.{LargeUnitsHaveTheirPlaces};
 ghost use Rattle.tsa_core.specs.KindLaws.{ScopesBelong, PointsHaveTheirKinds, BodiesAgree, ProgramsAreWellKinded};
 ghost use Rattle.tsa_core.specs.Kinds.{TermsHaveTheirKinds};
 ghost use Rattle.tsa_core.specs.Laws.{PointsAreThoseOfTheText, TermsHaveTheirTypes, EdgesStayInside, EdgesAreFollowed};
@@ -53,6 +54,12 @@ pub fn uses_are_as_written()
 #[tactic(auto, using(crate::proofs::BodyExamples::programs_are_as_written))]
 pub fn programs_are_as_written()
     ensures { ProgramsAreAsWritten }
+{}
+
+/// The program of a unit with more places than it may have, which `check` refuses, has all of them, each with its guards.
+#[tactic(auto, using(crate::proofs::ManyPlaces::large_units_have_their_places))]
+pub fn large_units_have_their_places()
+    ensures { LargeUnitsHaveTheirPlaces }
 {}
 
 /// Every point goes on for each outcome that it may have, but for the values that a switch doesn't name.

@@ -1,10 +1,9 @@
 -- Globals, members and elements of a unit stand as they are declared, and const where they are declared so.
 use Rattle.std.proofs.Common.{◌≡◌, ◌∙◌, ℕ, zero, suc, ◌+◌, ◌*◌, ◌<◌, arith, nat_lt, Bool, true, false, ◌||◌, List, [], ◌∷◌, ◌++◌, length}
-use Rattle.std.proofs.Common.{Option, Some, None, option_map, slice_get, Result, Ok, refl, sym, ap, subst}
+use Rattle.std.proofs.Common.{Option, Some, None, option_map, slice_get, refl, sym, ap, subst}
 use Rattle.std.proofs.lemmas.Bool.Decides.{nat_tests}
 use Rattle.std.proofs.lemmas.List.{drop_at, append-nil}
 use Rattle.std.proofs.lemmas.Option.{slice_get_within}
-use Rattle.tsa_base.specs.declared.token.Span.{Span}
 use Rattle.tsa_base.proofs.Truths.{or_right}
 use Rattle.tsa_tree.specs.declarations.Syntax.{Initialiser}
 use Rattle.tsa_tree.specs.declared.kind.Kind.{Kind}
@@ -24,7 +23,7 @@ use Rattle.tsa_place_model.specs.Standing.{StandsAt, IsBelow, HasSome}
 use Rattle.tsa_place_model.specs.Leading.{HasPlaces}
 use Rattle.tsa_place_model.specs.Items.{known_global, global_part, behind_data}
 use Rattle.tsa_place_model.specs.GlobalPlaces.{values_in, given_by, with_part, no_places}
-use Rattle.tsa_place_model.specs.Units.{data_placed, too_many_at, or_behind, placed_behind}
+use Rattle.tsa_place_model.specs.Units.{data_placed, laid_behind}
 use Rattle.tsa_place_model.proofs.Asking.{same_some, none_is_none, kind_head, element_alone, element_past}
 use Rattle.tsa_place_model.proofs.GlobalsInRow.{IsLaid, unit_laid, front_at, by_last}
 use Rattle.tsa_place_model.proofs.Pieces.{row_at, at_row, thing_at, element_is}
@@ -131,19 +130,10 @@ item_heads here l (global_item d) h = part_heads (known_global here d) (global_p
 item_heads here l (function_item head) h = h
 item_heads here l (body_item head body close) h = h
 
-pub items_heads : (items : List UnitItem) (here : Scope) (l m : Layout) → Heads l → placed_behind here l items ≡ Ok m → Heads m
-unfolding placed_behind
-items_heads [] here l m h e = subst Heads (same l m e) h
-  where
-    same : (a b : Layout) → ◌≡◌ {A = Result Layout Span} (Ok a) (Ok b) → a ≡ b
-    same a b e = cc
-items_heads (item ∷ rest) here l m h e =
-    by (too_many_at here l item) e (λ f. items_heads rest (behind_data here item) (data_placed here l item) m (item_heads here l item h) f)
-  where
-    by : (o : Option Span) → or_behind o (placed_behind (behind_data here item) (data_placed here l item) rest) ≡ Ok m
-        → (placed_behind (behind_data here item) (data_placed here l item) rest ≡ Ok m → Heads m) → Heads m
-    by None e known = known e
-    by (Some span) e known = absurd cc
+items_heads : (items : List UnitItem) (here : Scope) (l : Layout) → Heads l → Heads (laid_behind here l items)
+unfolding laid_behind
+items_heads [] here l h = h
+items_heads (item ∷ rest) here l h = items_heads rest (behind_data here item) (data_placed here l item) (item_heads here l item h)
 
 pub no_heads : Heads no_places
 no_heads = record { head = λ n start part e f some. none n part e; as_many = refl }
@@ -151,6 +141,9 @@ no_heads = record { head = λ n start part e f some. none n part e; as_many = re
     none : {R : Type 0} (n : ℕ) (part : Part) → slice_get [] n ≡ Some part → R
     none zero part e = none_is_none part e
     none (suc n) part e = none_is_none part e
+
+pub unit_heads : (items : List UnitItem) (l : Layout) → HasPlaces items l → Heads l
+unit_heads items l has = subst Heads has (items_heads items (outset items) no_places no_heads)
 
 module _ (l : Layout) (laid : IsLaid l) (heads : Heads l) where
   thing_stands : (holder : Holder) (o : ℕ) (t : Thing l holder o) → StandsAs l o t.part.thing.kind (given_marks t.given)
@@ -280,4 +273,4 @@ module _ (l : Layout) (laid : IsLaid l) (heads : Heads l) where
 
 -- the layout of a unit
 pub stands_declared : (items : List UnitItem) (l : Layout) → HasPlaces items l → StandsDeclared l
-stands_declared items l has = declared l (unit_laid items l has) (items_heads items (outset items) no_places l no_heads has)
+stands_declared items l has = declared l (unit_laid items l has) (unit_heads items l has)

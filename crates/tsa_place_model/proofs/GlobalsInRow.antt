@@ -1,9 +1,8 @@
 -- The globals of a unit stand one behind the other, each whole where it begins, and no place is left out.
 use Rattle.std.proofs.Common.{◌≡◌, ◌∙◌, ℕ, zero, suc, ◌+◌, ◌<◌, ◌≤◌, arith, nat_lt, Bool, true, false, List, [], ◌∷◌, ◌++◌, length, drop}
-use Rattle.std.proofs.Common.{Option, Some, None, slice_get, Result, Ok, refl, sym, ap, subst, append_assoc}
+use Rattle.std.proofs.Common.{Option, Some, slice_get, refl, sym, ap, subst, append_assoc}
 use Rattle.std.proofs.lemmas.Bool.Decides.{nat_tests}
 use Rattle.std.proofs.lemmas.List.{drop_at, append-nil, length-append}
-use Rattle.tsa_base.specs.declared.token.Span.{Span}
 use Rattle.tsa_tree.specs.declarations.Syntax.{Initialiser}
 use Rattle.tsa_tree.specs.types.Scopes.{Scope}
 use Rattle.tsa_tree.specs.types.Units.{outset}
@@ -18,7 +17,7 @@ use Rattle.tsa_place_model.specs.Places.{Given, Values, places_of, thing_places,
 use Rattle.tsa_place_model.specs.Standing.{StandsAt, IsWithin, AllBelow, IsOrdered}
 use Rattle.tsa_place_model.specs.Items.{known_global, global_part, behind_data}
 use Rattle.tsa_place_model.specs.GlobalPlaces.{values_in, given_by, with_structure, with_part, no_places}
-use Rattle.tsa_place_model.specs.Units.{data_placed, too_many_at, or_behind, placed_behind}
+use Rattle.tsa_place_model.specs.Units.{data_placed, laid_behind}
 use Rattle.tsa_place_model.proofs.Asking.{none_is_none}
 use Rattle.tsa_place_model.proofs.Below.{parts_below, part_within}
 use Rattle.tsa_place_model.proofs.LaterStructs.{later_thing, later_size}
@@ -215,19 +214,11 @@ item_laid here l (global_item d) long laid =
 item_laid here l (function_item head) long laid = laid
 item_laid here l (body_item head body close) long laid = laid
 
-items_laid : (items : List UnitItem) (here : Scope) (l m : Layout) → length here.structs ≡ length l.structs → IsLaid l → placed_behind here l items ≡ Ok m → IsLaid m
-unfolding placed_behind
-items_laid [] here l m long laid e = subst IsLaid (same l m e) laid
-  where
-    same : (a b : Layout) → ◌≡◌ {A = Result Layout Span} (Ok a) (Ok b) → a ≡ b
-    same a b e = cc
-items_laid (item ∷ rest) here l m long laid e =
-    by (too_many_at here l item) e (λ h. items_laid rest (behind_data here item) (data_placed here l item) m (same_structs here l item long) (item_laid here l item long laid) h)
-  where
-    by : (o : Option Span) → or_behind o (placed_behind (behind_data here item) (data_placed here l item) rest) ≡ Ok m
-        → (placed_behind (behind_data here item) (data_placed here l item) rest ≡ Ok m → IsLaid m) → IsLaid m
-    by None e known = known e
-    by (Some span) e known = absurd cc
+items_laid : (items : List UnitItem) (here : Scope) (l : Layout) → length here.structs ≡ length l.structs → IsLaid l → IsLaid (laid_behind here l items)
+unfolding laid_behind
+items_laid [] here l long laid = laid
+items_laid (item ∷ rest) here l long laid =
+    items_laid rest (behind_data here item) (data_placed here l item) (same_structs here l item long) (item_laid here l item long laid)
 
 pub nothing_laid : IsLaid no_places
 unfolding IsOrdered
@@ -244,4 +235,4 @@ nothing_laid = record {
 
 -- the places of a unit
 pub unit_laid : (items : List UnitItem) (l : Layout) → HasPlaces items l → IsLaid l
-unit_laid items l e = items_laid items (outset items) no_places l refl nothing_laid e
+unit_laid items l e = subst IsLaid e (items_laid items (outset items) no_places refl nothing_laid)

@@ -14,3 +14,4 @@ pub mod TextsTell
 pub mod StructCounts
 pub mod GlobalsInRow
 pub mod LaterStructs
+pub mod PlacedLaid

@@ -1,6 +1,6 @@
 -- The text of a place of a typed unit tells which place it is.
 use Rattle.std.proofs.Common.{◌≡◌, ℕ, zero, suc, ◌<◌, arith, nat_eq, Bool, true, false, if◌then◌else◌, List, [], ◌∷◌, ◌++◌, length, Option}
-use Rattle.std.proofs.Common.{Some, None, slice_get, Result, Ok, refl, sym, subst, ◌∙◌}
+use Rattle.std.proofs.Common.{Some, None, slice_get, refl, sym, subst, ◌∙◌}
 use Rattle.tsa_base.specs.declared.token.Span.{Span}
 use Rattle.tsa_base.proofs.Truths.{never}
 use Rattle.tsa_tree.specs.attributes.Syntax.{Attribute}
@@ -17,7 +17,7 @@ use Rattle.tsa_place_model.specs.Layouts.{Part, Structures, structure_at}
 use Rattle.tsa_place_model.specs.Calls.{Layout, members_of}
 use Rattle.tsa_place_model.specs.Items.{global_part, behind_data}
 use Rattle.tsa_place_model.specs.GlobalPlaces.{no_places}
-use Rattle.tsa_place_model.specs.Units.{data_placed, too_many_at, or_behind, placed_behind}
+use Rattle.tsa_place_model.specs.Units.{data_placed, laid_behind}
 use Rattle.tsa_place_model.specs.Leading.{PlacesAreLedTo, TextsTell}
 use Rattle.tsa_place_model.proofs.TextsTold.{NamesTell, AllNamesTell, texts_told}
 use Rattle.tsa_place_model.proofs.TextsNamed.{NotNamed, AreApart, ArePlain, apart_behind, plain_behind, names_tell, plain_name, type_short}
@@ -97,22 +97,14 @@ item_told here inner l (body_item head body close) sound typed told =
 abbrev Telling : Layout → Type 0
 Telling l = AreApart l.globals × ArePlain l.globals × AreTelling l.structs
 
-the_layout : (l m : Layout) → ◌≡◌ {A = Result Layout Span} (Ok l) (Ok m) → l ≡ m
-the_layout l m e = cc
-
-within_limit : (o : Option Span) (found : Result Layout Span) (m : Layout) → or_behind o found ≡ Ok m → found ≡ Ok m
-within_limit None found m e = e
-within_limit (Some span) found m e = absurd cc
-
-items_told : (here inner : Scope) (l m : Layout) (items : List UnitItem) → SpellableItems items → first (items_premises here items) ≡ None → IsTold here l
-    → placed_behind inner l items ≡ Ok m → Telling m
-unfolding items_premises placed_behind
-items_told here inner l m [] sound typed told e = subst Telling (the_layout l m e) (told.apart, told.plain, told.structs)
-items_told here inner l m (item ∷ rest) sound typed told e =
+items_told : (here inner : Scope) (l : Layout) (items : List UnitItem) → SpellableItems items → first (items_premises here items) ≡ None → IsTold here l
+    → Telling (laid_behind inner l items)
+unfolding items_premises laid_behind
+items_told here inner l [] sound typed told = (told.apart, told.plain, told.structs)
+items_told here inner l (item ∷ rest) sound typed told =
     let both = none_of_both (item_premises here item) (items_premises (behind_item here item) rest) typed in
-    items_told (behind_item here item) (behind_data inner item) (data_placed inner l item) m rest sound.1 both.1
+    items_told (behind_item here item) (behind_data inner item) (data_placed inner l item) rest sound.1 both.1
     (item_told here inner l item sound.0 both.0 told)
-    (within_limit (too_many_at inner l item) (placed_behind (behind_data inner item) (data_placed inner l item) rest) m e)
 
 none_tell : NamesTell []
 none_tell = names_tell [] tt tt
@@ -146,7 +138,8 @@ a_place (x ∷ xs) (suc n) h = a_place xs n (omega (arith, h))
 pub texts_tell : PlacesAreLedTo → TextsTell
 texts_tell led items l a b spellable typed placed less little same =
     let start : IsTold (outset items) no_places = record { taken = tt; apart = tt; plain = tt; structs = tt } in
-    let names = all_names_tell l (items_told (outset items) (outset items) no_places l items spellable typed start placed) in
+    let told = items_told (outset items) (outset items) no_places items spellable typed start in
+    let names = all_names_tell l (subst Telling placed told) in
     let one = a_place l.places a less in
     let other = a_place l.places b little in
     texts_told l names (λ place p e. led items l place p placed e) a b one.0 other.0 one.1 other.1 same

@@ -9,7 +9,7 @@ use Rattle.tsa_place_model.specs.declared.place.Holder.TheVariants.{Global, Memb
 use Rattle.tsa_place_model.specs.declared.place.Placed.{Placed}
 use Rattle.tsa_place_model.specs.Layouts.{Part, kind_size, size_of, offset}
 use Rattle.tsa_place_model.specs.Calls.{Layout, global_place, member_place, element_place, members_of, part_of, text_of}
-use Rattle.tsa_place_model.specs.Units.{placed_in}
+use Rattle.tsa_place_model.specs.Units.{laid_in, placed_in}
 
 -- where a global, or a member of the object at a place, begins
 abbrev pub first_place : Layout → Holder → Option ℕ
@@ -62,9 +62,13 @@ pub record StandsIn (l : Layout) (place : ℕ) (p : Placed) : Type 0 where
   pub led : leads_to l p.holder p.index ≡ Some place
   pub inside : IsInside p.holder place
 
--- the places of a unit that has no more than it may have
+-- the places of a unit, however many there are
 abbrev pub HasPlaces : List UnitItem → Layout → Type 0
-HasPlaces items l = placed_in items ≡ Ok l
+HasPlaces items l = laid_in items ≡ l
+
+-- a unit that has no more places than it may have has those
+abbrev pub PlacedUnitsAreLaid : Type 0
+PlacedUnitsAreLaid = (items : List UnitItem) (l : Layout) → placed_in items ≡ Ok l → HasPlaces items l
 
 -- what declares a place leads to it
 abbrev pub PlacesAreLedTo : Type 0

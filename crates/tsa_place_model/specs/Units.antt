@@ -19,6 +19,15 @@ abbrev pub too_many_at : Scope → Layout → UnitItem → Option Span
 too_many_at here l (global_item d) = if passes l (global_part here d) then Some d.span else None
 too_many_at here l item = None
 
+-- what is known of places behind items, however many there are
+unfoldable pub laid_behind : Scope → Layout → List UnitItem → Layout
+laid_behind here l [] = l
+laid_behind here l (item ∷ rest) = laid_behind (behind_data here item) (data_placed here l item) rest
+
+-- the places of any unit
+abbrev pub laid_in : List UnitItem → Layout
+laid_in items = laid_behind (outset items) no_places items
+
 -- the places of items behind others, or the first declarator at which there are too many
 abbrev pub or_behind : Option Span → Result Layout Span → Result Layout Span
 or_behind None found = found

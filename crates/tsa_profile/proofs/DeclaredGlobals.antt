@@ -1,8 +1,6 @@
 -- A global that is declared behind all items of a unit holds at the start what its initialiser is worth there.
-use Rattle.std.proofs.Common.{◌≡◌, ◌∙◌, ℕ, suc, Bool, true, false, not, ◌&&◌, List, [], ◌∷◌, ◌++◌, length, Option, Some, None, Ok, is_none}
+use Rattle.std.proofs.Common.{◌≡◌, ◌∙◌, ℕ, suc, Bool, true, false, not, ◌&&◌, List, [], ◌∷◌, ◌++◌, length, Option, Some, None, is_none}
 use Rattle.std.proofs.Common.{slice_get, if◌then◌else◌, refl, sym, ap, ap₂, subst}
-use Rattle.std.specs.declared.result.Result.{Result}
-use Rattle.tsa_base.specs.declared.token.Span.{Span}
 use Rattle.tsa_base.specs.declared.value.Value.{Value}
 use Rattle.tsa_tree.specs.declarations.Syntax.{Declaration, value}
 use Rattle.tsa_tree.specs.declared.kind.Declaring.TheVariants as declaring
@@ -29,7 +27,7 @@ use Rattle.tsa_place_model.specs.Places.{Given, Values, Inside, a_place, kind_pl
 use Rattle.tsa_place_model.specs.Layouts.{size_of}
 use Rattle.tsa_place_model.specs.Items.{known_global, global_part, behind_data}
 use Rattle.tsa_place_model.specs.GlobalPlaces.{cell_value, given_by, values_in, no_places}
-use Rattle.tsa_place_model.specs.Units.{data_placed, too_many_at, or_behind, placed_behind}
+use Rattle.tsa_place_model.specs.Units.{data_placed, laid_behind}
 use Rattle.tsa_core.proofs.KindTests.{both_true, not_false}
 use Rattle.tsa_core.proofs.NoFailure.{keeps_typed, none_of_both, none_of_first}
 use Rattle.tsa_core.proofs.ScopesAlike.{Alike}
@@ -81,22 +79,11 @@ alike_last here there (item ∷ rest) last alike h =
     let both = none_of_both (item_premises here item) (items_premises (behind_item here item) (rest ++ last ∷ [])) h in
     alike_last (behind_item here item) (behind_data there item) rest last (item_alike here there item alike both.0) both.1
 
-passed : (o : Option Span) (found : Result Layout Span) (l : Layout) → or_behind o found ≡ Ok l → found ≡ Ok l
-passed None found l h = h
-passed (Some span) found l h = absurd cc
-
-ok_same : (l m : Layout) → ◌≡◌ {A = Result Layout Span} (Ok l) (Ok m) → l ≡ m
-ok_same l m e = cc
-
-placed_last : (here : Scope) (front : Layout) (items : List UnitItem) (last : UnitItem) (l m : Layout) → placed_behind here front items ≡ Ok l
-    → placed_behind here front (items ++ last ∷ []) ≡ Ok m → data_placed (data_behind here items) l last ≡ m
-unfolding placed_behind
-placed_last here front [] last l m e f =
-    ap (λ k. data_placed here k last) (sym (ok_same front l e)) ∙ ok_same (data_placed here front last) m (passed (too_many_at here front last) (Ok (data_placed here front last)) m f)
-placed_last here front (item ∷ rest) last l m e f =
-    placed_last (behind_data here item) (data_placed here front item) rest last l m
-    (passed (too_many_at here front item) (placed_behind (behind_data here item) (data_placed here front item) rest) l e)
-    (passed (too_many_at here front item) (placed_behind (behind_data here item) (data_placed here front item) (rest ++ last ∷ [])) m f)
+laid_last : (here : Scope) (front : Layout) (items : List UnitItem) (last : UnitItem)
+    → data_placed (data_behind here items) (laid_behind here front items) last ≡ laid_behind here front (items ++ last ∷ [])
+unfolding laid_behind
+laid_last here front [] last = refl
+laid_last here front (item ∷ rest) last = laid_last (behind_data here item) (data_placed here front item) rest last
 
 -- THE FIRST PLACE OF A THING
 
@@ -183,6 +170,10 @@ declared_globals_hold_it items d e l m p x typed given placed further at seen =
     let o = outset items in
     let same = outset_same d items in
     let told = alike_last o o items (global_item d) (alone items) (ap (λ s. first (items_premises s (items ++ global_item d ∷ []))) (sym same) ∙ typed) in
-    let m_is = placed_last o no_places items (global_item d) l m placed (ap (λ s. placed_behind s no_places (items ++ global_item d ∷ [])) (sym same) ∙ further) in
+    let m_is =
+    ap (λ k. data_placed (data_behind o items) k (global_item d)) (sym placed)
+    ∙ laid_last o no_places items (global_item d)
+    ∙ ap (λ s. laid_behind s no_places (items ++ global_item d ∷ [])) (sym same)
+    ∙ further in
     initial_is (behind_items o items) d e given told.1 (data_behind o items) told.0 l p (ap (λ k. slice_get k.places (length l.places)) m_is ∙ at)
     ∙ seen_value _ (cell_value (behind_items o items) l (thing_type (behind_items o items) d.ctype).kind e) x seen

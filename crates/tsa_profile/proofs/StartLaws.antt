@@ -21,7 +21,7 @@ use Rattle.tsa_place_model.specs.Leading.{HasPlaces}
 use Rattle.tsa_place_model.proofs.GlobalsInRow.{nothing_laid}
 use Rattle.tsa_place_model.specs.GlobalPlaces.{no_places}
 use Rattle.tsa_core.proofs.LaidScopes.{Fits, MembersFit}
-use Rattle.tsa_core.specs.Programs.{layout_or_none, program_of}
+use Rattle.tsa_core.specs.Programs.{program_of}
 use Rattle.tsa_path.proofs.StandDeclared.{no_heads}
 use Rattle.tsa_profile.specs.Starts.{is_object_of, has_kind, StartValuesHaveTheirKinds, StartsAreWellTyped}
 use Rattle.tsa_profile_items.specs.Units as profile
@@ -147,7 +147,7 @@ start_values_have_their_kinds items l sound typed has place p at plain =
 -- the layout of the core program is that of the places
 layout_is : (items : List UnitItem) (l : Layout) → HasPlaces items l → (program_of items).layout ≡ l
 unfolding program_of
-layout_is items l has = ap layout_or_none has
+layout_is items l has = has
 
 pub starts_are_well_typed : StartsAreWellTyped
 starts_are_well_typed items l sound typed profiled has place p at plain =

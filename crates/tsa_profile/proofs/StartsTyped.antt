@@ -1,11 +1,10 @@
 -- Behind each item of a typed unit the cells so far hold values of their kinds at the start.
 use Rattle.std.proofs.Common.{◌≡◌, ◌∙◌, ℕ, zero, suc, ◌<◌, arith, nat_eq, Bool, true, false, not, All, IfSome, List, [], ◌∷◌, ◌++◌, length}
-use Rattle.std.proofs.Common.{slice_index_or, Option, Some, None, is_some, option_map, slice_get, Result, Ok, refl, sym, ap, subst}
+use Rattle.std.proofs.Common.{slice_index_or, Option, Some, None, is_some, option_map, slice_get, refl, sym, ap, subst}
 use Rattle.std.proofs.Common.{if◌then◌else◌}
 use Rattle.std.proofs.lemmas.List.Elements.{All-append, All-cons, All-nil}
 use Rattle.std.proofs.lemmas.Map.Entries.{All-lookup}
 use Rattle.std.specs.Str.{bytes_eq}
-use Rattle.tsa_base.specs.declared.token.Span.{Span}
 use Rattle.tsa_base.proofs.Truths.{never}
 use Rattle.tsa_tree.specs.declarations.Syntax.{Declaration, DeclaredType, Initialiser}
 use Rattle.tsa_tree.specs.declared.kind.Declaring.TheVariants as declaring
@@ -39,7 +38,7 @@ use Rattle.tsa_place_model.proofs.Below.{part_within}
 use Rattle.tsa_place_model.proofs.Standing.{earlier_structure}
 use Rattle.tsa_place_model.specs.Items.{known_global, global_part, behind_data}
 use Rattle.tsa_place_model.specs.GlobalPlaces.{values_in, given_by}
-use Rattle.tsa_place_model.specs.Units.{data_placed, too_many_at, or_behind, placed_behind}
+use Rattle.tsa_place_model.specs.Units.{data_placed, laid_behind}
 use Rattle.tsa_place_model.proofs.GlobalsInRow as laid
 use Rattle.tsa_place_model.proofs.GlobalsInRow.{IsLaid, front_at}
 use Rattle.tsa_place_model.proofs.Pieces.{some_at}
@@ -146,19 +145,11 @@ item_extends there l (global_item d) = record {
 item_extends there l (function_item head) = extends_same l
 item_extends there l (body_item head body close) = extends_same l
 
-same_ok : (a b : Layout) → ◌≡◌ {A = Result Layout Span} (Ok a) (Ok b) → a ≡ b
-same_ok a b e = cc
-
-behind_none : {R : Type 0} (o : Option Span) (found : Result Layout Span) (l : Layout) → or_behind o found ≡ Ok l → (found ≡ Ok l → R) → R
-behind_none None found l e known = known e
-behind_none (Some span) found l e known = absurd cc
-
-items_extend : (items : List UnitItem) (there : Scope) (l whole : Layout) → placed_behind there l items ≡ Ok whole → Extends l whole
-unfolding placed_behind
-items_extend [] there l whole e = subst (Extends l) (same_ok l whole e) (extends_same l)
+items_extend : (items : List UnitItem) (there : Scope) (l whole : Layout) → laid_behind there l items ≡ whole → Extends l whole
+unfolding laid_behind
+items_extend [] there l whole e = subst (Extends l) e (extends_same l)
 items_extend (item ∷ rest) there l whole e =
-    behind_none (too_many_at there l item) (placed_behind (behind_data there item) (data_placed there l item) rest) whole e
-    (λ f. extends_more l (data_placed there l item) whole (item_extends there l item) (items_extend rest (behind_data there item) (data_placed there l item) whole f))
+    extends_more l (data_placed there l item) whole (item_extends there l item) (items_extend rest (behind_data there item) (data_placed there l item) whole e)
 
 module _ (free : Placed → Bool) (whole : Layout) where
   -- what is asked of the initialisers of a unit
@@ -350,13 +341,12 @@ module _ (free : Placed → Bool) (whole : Layout) where
     }
 
   pub all_cells : (items : List UnitItem) (here there : Scope) (l : Layout) → State here there l → first (items_premises here items) ≡ None → SpellableItems items
-      → AllowedAll here items → placed_behind there l items ≡ Ok whole → Every (GoodCell free whole.places) whole.places
-  unfolding items_premises placed_behind
-  all_cells [] here there l s h sound allowed e = subst (λ m. Every (GoodCell free m.places) m.places) (same_ok l whole e) s.good
+      → AllowedAll here items → laid_behind there l items ≡ whole → Every (GoodCell free whole.places) whole.places
+  unfolding items_premises laid_behind
+  all_cells [] here there l s h sound allowed e = subst (λ m. Every (GoodCell free m.places) m.places) e s.good
   all_cells (item ∷ rest) here there l s h sound allowed e =
       let both = none_of_both (item_premises here item) (items_premises (behind_item here item) rest) h in
-      behind_none (too_many_at there l item) (placed_behind (behind_data there item) (data_placed there l item) rest) whole e
-      (λ f. all_cells rest (behind_item here item) (behind_data there item) (data_placed there l item)
+      all_cells rest (behind_item here item) (behind_data there item) (data_placed there l item)
       (goes_on here there l s item both.0 sound.0 allowed.0
-      (extends_more l (data_placed there l item) whole (item_extends there l item) (items_extend rest (behind_data there item) (data_placed there l item) whole f)))
-      both.1 sound.1 allowed.1 f)
+      (extends_more l (data_placed there l item) whole (item_extends there l item) (items_extend rest (behind_data there item) (data_placed there l item) whole e)))
+      both.1 sound.1 allowed.1 e

@@ -1,5 +1,5 @@
 -- Parameters and globals behind all items of a unit.
-use Rattle.std.specs.Prelude.{◌≡◌, List, [], ◌∷◌, ◌++◌, length, Some, None, Ok, option_and_then, slice_get}
+use Rattle.std.specs.Prelude.{◌≡◌, List, [], ◌∷◌, ◌++◌, length, Some, None, option_and_then, slice_get}
 use Rattle.tsa_base.specs.declared.value.Value.{Value}
 use Rattle.tsa_tree.specs.declarations.Syntax.{Declaration, value}
 use Rattle.tsa_tree.specs.expressions.Syntax.{Expression}
@@ -8,7 +8,7 @@ use Rattle.tsa_tree.specs.types.Units.{refusal_of_types}
 use Rattle.tsa_tree.specs.units.Syntax.{UnitItem, global_item}
 use Rattle.tsa_place_model.specs.declared.place.Placed.{Placed}
 use Rattle.tsa_place_model.specs.Calls.{Layout}
-use Rattle.tsa_place_model.specs.Units.{placed_in}
+use Rattle.tsa_place_model.specs.Leading.{HasPlaces}
 use Rattle.tsa_core.specs.Programs.{program_with}
 use Rattle.tsa_profile.specs.declared.items_end.Parameter.{Parameter}
 use Rattle.tsa_profile.specs.Arguments.{behind_unit, parameter_type, value_seen, view_behind}
@@ -18,9 +18,9 @@ abbrev pub ParametersAreThoseOfTheCore : Type 0
 ParametersAreThoseOfTheCore = (items : List UnitItem) (l : Layout) (p : Parameter)
     → parameter_type (behind_unit items) p ≡ option_and_then (λ f. slice_get f.params p.number) (slice_get (program_with l items).functions p.function)
 
--- A global that is declared behind all items, where the unit with it is typed and has places, holds this value at the start in the first of
+-- A global that is declared behind all items, where the unit with it is typed, holds this value at the start in the first of
 -- its places.
 abbrev pub DeclaredGlobalsHoldIt : Type 0
 DeclaredGlobalsHoldIt = (items : List UnitItem) (d : Declaration) (e : Expression) (l m : Layout) (p : Placed) (x : Value)
-    → refusal_of_types (items ++ global_item d ∷ []) ≡ None → d.init ≡ Some (value e) → placed_in items ≡ Ok l → placed_in (items ++ global_item d ∷ []) ≡ Ok m
+    → refusal_of_types (items ++ global_item d ∷ []) ≡ None → d.init ≡ Some (value e) → HasPlaces items l → HasPlaces (items ++ global_item d ∷ []) m
     → slice_get m.places (length l.places) ≡ Some p → value_seen (view_behind items l) (thing_type (behind_unit items) d.ctype) e ≡ Some x → p.initial ≡ x

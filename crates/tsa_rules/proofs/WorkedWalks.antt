@@ -2,13 +2,15 @@
 use Rattle.std.proofs.Common.{◌≡◌, ℕ, zero, suc, List, [], ◌∷◌, Contains, Option, Some, slice_get, refl, sym, ◌∙◌, subst, arith}
 use Rattle.std.proofs.lemmas.List.Elements.{Contains-append_right}
 use Rattle.tsa_core.proofs.BodyExamples.{worked}
+use Rattle.tsa_core.specs.ManyPlaces.{large_program}
 use Rattle.tsa_core.specs.Control.{Outcome, Next, Yes, No, edge}
 use Rattle.tsa_rules.specs.Statuses.{Status, Free, Exclusive}
-use Rattle.tsa_rules.specs.Fails.{TS06, TS09}
+use Rattle.tsa_rules.specs.Fails.{TS02, TS06, TS09}
 use Rattle.tsa_rules.specs.Points.{edges_of, function_at}
 use Rattle.tsa_rules.specs.Texts.{global}
 use Rattle.tsa_rules.specs.Walks.{Course, course_of, Edge, entry_edge, edge_from, IsWalk, along, on_a_walk, where_edges_meet}
-use Rattle.tsa_rules.specs.WalkLaws.{branch, loop, BranchesMeet, LoopsComeBack}
+use Rattle.tsa_rules.specs.WalkLaws.{branch, loop, BranchesMeet, LargeUnitsAreJudged, LoopsComeBack}
+use Rattle.tsa_rules.specs.Warnings.{FailsIn, warning}
 use Rattle.tsa_base.proofs.Options.{some_same}
 
 not_free : {A : Type 0} → Exclusive 1 ≡ Free → A
@@ -80,3 +82,18 @@ loops_come_back =
             (record { leads = ends; before = edge_from 1 Next ∷ edge_from 0 Yes ∷ entry_edge ∷ []; is_walk = (comes_back, (calls, (refl, tt))); brings = refl }) refl;
       };
     }
+
+-- the write of the unit with too many places, at the first point
+unlocked_write : FailsIn large_program (warning 0 0 TS02 (global 0))
+unfolding worked
+unlocked_write = record {
+  function = function_at large_program 0;
+  is_there = refl;
+  fails = on_a_walk TS02 entry_edge Free (record { leads = refl; before = []; is_walk = tt; brings = refl }) refl;
+}
+
+pub large_units_are_judged : LargeUnitsAreJudged
+large_units_are_judged = record {
+  unlocked_write = unlocked_write;
+  not_quiet = λ quiet. quiet (warning 0 0 TS02 (global 0)) unlocked_write;
+}

@@ -17,7 +17,7 @@ ghost use Rattle.tsa_rules.specs.StatusLaws.{StatusesStayPossible, OneStatusWher
 ghost use Rattle.tsa_rules.specs.TestLaws.{TestsOfCallsTellTheAnswer, TestsOfVariablesTellTheAnswer, OtherTestsDecideNothing};
 ghost use Rattle.tsa_rules.specs.TestLaws.{UntriedLocksAreFree, TryVariablesAreNumbered};
 ghost use Rattle.tsa_rules.specs.TryVariables.{TryVariablesAreToldByDeclarations};
-ghost use Rattle.tsa_rules.specs.WalkLaws.{BranchesMeet, LoopsComeBack};
+ghost use Rattle.tsa_rules.specs.WalkLaws.{BranchesMeet, LargeUnitsAreJudged, LoopsComeBack};
 
 /// Statuses that are told apart are different, and the others are equal.
 pub fn same_statuses_are_equal()
@@ -208,6 +208,12 @@ pub fn declarations_find_free_paths()
 pub fn walks_bring_statuses()
     ensures branches { BranchesMeet }
     ensures loops { LoopsComeBack }
+{}
+
+/// A unit with more places than it may have isn't free of warnings for that: what it writes without a lock breaks a rule.
+#[tactic(auto, using(crate::proofs::WorkedWalks::large_units_are_judged))]
+pub fn large_units_are_judged()
+    ensures { LargeUnitsAreJudged }
 {}
 
 /// Functions that are as they should be have sheets that pass.

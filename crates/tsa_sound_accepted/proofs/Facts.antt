@@ -1,10 +1,12 @@
 -- A unit in the profile of which no rule fails meets all that the laws of turns ask of a program.
-use Rattle.std.proofs.Common.{◌≡◌, ℕ, List, sym, subst}
+use Rattle.std.proofs.Common.{◌≡◌, ℕ, List, refl, sym, subst}
 use Rattle.std.specs.Prelude.{IsSome}
 use Rattle.tsa_tree.specs.units.Syntax.{UnitItem}
 use Rattle.tsa_place_model.specs.Calls.{Layout}
+use Rattle.tsa_place_model.specs.Units.{laid_in}
 use Rattle.tsa_core.specs.Programs.{Program, program_of}
 use Rattle.tsa_core.proofs.ProgramKinds.{program_layout}
+use Rattle.tsa_path.specs.Laws.{IsSmall}
 use Rattle.tsa_rules.specs.Points.{function_at}
 use Rattle.tsa_rules.specs.Warnings.{HasNoWarnings}
 use Rattle.tsa_sound.specs.Facts.{FunctionFacts, PointFacts, ProgramFacts}
@@ -18,7 +20,6 @@ use Rattle.tsa_sound_accepted.specs.kept.Visits.{rows_of}
 use Rattle.tsa_sound_accepted.proofs.kept.Functions.{locals_are_set_apart, units_keep_their_rows}
 use Rattle.tsa_sound_accepted.proofs.called.CallsMeet.{calls_have_their_facts}
 use Rattle.tsa_sound_accepted.proofs.entered.FunctionBodies.{bodies_may_be_entered}
-use Rattle.tsa_sound_accepted.proofs.entered.SmallLayouts.{layouts_are_small}
 
 -- the paths of each function, and the rows that are read off its walks
 abbrev pub program_rows : Program → ProgramRows
@@ -66,7 +67,7 @@ module _ (items : List UnitItem) (l : Layout) (u : Program) (is : u ≡ program_
 
   pub program_facts : ProgramFacts u (program_rows u)
   program_facts = record {
-    laid = subst (λ v. LaidOut v.layout) (sym is) (subst LaidOut (sym (program_layout items l ready.placed)) (places_are_laid_out items l ready.placed));
-    small = layouts_are_small items l u ready.placed is;
+    laid = subst (λ v. LaidOut v.layout) (sym is) (subst LaidOut (sym (program_layout items (laid_in items) refl)) (places_are_laid_out items));
+    small = subst (λ v. IsSmall v.layout) (sym is) (subst IsSmall (sym (program_layout items l ready.placed)) ready.small);
     functions = λ n bodied. function_facts n bodied;
   }

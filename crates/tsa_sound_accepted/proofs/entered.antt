@@ -1,4 +1,3 @@
-pub mod SmallLayouts
 pub mod ArgumentsLead
 pub mod CallsLead
 pub mod Functions

@@ -1,7 +1,7 @@
 //! The laws of bodies and of the arguments of calls.
 ghost use Rattle.tsa_sound_accepted.specs.entered.Laws.{ArgumentsLead, BodiesMayBeEntered, LayoutsAreSmall};
 
-/// A unit has at most 65,536 places, so that their number is an `int`.
+/// A unit that has no more places than it may have has at most 65,536, so that their number is an `int`.
 pub fn layouts_are_small()
     ensures { LayoutsAreSmall }
 {}

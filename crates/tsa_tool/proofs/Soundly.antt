@@ -11,7 +11,9 @@ use Rattle.tsa_profile_accesses.specs.declared.premise.ProfileCode.{ProfileCode}
 use Rattle.tsa_profile_accesses.specs.declared.premise.ProfileCode.TheVariants.{PF1, PF2, PF3, PF4, PF5, PF6, PF7, PF8, PF9, LM4, LM7}
 use Rattle.tsa_sound_accepted.specs.terms.Units.{IsInProfile}
 use Rattle.tsa_tool_held.specs.WarningLines.{Warned}
+use Rattle.tsa_place_model.proofs.PlacedLaid.{placed_units_are_laid}
 use Rattle.tsa_sound_accepted.proofs.AcceptedUnits.{units_without_warnings_are_sound}
+use Rattle.tsa_sound_accepted.proofs.SmallLayouts.{layouts_are_small}
 use Rattle.tsa_tool.specs.Checks.{fit_in}
 use Rattle.tsa_tool.specs.Reports.{IsCheckOf, IsReport, IsReportBy, OfUnit, Report, accepted, profile_status, refused_report, status_number}
 use Rattle.tsa_tool.specs.Reports.{syntax_status, warned_report}
@@ -32,7 +34,8 @@ in_profile : (text : List ℕ) (items : List UnitItem) (fit : IsFit text items) 
 in_profile text items fit = record {
   spellable = unit_spellable text fit.tokens items fit.lexed (unit_is_spelled fit.tokens items fit.parsed);
   typed = fit.typed;
-  placed = fit.placed;
+  placed = placed_units_are_laid items fit.layout fit.placed;
+  small = layouts_are_small items fit.layout fit.placed;
   profiled = fit.profiled;
 }
 

@@ -9,12 +9,12 @@ use Rattle.tsa_tree.specs.types.DeclaredTypes.{thing_type}
 use Rattle.tsa_tree.specs.types.Units.{outset}
 use Rattle.tsa_tree.specs.units.Syntax.{UnitItem}
 use Rattle.tsa_place_model.specs.Ways.{Way}
-use Rattle.tsa_place_model.specs.Units.{placed_in}
+use Rattle.tsa_place_model.specs.Units.{laid_in}
 use Rattle.tsa_core.specs.Control as control
 use Rattle.tsa_core.specs.Control.{edge}
 use Rattle.tsa_core.specs.Laws.{IsInside}
 use Rattle.tsa_core.specs.Programs.{Bodied, bodied_function, Declared, declared_functions, Function, function_in, function_of}
-use Rattle.tsa_core.specs.Programs.{layout_or_none, Program, program_of}
+use Rattle.tsa_core.specs.Programs.{Program, program_of}
 use Rattle.tsa_core.proofs.EdgesInside.{edges_stay_inside}
 use Rattle.tsa_core.proofs.TextPoints.{points_are_those}
 use Rattle.tsa_rules.specs.declared.rule.Rule.{Rule}
@@ -38,7 +38,7 @@ module _ (u : Program) (f : Function) (some : 0 < length (points_of f)) (inside 
 
 -- the functions of a unit, by their declarations and bodies
 abbrev of_unit : List UnitItem → Declared → Option Bodied → Function
-of_unit items d b = function_of (layout_or_none (placed_in items)) d b
+of_unit items d b = function_of (laid_in items) d b
 
 -- a function without a body does nothing at which a rule could fail
 nothing_fails : (u : Program) (items : List UnitItem) (d : Declared) (c : Way) (s : Status) (rule : Rule) → fails rule u (of_unit items d None) 0 c s ≡ false
@@ -85,15 +85,15 @@ module _ (u : Program) (items : List UnitItem) (d : Declared) (p : ℕ) (c : Way
           (edges_stay_inside b.here (thing_type b.here b.head.result).kind b.body)
 
 -- each function of a program is by its declaration, and by its body where it has one
-function_by : (u : Program) (items : List UnitItem) (f : Function) (p : ℕ) (c : Way) (rule : Rule) (o : Option Declared) → option_map (function_in (layout_or_none (placed_in items)) items) o ≡ Some f → Fails u f p c rule
+function_by : (u : Program) (items : List UnitItem) (f : Function) (p : ℕ) (c : Way) (rule : Rule) (o : Option Declared) → option_map (function_in (laid_in items) items) o ≡ Some f → Fails u f p c rule
     → p < length (points_of f)
 function_by u items f p c rule None is h = absurd cc
 function_by u items f p c rule (Some d) is h =
-    let same : function_in (layout_or_none (placed_in items)) items d ≡ f = some_same is in
+    let same : function_in (laid_in items) items d ≡ f = some_same is in
     subst (λ g. p < length (points_of g)) same (by_body u items d p c rule (bodied_function d.head.name.text (outset items) items) (subst (λ g. Fails u g p c rule) (sym same) h))
 
 pub rules_fail_at_points_of_bodies : RulesFailAtPointsOfBodies
 unfolding program_of
 rules_fail_at_points_of_bodies items n f p c rule there h =
     let declared = declared_functions (outset items) items in
-    function_by (program_of items) items f p c rule (slice_get declared n) (sym (slice_get-map (function_in (layout_or_none (placed_in items)) items) declared n) ∙ there) h
+    function_by (program_of items) items f p c rule (slice_get declared n) (sym (slice_get-map (function_in (laid_in items) items) declared n) ∙ there) h

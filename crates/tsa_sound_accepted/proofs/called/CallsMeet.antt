@@ -15,7 +15,7 @@ use Rattle.tsa_tree.specs.types.Units.{outset, refusal_of_types}
 use Rattle.tsa_tree.specs.units.Syntax.{UnitItem}
 use Rattle.tsa_tree.proofs.types.UnitNodes.{premises_tell_it}
 use Rattle.tsa_tree.specs.types.Lookups.{params_in}
-use Rattle.tsa_place_model.specs.Units.{placed_in}
+use Rattle.tsa_place_model.specs.Units.{laid_in}
 use Rattle.tsa_place_model.specs.LockPaths.{stable_in}
 use Rattle.tsa_core.specs.Bodies.{Known, declare, knows, known_all, known_in_body, point_by, point_of}
 use Rattle.tsa_place_model.specs.Calls.{Layout}
@@ -24,7 +24,7 @@ use Rattle.tsa_core.specs.KindLaws.{setting, signatures}
 use Rattle.tsa_core.specs.Laws.{ActsBelow, KnowsBelow, PointBelow}
 use Rattle.tsa_core.specs.Meanings.{Call}
 use Rattle.tsa_core.specs.Programs.{Bodied, Declared, Function, Program, bodied_function, body_in, declared_functions, function_in}
-use Rattle.tsa_core.specs.Programs.{function_of, layout_or_none, program_of}
+use Rattle.tsa_core.specs.Programs.{function_of, program_of}
 use Rattle.tsa_core.specs.Terms.{Term}
 use Rattle.tsa_core.specs.Uses.{argument_ways, uses_by, uses_of}
 use Rattle.tsa_core.proofs.Beginnings.{bodies_begin_below}
@@ -107,7 +107,7 @@ module _ (items : List UnitItem) (l : Layout) (in_profile : IsInProfile items l)
 
     layout_is : u.layout ≡ l
     unfolding program_of
-    layout_is = ap layout_or_none in_profile.placed
+    layout_is = in_profile.placed
 
     j : Judged items b
     j = unit_judged items in_profile.typed in_profile.profiled d.head.name.text b bodied
@@ -318,8 +318,8 @@ module _ (items : List UnitItem) (l : Layout) (in_profile : IsInProfile items l)
   functions_are : slice_get (program_of items).functions n ≡ option_map (function_in l items) (slice_get (declared_functions (outset items) items) n)
   unfolding program_of
   functions_are =
-      map_at (function_in (layout_or_none (placed_in items)) items) (declared_functions (outset items) items) n
-      ∙ ap (λ m. option_map (function_in (layout_or_none m) items) (slice_get (declared_functions (outset items) items) n)) in_profile.placed
+      map_at (function_in (laid_in items) items) (declared_functions (outset items) items) n
+      ∙ ap (λ m. option_map (function_in m items) (slice_get (declared_functions (outset items) items) n)) in_profile.placed
 
   by_body : (d : Declared) → slice_get (declared_functions (outset items) items) n ≡ Some d → (o : Option Bodied)
       → bodied_function d.head.name.text (outset items) items ≡ o

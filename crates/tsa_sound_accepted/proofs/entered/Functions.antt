@@ -11,13 +11,13 @@ use Rattle.tsa_tree.proofs.types.UnitNodes.{premises_tell_it}
 use Rattle.tsa_core.specs.Bodies.{Known, known_all, known_in_body, knows}
 use Rattle.tsa_place_model.specs.Calls.{Layout}
 use Rattle.tsa_core.specs.Programs.{Bodied, Declared, Function, Program, bodied_function, declared_functions, function_in, function_of}
-use Rattle.tsa_core.specs.Programs.{layout_or_none, program_of}
+use Rattle.tsa_core.specs.Programs.{program_of}
 use Rattle.tsa_core.proofs.BodyScopes.{BeginsIn, unit_begins}
 use Rattle.tsa_core.proofs.FactsKnown.{FactsAt, all_facts, each_both}
 use Rattle.tsa_core.proofs.MappedLists.{map_at}
 use Rattle.tsa_core.proofs.ScopesBelong.{Each}
 use Rattle.tsa_core.proofs.SignaturesFit.{SpellableBody, body_spellable}
-use Rattle.tsa_place_model.specs.Units.{placed_in}
+use Rattle.tsa_place_model.specs.Units.{laid_in}
 use Rattle.tsa_profile.proofs.UnitsRun.{profiles_are_runnable}
 use Rattle.tsa_rules.specs.Points.{function_at, or_no_function}
 use Rattle.tsa_sound_accepted.specs.terms.Units.{IsInProfile}
@@ -36,8 +36,8 @@ module _ (items : List UnitItem) (l : Layout) (in_profile : IsInProfile items l)
   unfolding program_of
   functions_are =
       ap (λ v. slice_get v.functions n) same
-      ∙ map_at (function_in (layout_or_none (placed_in items)) items) (declared_functions (outset items) items) n
-      ∙ ap (λ m. option_map (function_in (layout_or_none m) items) (slice_get (declared_functions (outset items) items) n)) in_profile.placed
+      ∙ map_at (function_in (laid_in items) items) (declared_functions (outset items) items) n
+      ∙ ap (λ m. option_map (function_in m items) (slice_get (declared_functions (outset items) items) n)) in_profile.placed
 
   by_body : (d : Declared) → slice_get (declared_functions (outset items) items) n ≡ Some d → (o : Option Bodied)
       → bodied_function d.head.name.text (outset items) items ≡ o

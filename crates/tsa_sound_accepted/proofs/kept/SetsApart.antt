@@ -33,6 +33,7 @@ use Rattle.tsa_rules.proofs.KeptTries.{try_variables_are_told_by_declarations}
 use Rattle.tsa_profile.specs.Units.{refusal_of_profile}
 use Rattle.tsa_profile.specs.Paths.{paths_of}
 use Rattle.tsa_sound.specs.Facts.{IsUnmentioned, set_by}
+use Rattle.tsa_sound.specs.LaidOut.{LaidOut}
 use Rattle.tsa_sound_accepted.proofs.laid.Laying.{places_are_laid_out}
 use Rattle.tsa_sound_accepted.specs.kept.Laws.{SetsApart}
 use Rattle.tsa_sound_accepted.proofs.kept.SetLocals.{at_index, set_changes}
@@ -139,7 +140,7 @@ module _ (items : List UnitItem) (l : Layout) (typed : first_failing items ≡ N
 
     assigned : (p m : ℕ) (o : Option BinaryOp) (kind : Kind) (x : Term) (c : Way) → (point_at f p).action ≡ set_local m o kind x → Contains (paths_of u f) c
         → mentions m c ≡ false
-    assigned p m o kind x c e among = unstable_unmentioned u l (places_are_laid_out items l placed) d b m c (unstable p m o kind x e) among
+    assigned p m o kind x c e among = unstable_unmentioned u l (subst LaidOut placed (places_are_laid_out items)) d b m c (unstable p m o kind x e) among
 
     -- a point by what is known there
     record At (p : ℕ) (y : Point) : Type 0 where
@@ -194,7 +195,7 @@ module _ (items : List UnitItem) (l : Layout) (typed : first_failing items ≡ N
     unmentioned_by p m None e g = absurd (idle_sets_none m g)
     unmentioned_by p m (Some y) e (by_assignment o kind x g) =
         attrs_unmentioned (λ k. stable_in (body_in b).stable k ≡ true) m f.attrs (λ s. clash (stable_in (body_in b).stable m) s (unstable p m o kind x (ap (λ z. (or_idle z).action) e ∙ g)))
-        (own_stay u l (places_are_laid_out items l placed) d b)
+        (own_stay u l (subst LaidOut placed (places_are_laid_out items)) d b)
     unmentioned_by p m (Some y) e (by_declaration kind x c g) =
         attrs_unmentioned IsParameter m f.attrs (no_parameter p m y e (ap local_begun g))
         (attrs_fine IsParameter (stable_in (body_in b).stable) (inside d.here d.head d.with_body) (λ name z k known means s. names_parameters items n d at name z k known means) d.head.attrs)

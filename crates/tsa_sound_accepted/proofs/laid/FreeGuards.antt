@@ -1,8 +1,7 @@
 -- No guard that a unit declares mentions a local.
 use Rattle.std.proofs.Common.{◌≡◌, ℕ, zero, suc, nat_eq, Bool, true, false, if◌then◌else◌, List, [], ◌∷◌, ◌++◌, length, All, Option, Some}
-use Rattle.std.proofs.Common.{None, slice_get, Result, Ok, sym, subst, true≢false}
+use Rattle.std.proofs.Common.{None, slice_get, sym, subst, true≢false}
 use Rattle.std.proofs.lemmas.List.Elements.{All-append, All-cons, All-nil}
-use Rattle.tsa_base.specs.declared.token.Span.{Span}
 use Rattle.tsa_tree.specs.attributes.Syntax.{Attribute}
 use Rattle.tsa_tree.specs.declarations.Syntax.{Declaration, Initialiser}
 use Rattle.tsa_tree.specs.expressions.Syntax.{Arguments, none, more}
@@ -18,7 +17,7 @@ use Rattle.tsa_place_model.specs.GlobalPlaces.{no_places, with_part}
 use Rattle.tsa_place_model.specs.Items.{behind_data, global_part, known_global}
 use Rattle.tsa_place_model.specs.Layouts.{Part, structure_at}
 use Rattle.tsa_place_model.specs.Parts.{argument_ways, guard_ways, is_guard, member_behind, no_stable, part_in, parts_behind, structure_in}
-use Rattle.tsa_place_model.specs.Units.{data_placed, or_behind, placed_behind, too_many_at}
+use Rattle.tsa_place_model.specs.Units.{data_placed, laid_behind}
 use Rattle.tsa_place_model.proofs.GlobalsInRow.{by_last}
 use Rattle.tsa_sound.specs.LaidOut.{AreLocalFree, IsLocalFree, IsLocalFreeRoot}
 use Rattle.tsa_sound_accepted.proofs.laid.Mentions.{AreFine, IsFineIfAny, IsFineRoot, way_fine}
@@ -101,19 +100,10 @@ item_free here l (global_item d) h = global_free (known_global here d) (global_p
 item_free here l (function_item head) h = h
 item_free here l (body_item head body close) h = h
 
-pub items_free : (items : List UnitItem) (here : Scope) (l m : Layout) → AllFree l → placed_behind here l items ≡ Ok m → AllFree m
-unfolding placed_behind
-items_free [] here l m h e = subst AllFree (same l m e) h
-  where
-    same : (a b : Layout) → ◌≡◌ {A = Result Layout Span} (Ok a) (Ok b) → a ≡ b
-    same a b e = cc
-items_free (item ∷ rest) here l m h e =
-    by (too_many_at here l item) e (λ f. items_free rest (behind_data here item) (data_placed here l item) m (item_free here l item h) f)
-  where
-    by : (o : Option Span) → or_behind o (placed_behind (behind_data here item) (data_placed here l item) rest) ≡ Ok m
-        → (placed_behind (behind_data here item) (data_placed here l item) rest ≡ Ok m → AllFree m) → AllFree m
-    by None e known = known e
-    by (Some span) e known = absurd cc
+pub items_free : (items : List UnitItem) (here : Scope) (l : Layout) → AllFree l → AllFree (laid_behind here l items)
+unfolding laid_behind
+items_free [] here l h = h
+items_free (item ∷ rest) here l h = items_free rest (behind_data here item) (data_placed here l item) (item_free here l item h)
 
 pub nothing_free : AllFree no_places
 unfolding structure_at

@@ -1,4 +1,4 @@
--- The places of a unit are laid out as it declares them.
+-- The places of any unit are laid out as it declares them.
 use Rattle.std.proofs.Common.{◌≡◌, ◌∙◌, ℕ, zero, suc, ◌<◌, arith, Bool, true, false, ◌||◌, List, [], ◌∷◌, ◌++◌, Option, Some, None}
 use Rattle.std.proofs.Common.{option_and_then, option_map, slice_get, refl, sym, ap, subst}
 use Rattle.tsa_tree.specs.declared.kind.Kind.{Kind}
@@ -12,6 +12,7 @@ use Rattle.tsa_place_model.specs.declared.place.Holder.{Holder}
 use Rattle.tsa_place_model.specs.declared.place.Holder.TheVariants.{Global, Member}
 use Rattle.tsa_place_model.specs.Layouts.{Part, kind_size, size_of, structure_at}
 use Rattle.tsa_place_model.specs.Leading.{HasPlaces, leads_to}
+use Rattle.tsa_place_model.specs.Units.{laid_in}
 use Rattle.tsa_place_model.specs.declared.place.Placed.{Placed}
 use Rattle.tsa_place_model.specs.Places.{has_some}
 use Rattle.tsa_place_model.proofs.Asking.{none_is_none, same_some}
@@ -20,7 +21,7 @@ use Rattle.tsa_place_model.proofs.Pieces.{at_row, element_is, row_at}
 use Rattle.tsa_place_model.proofs.Rows.{PieceAt, Row, Thing}
 use Rattle.tsa_place_model.proofs.Leading.{what_is_led_to_bears}
 use Rattle.tsa_path.proofs.StandDeclared.{Heads, Marks, StandsAs, element_marked, global_marked, inner_marks, marks, member_marked}
-use Rattle.tsa_path.proofs.StandDeclared.{no_heads, part_marks, items_heads}
+use Rattle.tsa_path.proofs.StandDeclared.{part_marks, unit_heads}
 use Rattle.tsa_sound.specs.LaidOut as laid
 use Rattle.tsa_sound.specs.LaidOut.{LaidOut}
 use Rattle.tsa_sound_accepted.specs.laid.Laws.{PlacesAreLaidOut}
@@ -123,10 +124,10 @@ module _ (items : List UnitItem) (l : Layout) (has : HasPlaces items l) where
   whole = unit_laid items l has
 
   heads : Heads l
-  heads = items_heads items (outset items) no_places l no_heads has
+  heads = unit_heads items l has
 
   free : AllFree l
-  free = items_free items (outset items) no_places l nothing_free has
+  free = subst AllFree has (items_free items (outset items) no_places nothing_free)
 
   led : (i place : ℕ) (holder : Holder) → leads_to l holder (Some i) ≡ Some place → Begun l whole holder place
   led i place holder e = let b = what_is_led_to_bears items l holder (Some i) place has e in record { placed = b.0; there = b.1; holder_is = b.2 }
@@ -155,4 +156,4 @@ module _ (items : List UnitItem) (l : Layout) (has : HasPlaces items l) where
   }
 
 pub places_are_laid_out : PlacesAreLaidOut
-places_are_laid_out items l has = laid_out items l has
+places_are_laid_out items = laid_out items (laid_in items) refl

