@@ -1,4 +1,4 @@
 pub mod Facts
 pub mod AcceptedUnits
 pub mod SmallLayouts
-pub mod LinkedExamples
+pub mod TwoTexts

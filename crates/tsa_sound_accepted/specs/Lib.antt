@@ -4,4 +4,4 @@ pub mod kept
 pub mod entered
 pub mod called
 pub mod Laws
-pub mod LinkedExamples
+pub mod TwoTexts

@@ -15,7 +15,7 @@ pub use kept::{
     units_keep_their_rows,
 };
 pub use laid::places_are_laid_out;
-pub use laws::{linked_units_are_sound, units_without_warnings_are_sound};
+pub use laws::{two_texts_are_sound, units_without_warnings_are_sound};
 pub use terms::{
     arguments_have_their_paths, calls_have_their_terms, guards_of_terms_are_those_of_expressions,
     points_have_their_terms,

@@ -1,5 +1,5 @@
 -- Two texts as one list of items, worked out.
-use Rattle.std.proofs.Common.{◌≡◌, ℕ, true, false, List, [], ◌∷◌, ◌++◌, None, refl, subst}
+use Rattle.std.proofs.Common.{◌≡◌, ℕ, true, false, List, [], ◌∷◌, ◌++◌, length, None, refl, subst, arith}
 use Rattle.tsa_base.specs.Tokens.{tokens_of}
 use Rattle.tsa_lex.specs.Quick.{quick_tokens_of}
 use Rattle.tsa_lex.proofs.Quick.{tokens_are}
@@ -9,6 +9,7 @@ use Rattle.tsa_tree.specs.units.Sound.{SoundItems, SpellableItems}
 use Rattle.tsa_tree.specs.units.Syntax.{UnitItem}
 use Rattle.tsa_core.specs.Programs.{program_of}
 use Rattle.tsa_core.proofs.BodyExamples.{worked}
+use Rattle.tsa_path.specs.Laws.{IsSmall}
 use Rattle.tsa_rules.specs.KeptLaws.{each_alone, pointed}
 use Rattle.tsa_rules.specs.Sheets.{Sheet, program_passes}
 use Rattle.tsa_rules.specs.declared.status.Status.TheVariants.{Free, Exclusive}
@@ -16,7 +17,7 @@ use Rattle.tsa_rules.specs.Texts.{global}
 use Rattle.tsa_rules.specs.Warnings.{HasNoWarnings}
 use Rattle.tsa_rules.proofs.KeptPrograms.{programs_that_pass_have_no_warnings}
 use Rattle.tsa_profile.proofs.Examples.{all}
-use Rattle.tsa_sound_accepted.specs.LinkedExamples.{names_a_type, names_a_label, AreSoundTogether, LinkedUnitsAreSound}
+use Rattle.tsa_sound_accepted.specs.TwoTexts.{names_a_type, names_a_label, AreSoundTogether, TwoTextsAreSound}
 use Rattle.tsa_sound_accepted.specs.terms.Units.{IsInProfile}
 use Rattle.tsa_sound_accepted.proofs.AcceptedUnits.{units_without_warnings_are_sound}
 
@@ -69,9 +70,16 @@ typed : first_failing quickly ≡ None
 unfolding worked
 typed = refl
 
+places : length (program_of quickly).layout.places ≡ 4
+unfolding worked
+places = refl
+
+small : IsSmall (program_of quickly).layout
+small = let four = places in omega (arith, four)
+
 in_profile : IsInProfile quickly (program_of quickly).layout
 unfolding all
-in_profile = record { spellable = spellable; typed = typed; placed = refl; profiled = refl }
+in_profile = record { spellable = spellable; typed = typed; placed = refl; small = small; profiled = refl }
 
 -- a sheet for each function: two that take and give a lock, and the one that writes under it
 sheets : List Sheet
@@ -97,5 +105,5 @@ together = record {
   sound = units_without_warnings_are_sound quickly (program_of quickly).layout in_profile quiet;
 }
 
-pub linked_units_are_sound : LinkedUnitsAreSound
-linked_units_are_sound = of_both AreSoundTogether names_a_type names_a_label together
+pub two_texts_are_sound : TwoTextsAreSound
+two_texts_are_sound = of_both AreSoundTogether names_a_type names_a_label together

@@ -29,5 +29,5 @@ pub record AreSoundTogether (items : List UnitItem) : Type 0 where
   pub sound : Sound items
 
 -- each text is read by itself
-abbrev pub LinkedUnitsAreSound : Type 0
-LinkedUnitsAreSound = AreSoundTogether (unit_in (tokens_of names_a_type) ++ unit_in (tokens_of names_a_label))
+abbrev pub TwoTextsAreSound : Type 0
+TwoTextsAreSound = AreSoundTogether (unit_in (tokens_of names_a_type) ++ unit_in (tokens_of names_a_label))
