@@ -2,6 +2,7 @@
 ghost use Rattle.std.specs.Prelude.{◌≡◌, ◌++◌, IfOk};
 ghost use Rattle.tsa_place_model.specs.Ways.{from as spec_from, onward as spec_onward};
 
+use smallvec::SmallVec;
 use std::alloc::Global;
 use std::marker::Model;
 use tsa_base::NoMemory;
@@ -15,18 +16,19 @@ pub enum Root {
 }
 
 /// A step of a path: to a member by its number, to an element by a constant or by what a local holds, or to where a pointer points.
-#[derive(Clone, Copy, Debug, PartialEq, Eq, Hash)]
+#[derive(Clone, Copy, Debug, Default, PartialEq, Eq, Hash)]
 pub enum PathStep {
     Field(u32),
     Constant(u32),
     Variable(u32),
+    #[default]
     Follow,
 }
 
-/// A root and the steps from it, in order. Contracts see it as a way.
+/// A root and the steps from it, in order, of which the first few take no memory of their own. Contracts see it as a way.
 pub struct Path {
     root: Root,
-    steps: Vec<PathStep>,
+    steps: SmallVec<PathStep, 2>,
 }
 
 impl Drop for Path {
@@ -51,7 +53,7 @@ impl Path {
     {
         Path {
             root,
-            steps: Vec::new(alloc),
+            steps: SmallVec::new(alloc),
         }
     }
 
@@ -66,7 +68,7 @@ impl Path {
     pub fn steps(&self) -> &[PathStep]
         ensures { result.now ≡ self.now.steps }
     {
-        &self.steps
+        self.steps.as_slice()
     }
 
     /// The same with a further step.
@@ -89,6 +91,6 @@ impl Path {
     pub fn copy(&self, alloc: Global) -> Result<Path, NoMemory>
         ensures { IfOk result (λ path. path ≡ self.now) }
     {
-        Path::new(alloc, self.root).with_steps(&self.steps)
+        Path::new(alloc, self.root).with_steps(self.steps.as_slice())
     }
 }
