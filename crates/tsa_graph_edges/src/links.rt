@@ -53,8 +53,8 @@ fn walked<'a>(
     Ok(ahead)
 }
 
-/// The edges of a body of so many points, but for its end, in order of the text. A first walk finds the labels; where there are none, it has
-/// found the edges too, and else a second one finds them, where the labels are known.
+/// The edges of a body of so many points, but for its end, in order of the text. A first walk finds the labels and, where there are none,
+/// the edges too; where there are some, a second one, for which they are known, finds the edges.
 pub fn body_links<'a>(
     scope: &Scope<'a>,
     body: &[Stmt<'a>],
