@@ -8,6 +8,7 @@ use Rattle.tsa_core.proofs.BodyExamples.{worked}
 pub large_units_have_their_places : LargeUnitsHaveTheirPlaces
 unfolding worked around guards_along placed_behind
 large_units_have_their_places = record {
+  typed = refl;
   refused = refl;
   count = refl;
   globals = refl;

@@ -1,6 +1,7 @@
 -- A unit with more places than it may have, which `check` refuses: its program has all of them, with their guards.
-use Rattle.std.specs.Prelude.{◌≡◌, true, List, [], ◌∷◌, length, map, Some, Err, codes}
+use Rattle.std.specs.Prelude.{◌≡◌, true, List, [], ◌∷◌, length, map, Some, None, Err, codes}
 use Rattle.tsa_lex.specs.Quick.{quick_tokens_of}
+use Rattle.tsa_tree.specs.types.FirstFailing.{first_failing}
 use Rattle.tsa_tree.specs.types.Texts.{unit_in}
 use Rattle.tsa_tree.specs.units.Syntax.{UnitItem}
 use Rattle.tsa_place_model.specs.declared.path.Root.TheVariants.{Global}
@@ -23,7 +24,8 @@ abbrev guarded_write : Access
 guarded_write = record { is_write = true; guards = Some (from (Global 0)) ∷ [] }
 
 pub record LargeUnitsHaveTheirPlaces : Type 0 where
-  -- `check` refuses it at the declarator of the array
+  -- its types are right, and `check` refuses it at the declarator of the array
+  pub typed : first_failing past_the_limit ≡ None
   pub refused : placed_in past_the_limit ≡ Err (record { from = 104; to = 115 })
   pub count : length large_program.layout.places ≡ 65537
   pub globals : map (λ p. p.name) large_program.layout.globals ≡ codes "mu" ∷ codes "n" ∷ codes "rest" ∷ []
