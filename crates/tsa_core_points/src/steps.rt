@@ -159,7 +159,7 @@ fn put_leaf<'a>(steps: &mut Vec<Step<'a>>, stmt: &'a Stmt<'a>) -> Result<(), NoM
         StmtKind::Break => put_point(steps, Action::Jump, span),
         StmtKind::Continue => put_point(steps, Action::Jump, span),
         StmtKind::Goto(_) => put_point(steps, Action::Jump, span),
-        StmtKind::Return(value) => put_point(steps, Action::Return(value.as_ref()), span),
+        StmtKind::Return(value) => put_point(steps, Action::Return(*value), span),
         _ => Ok(()),
     }
 }
@@ -194,7 +194,7 @@ fn put_steps<'a>(steps: &mut Vec<Step<'a>>, stmt: &'a Stmt<'a>) -> Result<(), No
             step,
             body,
         } => {
-            put_head(steps, *init, stmt.span, test.as_ref())?;
+            put_head(steps, *init, stmt.span, *test)?;
             put_third(steps, *step)?;
             put_steps(steps, body)?;
             put_close(steps)

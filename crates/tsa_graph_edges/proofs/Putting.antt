@@ -1,17 +1,13 @@
 -- What a walk comes to at a statement, by what it came to in the parts of it.
 use Rattle.std.proofs.Common.{◌≡◌, ◌∙◌, ℕ, zero, suc, ◌+◌, ◌-◌, ◌*◌, ◌<◌, ◌≤◌, arith, Result, Ok, Err, IfOk, get_or, drop, List, [], ◌∷◌}
-use Rattle.std.proofs.Common.{◌++◌, length, Option, Some, None, refl, sym, ap, ap₂, subst, append_assoc}
+use Rattle.std.proofs.Common.{◌++◌, length, Option, None, refl, sym, ap, ap₂, subst, append_assoc}
 use Rattle.std.proofs.lemmas.List.{append-nil}
 use Rattle.std.proofs.Math.Seq.{drop-cons}
-use Rattle.std.specs.Borrow.{Bor}
-use Rattle.std.specs.Option.{option_map, option_copied}
 use Rattle.tsa_base.specs.declared.token.Span.{Span}
 use Rattle.tsa_base.specs.declared.traits.NoMemory.{NoMemory}
 use Rattle.tsa_tree.specs.declarations.Syntax.{Declaration}
 use Rattle.tsa_tree.proofs.statements.Trees.{tall, talls, shape_of}
-use Rattle.tsa_tree.specs.declared.expr.Expr.{Expr}
 use Rattle.tsa_tree.specs.declared.stmt.Stmt.{Stmt}
-use Rattle.tsa_tree.specs.expressions.Shapes.{shape}
 use Rattle.tsa_tree.specs.expressions.Syntax.{Expression, Identifier}
 use Rattle.tsa_tree.specs.points.Syntax.{points_of_init, points_of_step}
 use Rattle.tsa_tree.specs.statements.Shapes.{stmt_shapes}
@@ -343,11 +339,6 @@ module _ (p : Spot) where
   pub end_put : (ss : Statements) (s : Start) (old new : Ahead) → ArePut p ss s old new → s.at ≡ 0 → old ≡ ahead [] [] []
       → new ≡ with_statements here ss 0 p.follow t (ahead [] [] [])
   end_put ss s old new h e is = h.put ∙ ap₂ (λ k a. with_statements here ss k p.follow t a) e is
-
--- The tests of a `for`.
-pub test_shapes : (o : Option (Bor Expr)) → option_map (λ x. shape x.now) o ≡ option_map shape (option_copied o)
-test_shapes None = refl
-test_shapes (Some x) = refl
 
 -- Statements in the arena, from the last one on.
 pub tall_item : (items : List Stmt) (k : ℕ) (d : Stmt) → k < length items → tall (shape_of (get_or items k d)) ≤ talls (stmt_shapes items)

@@ -199,7 +199,7 @@ impl<'t, 'a> Spot<'t, 'a> {
                 step,
                 body,
             } => {
-                let (init, test, step) = (*init, test.as_ref(), *step);
+                let (init, test, step) = (*init, *test, *step);
                 let head = ForHead {
                     point,
                     init,

@@ -211,7 +211,7 @@ fn put_statement(sheet: &mut Sheet, stmt: &Stmt<'_>, closing: Mark) -> Result<()
             step,
             body,
         } => {
-            put_for(sheet, *init, test.as_ref(), *step)?;
+            put_for(sheet, *init, *test, *step)?;
             put_statement(sheet, body, Mark::CloseBlock)
         }
         StmtKind::Switch { value, body } => put_under_test(sheet, b"switch", value, body),
@@ -221,7 +221,7 @@ fn put_statement(sheet: &mut Sheet, stmt: &Stmt<'_>, closing: Mark) -> Result<()
         StmtKind::Break => put_jump(sheet, b"break"),
         StmtKind::Continue => put_jump(sheet, b"continue"),
         StmtKind::Goto(name) => put_goto(sheet, *name),
-        StmtKind::Return(value) => put_return(sheet, value.as_ref()),
+        StmtKind::Return(value) => put_return(sheet, *value),
     }
 }
 

@@ -20,38 +20,38 @@ pub struct Stmt<'a> {
 pub enum StmtKind<'a> {
     Block(&'a [Stmt<'a>]),
     Empty,
-    Local(Decl<'a>),
-    Eval(Expr<'a>),
+    Local(&'a Decl<'a>),
+    Eval(&'a Expr<'a>),
     Assign {
-        left: Expr<'a>,
+        left: &'a Expr<'a>,
         op: Option<BinaryOp>,
-        right: Expr<'a>,
+        right: &'a Expr<'a>,
     },
     If {
-        test: Expr<'a>,
+        test: &'a Expr<'a>,
         yes: &'a Stmt<'a>,
         no: Option<&'a Stmt<'a>>,
     },
     While {
-        test: Expr<'a>,
+        test: &'a Expr<'a>,
         body: &'a Stmt<'a>,
     },
     DoWhile {
         body: &'a Stmt<'a>,
-        test: Expr<'a>,
+        test: &'a Expr<'a>,
     },
     For {
         init: Option<&'a Stmt<'a>>,
-        test: Option<Expr<'a>>,
+        test: Option<&'a Expr<'a>>,
         step: Option<&'a Stmt<'a>>,
         body: &'a Stmt<'a>,
     },
     Switch {
-        value: Expr<'a>,
+        value: &'a Expr<'a>,
         body: &'a Stmt<'a>,
     },
     Case {
-        value: Expr<'a>,
+        value: &'a Expr<'a>,
         body: &'a Stmt<'a>,
     },
     Otherwise {
@@ -64,7 +64,7 @@ pub enum StmtKind<'a> {
     Break,
     Continue,
     Goto(Name<'a>),
-    Return(Option<Expr<'a>>),
+    Return(Option<&'a Expr<'a>>),
 }
 
 /// A point of a body, and where it stands.

@@ -131,12 +131,6 @@ module _ (c : Context) where
       ∙ ap (λ t. or_else (own (is_void gives || lacks (λ t. goes_to t gives) t) TY8 span) (result_err (found_in c e))) (thing_is e)
       ∙ by_void gives span (is_void gives) (found_in c e) refl)
 
--- an expression that may be left out, seen by a reference
-pub seen_found : (c : Context) (r : Option (Bor Expr)) (e : Option Expr) → option_map (λ x. x.now) r ≡ e
-    → option_map (λ x. found_in c (shape x.now)) r ≡ option_map (found_in c) (option_map shape e)
-seen_found c None e h = ap (λ x. option_map (found_in c) (option_map shape x)) h
-seen_found c (Some x) e h = ap (λ y. option_map (found_in c) (option_map shape y)) h
-
 -- The third part of a `for`, and the first one that is no local, are such a statement alone.
 module _ (here : Scope) (function : ℕ) (span : Span) where
   pub step_alone : (k : StmtKind) → (step_premises here (step_of k span) ≡ alone_premises here (stmt_shape k span)) × (names_in_step here function (step_of k span) ≡ alone_names here function (stmt_shape k span))
@@ -159,7 +153,7 @@ module _ (here : Scope) (function : ℕ) (span : Span) where
   step_alone (kind.Goto x) = (refl, refl)
   step_alone (kind.Return x) = (refl, refl)
 
-  pub init_alone : (k : StmtKind) → ((d : Decl) → k ≡ kind.Local d → ⊥)
+  pub init_alone : (k : StmtKind) → ((d : Bor Decl) → k ≡ kind.Local d → ⊥)
       → (init_premises here (init_of k span) ≡ alone_premises here (stmt_shape k span)) × (names_in_for_init here function (init_of k span) ≡ alone_names here function (stmt_shape k span))
   init_alone (kind.Block' p n row) l = (refl, refl)
   init_alone kind.Empty l = (refl, refl)
@@ -180,7 +174,7 @@ module _ (here : Scope) (function : ℕ) (span : Span) where
   init_alone (kind.Goto x) l = (refl, refl)
   init_alone (kind.Return x) l = (refl, refl)
 
-  pub init_silent : (k : StmtKind) → ((d : Decl) → k ≡ kind.Local d → ⊥) → (is_again here (init_of k span) ≡ false) × (behind_init here (init_of k span) ≡ here)
+  pub init_silent : (k : StmtKind) → ((d : Bor Decl) → k ≡ kind.Local d → ⊥) → (is_again here (init_of k span) ≡ false) × (behind_init here (init_of k span) ≡ here)
   init_silent (kind.Block' p n row) l = (refl, refl)
   init_silent kind.Empty l = (refl, refl)
   init_silent (kind.Local d) l = absurd (l d refl)
@@ -201,7 +195,7 @@ module _ (here : Scope) (function : ℕ) (span : Span) where
 
 -- Statements that are none of these are nothing here.
 module _ (here : Scope) (function : ℕ) (span : Span) where
-  pub no_simple : (k : StmtKind) → ((x : Expr) → k ≡ kind.Eval x → ⊥) → ((x : Expr) (op : Option BinaryOp) (y : Expr) → k ≡ kind.Assign x op y → ⊥)
+  pub no_simple : (k : StmtKind) → ((x : Bor Expr) → k ≡ kind.Eval x → ⊥) → ((x : Bor Expr) (op : Option BinaryOp) (y : Bor Expr) → k ≡ kind.Assign x op y → ⊥)
       → (alone_premises here (stmt_shape k span) ≡ []) × (alone_names here function (stmt_shape k span) ≡ [])
   no_simple (kind.Block' p n row) e s = (refl, refl)
   no_simple kind.Empty e s = (refl, refl)
@@ -223,7 +217,7 @@ module _ (here : Scope) (function : ℕ) (span : Span) where
   no_simple (kind.Return x) e s = (refl, refl)
 
   -- a leaf that is no jump and no return
-  pub no_jump : (a : Around) (k : StmtKind) → (k ≡ kind.Break → ⊥) → (k ≡ kind.Continue → ⊥) → ((n : Name) → k ≡ kind.Goto n → ⊥) → ((x : Option Expr) → k ≡ kind.Return x → ⊥)
+  pub no_jump : (a : Around) (k : StmtKind) → (k ≡ kind.Break → ⊥) → (k ≡ kind.Continue → ⊥) → ((n : Name) → k ≡ kind.Goto n → ⊥) → ((x : Option (Bor Expr)) → k ≡ kind.Return x → ⊥)
       → (leaf_premises a here (stmt_shape k span) ≡ alone_premises here (stmt_shape k span)) × (names_in_leaf here function (stmt_shape k span) ≡ alone_names here function (stmt_shape k span))
   no_jump a (kind.Block' p n row) b c g r = (refl, refl)
   no_jump a kind.Empty b c g r = (refl, refl)

@@ -30,7 +30,7 @@ pub fn leaf(
         StmtKind::Continue => Ok(around.continue_failure(stmt.span)),
         StmtKind::Goto(name) => Ok(around.goto_failure(*name, stmt.span)),
         StmtKind::Return(value) => {
-            let found = given(view, symbols, value.as_ref())?;
+            let found = given(view, symbols, *value)?;
             Ok(return_failure(around.result, stmt.span, found))
         }
         _ => simple(view, symbols, stmt),

@@ -203,7 +203,7 @@ impl<'a> Walk<'a> {
                 step,
                 body,
             } => {
-                let head = ForHead::new(*init, test.as_ref(), *step, at);
+                let head = ForHead::new(*init, *test, *step, at);
                 self.for_loop(around, &head, body)
             }
             StmtKind::Switch { value, body } => {

@@ -19,7 +19,7 @@ use Rattle.tsa_tree.specs.Reads.{read}
 use Rattle.tsa_tree.specs.Rows.{an_expression, a_for_init, a_statement, expression, for_init, statement, a_colon, sees}
 use Rattle.tsa_tree.specs.expressions.Shapes.{name_shape, shape}
 use Rattle.tsa_tree.specs.tokens.Signs.{Aliases, sign_at, identifier_at, span_over}
-use Rattle.tsa_tree.specs.statements.Syntax.{ForInit, label}
+use Rattle.tsa_tree.specs.statements.Syntax.{ForInit, case, label}
 use Rattle.tsa_tree.specs.statements.Shapes.{point_shape}
 use Rattle.tsa_expr.specs.declared.refusal.SyntaxRefusal.{SyntaxRefusal}
 use Rattle.tsa_expr.specs.Gives.{Fails}
@@ -56,17 +56,17 @@ module _ (ts : List Lexeme) (aliases : Aliases) where
       → Fails e (read ts a_statement (statement aliases d) m)
   while_fails d m e s f = fails_same e _ _ (while_is ts aliases d m s) (fails_then e _ _ f)
 
-  pub while_opens : (d m : ℕ) (x : Expr) (n k : ℕ) → sign_at ts aliases m ≡ sign.Keyword key.While → test_at ts aliases d (m + 1) ≡ Ok (shape x, n)
+  pub while_opens : (d m : ℕ) (x : Bor Expr) (n k : ℕ) → sign_at ts aliases m ≡ sign.Keyword key.While → test_at ts aliases d (m + 1) ≡ Ok (shape x.now, n)
       → read ts a_statement (statement aliases d) m ≡ ended_at ts aliases d m (head.While x k) n
-  while_opens d m x n k s h = while_is ts aliases d m s ∙ goes _ _ (shape x) n h
+  while_opens d m x n k s h = while_is ts aliases d m s ∙ goes _ _ (shape x.now) n h
 
   pub switch_fails : (d m : ℕ) (e : SyntaxRefusal) → sign_at ts aliases m ≡ sign.Keyword key.Switch → Fails e (test_at ts aliases d (m + 1))
       → Fails e (read ts a_statement (statement aliases d) m)
   switch_fails d m e s f = fails_same e _ _ (switch_is ts aliases d m s) (fails_then e _ _ f)
 
-  pub switch_opens : (d m : ℕ) (x : Expr) (n k : ℕ) → sign_at ts aliases m ≡ sign.Keyword key.Switch → test_at ts aliases d (m + 1) ≡ Ok (shape x, n)
+  pub switch_opens : (d m : ℕ) (x : Bor Expr) (n k : ℕ) → sign_at ts aliases m ≡ sign.Keyword key.Switch → test_at ts aliases d (m + 1) ≡ Ok (shape x.now, n)
       → read ts a_statement (statement aliases d) m ≡ ended_at ts aliases d m (head.Switch x k) n
-  switch_opens d m x n k s h = switch_is ts aliases d m s ∙ goes _ _ (shape x) n h
+  switch_opens d m x n k s h = switch_is ts aliases d m s ∙ goes _ _ (shape x.now) n h
 
   pub case_fails : (d m : ℕ) (e : SyntaxRefusal) → sign_at ts aliases m ≡ sign.Keyword key.Case
       → Fails e (read ts an_expression (expression aliases d 0) (m + 1)) → Fails e (read ts a_statement (statement aliases d) m)
@@ -77,10 +77,12 @@ module _ (ts : List Lexeme) (aliases : Aliases) where
       → Fails e (read ts a_statement (statement aliases d) m)
   case_endless d m x n e s h f = fails_same e _ _ (case_is ts aliases d m s ∙ goes _ _ x n h) (fails_then e _ _ f)
 
-  pub case_opens : (d m : ℕ) (x : Expr) (n k : ℕ) → sign_at ts aliases m ≡ sign.Keyword key.Case
-      → read ts an_expression (expression aliases d 0) (m + 1) ≡ Ok (shape x, n) → one_token ts (a_colon aliases) n ≡ Ok (tt, k)
-      → read ts a_statement (statement aliases d) m ≡ ended_at ts aliases d m (head.Case x) k
-  case_opens d m x n k s h o = case_is ts aliases d m s ∙ goes _ _ (shape x) n h ∙ goes _ _ tt k o
+  pub case_opens : (d m : ℕ) (x : Expr) (n k : ℕ) (y : Bor Expr) → sign_at ts aliases m ≡ sign.Keyword key.Case
+      → read ts an_expression (expression aliases d 0) (m + 1) ≡ Ok (shape x, n) → one_token ts (a_colon aliases) n ≡ Ok (tt, k) → y.now ≡ x
+      → read ts a_statement (statement aliases d) m ≡ ended_at ts aliases d m (head.Case y) k
+  case_opens d m x n k y s h o e =
+      case_is ts aliases d m s ∙ goes _ _ (shape x) n h ∙ goes _ _ tt k o
+      ∙ ap (λ x. then (body_at ts aliases d k) (λ b f. Ok (case (shape x) b (span_over ts m f), f))) (sym e)
 
   pub default_fails : (d m : ℕ) (e : SyntaxRefusal) → sign_at ts aliases m ≡ sign.Keyword key.Default → Fails e (one_token ts (a_colon aliases) (m + 1))
       → Fails e (read ts a_statement (statement aliases d) m)
@@ -115,24 +117,24 @@ module _ (ts : List Lexeme) (aliases : Aliases) where
   for_stepless d m n i k x j e s o a b f =
       fails_same e _ _ (for_is ts aliases d m s ∙ goes _ _ tt n o ∙ goes _ _ i k a ∙ goes _ _ x j b) (fails_then e _ _ f)
 
-  pub for_opens : (d m n : ℕ) (i : Option (Bor Stmt)) (k : ℕ) (x : Option Expr) (j : ℕ) (c : Option (Bor Stmt)) (l number : ℕ)
+  pub for_opens : (d m n : ℕ) (i : Option (Bor Stmt)) (k : ℕ) (x : Option (Bor Expr)) (j : ℕ) (c : Option (Bor Stmt)) (l number : ℕ)
       → sign_at ts aliases m ≡ sign.Keyword key.For → opening ts aliases d (m + 1) ≡ Ok (tt, n)
-      → read ts a_for_init (for_init aliases (d + 1)) n ≡ Ok (init_seen i, k) → value_or_none_at ts aliases (d + 1) k ≡ Ok (option_map shape x, j)
+      → read ts a_for_init (for_init aliases (d + 1)) n ≡ Ok (init_seen i, k) → value_or_none_at ts aliases (d + 1) k ≡ Ok (option_map (λ x. shape x.now) x, j)
       → step_at ts aliases (d + 1) j ≡ Ok (step_seen c, l)
       → read ts a_statement (statement aliases d) m ≡ ended_at ts aliases d m (head.For i x number c) l
   for_opens d m n i k x j c l number s o a b f =
-      for_is ts aliases d m s ∙ goes _ _ tt n o ∙ goes _ _ (init_seen i) k a ∙ goes _ _ (option_map shape x) j b ∙ goes _ _ (step_seen c) l f
+      for_is ts aliases d m s ∙ goes _ _ tt n o ∙ goes _ _ (init_seen i) k a ∙ goes _ _ (option_map (λ x. shape x.now) x) j b ∙ goes _ _ (step_seen c) l f
 
 -- the points of a `for` up to its body
-for_pointed : (word : Span) (old begun marked new : List Point) (i : Option (Bor Stmt)) (x : Option Expr) (number : ℕ) (c : Option (Bor Stmt))
+for_pointed : (word : Span) (old begun marked new : List Point) (i : Option (Bor Stmt)) (x : Option (Bor Expr)) (number : ℕ) (c : Option (Bor Stmt))
     → IsBegun old begun i → number ≡ length begun
-    → map point_shape marked ≡ map point_shape begun ++ point_of_for word (option_map shape x) ∷ []
+    → map point_shape marked ≡ map point_shape begun ++ point_of_for word (option_map (λ x. shape x.now) x) ∷ []
     → IsStepped marked new c → IsOpened word old new (head.For i x number c)
 for_pointed word old begun marked new i x number c a q b f = (
   f.0 ∙ ap (λ ps. ps ++ points_of_step (step_seen c)) b
-      ∙ append-append (map point_shape begun) (point_of_for word (option_map shape x) ∷ []) (points_of_step (step_seen c))
-      ∙ ap (λ ps. ps ++ point_of_for word (option_map shape x) ∷ points_of_step (step_seen c)) a.0
-      ∙ append-append (map point_shape old) (points_of_init (init_seen i)) (point_of_for word (option_map shape x) ∷ points_of_step (step_seen c)),
+      ∙ append-append (map point_shape begun) (point_of_for word (option_map (λ x. shape x.now) x) ∷ []) (points_of_step (step_seen c))
+      ∙ ap (λ ps. ps ++ point_of_for word (option_map (λ x. shape x.now) x) ∷ points_of_step (step_seen c)) a.0
+      ∙ append-append (map point_shape old) (points_of_init (init_seen i)) (point_of_for word (option_map (λ x. shape x.now) x) ∷ points_of_step (step_seen c)),
   a.1,
   q ∙ sym (length-map begun point_shape) ∙ ap length a.0 ∙ length-append (map point_shape old) (points_of_init (init_seen i))
       ∙ ap (λ n. n + length (points_of_init (init_seen i))) (length-map old point_shape),
@@ -141,12 +143,12 @@ for_pointed word old begun marked new i x number c a q b f = (
   where
     grown : length marked ≡ length begun + 1
     grown =
-        sym (length-map marked point_shape) ∙ ap length b ∙ length-append (map point_shape begun) (point_of_for word (option_map shape x) ∷ [])
+        sym (length-map marked point_shape) ∙ ap length b ∙ length-append (map point_shape begun) (point_of_for word (option_map (λ x. shape x.now) x) ∷ [])
         ∙ ap (λ n. n + 1) (length-map begun point_shape)
 
-pub for_opened : (word : Span) (old begun marked new : List Point) (i : Option (Bor Stmt)) (x : Option Expr) (number : ℕ) (c : Option (Bor Stmt)) (l : ℕ)
+pub for_opened : (word : Span) (old begun marked new : List Point) (i : Option (Bor Stmt)) (x : Option (Bor Expr)) (number : ℕ) (c : Option (Bor Stmt)) (l : ℕ)
     (r : Headed) → r ≡ record { head = head.For i x number c; next = l } → IsBegun old begun i → number ≡ length begun
-    → map point_shape marked ≡ map point_shape begun ++ point_of_for word (option_map shape x) ∷ []
+    → map point_shape marked ≡ map point_shape begun ++ point_of_for word (option_map (λ x. shape x.now) x) ∷ []
     → IsStepped marked new c → IsOpened word old new r.head
 for_opened word old begun marked new i x number c l r e a q b f =
     subst (λ r. IsOpened word old new r.head) (sym e) (for_pointed word old begun marked new i x number c a q b f)

@@ -22,26 +22,26 @@ abbrev pub seen_head : Headed → Head × ℕ
 seen_head r = (r.head, r.next)
 
 abbrev pub seen_marked : Marked → Expression × ℕ
-seen_marked r = (shape r.test, r.next)
+seen_marked r = (shape r.test.now, r.next)
 
 -- the statement that a head and its body are
 abbrev pub ended : Head → Statement → Span → Statement
-ended (While test number) body span = while_loop (shape test) body span
-ended (Switch value number) body span = switch (shape value) body span
-ended (For init test number step) body span = for_loop (init_seen init) (option_map shape test) (step_seen step) body span
-ended (Case value) body span = case (shape value) body span
+ended (While test number) body span = while_loop (shape test.now) body span
+ended (Switch value number) body span = switch (shape value.now) body span
+ended (For init test number step) body span = for_loop (init_seen init) (option_map (λ x. shape x.now) test) (step_seen step) body span
+ended (Case value) body span = case (shape value.now) body span
 ended Otherwise body span = otherwise body span
 ended (Label name) body span = label (name_shape name) body span
 
 -- the points that were passed, and their numbers; `word` is the span of the first token
 abbrev pub IsOpened : (word : Span) (old new : List Point) → Head → Type 0
 IsOpened word old new (While test number) =
-    (map point_shape new ≡ map point_shape old ++ point_of_test (shape test) ∷ []) × (number ≡ length old)
+    (map point_shape new ≡ map point_shape old ++ point_of_test (shape test.now) ∷ []) × (number ≡ length old)
 IsOpened word old new (Switch value number) =
-    (map point_shape new ≡ map point_shape old ++ record { deed = switches (shape value); span = expression_span (shape value) } ∷ []) × (number ≡ length old)
+    (map point_shape new ≡ map point_shape old ++ record { deed = switches (shape value.now); span = expression_span (shape value.now) } ∷ []) × (number ≡ length old)
 IsOpened word old new (For init test number step) =
     (map point_shape new
-    ≡ map point_shape old ++ (points_of_init (init_seen init) ++ point_of_for word (option_map shape test) ∷ points_of_step (step_seen step)))
+    ≡ map point_shape old ++ (points_of_init (init_seen init) ++ point_of_for word (option_map (λ x. shape x.now) test) ∷ points_of_step (step_seen step)))
     × IsPartAt init (length old)
     × (number ≡ length old + length (points_of_init (init_seen init)))
     × IsStepAt step (number + 1)
@@ -57,7 +57,7 @@ IsUnpointed head = ⊥
 
 -- a test's point was passed
 abbrev pub IsMarked : (old new : List Point) → Marked → Type 0
-IsMarked old new r = (map point_shape new ≡ map point_shape old ++ point_of_test (shape r.test) ∷ []) × (r.number ≡ length old)
+IsMarked old new r = (map point_shape new ≡ map point_shape old ++ point_of_test (shape r.test.now) ∷ []) × (r.number ≡ length old)
 
 module _ (tokens : List Lexeme) (aliases : Aliases) (d start : ℕ) where
   -- a body that ends the statement

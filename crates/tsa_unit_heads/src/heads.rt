@@ -12,31 +12,31 @@ ghost use Rattle.tsa_unit_simple.specs.Outcomes.{test_at};
 ghost use Rattle.tsa_unit_heads.specs.Heads.{IsOpened, IsUnpointed, ended_at, seen_head, seen_marked};
 
 use crate::text::TextReader;
-use tsa_decl_declarators::open;
+use tsa_decl_declarators::{kept_in, open};
 use tsa_expr::{Reader, SyntaxRefusal};
 use tsa_tree::expr::{Expr, Name};
 use tsa_tree::sign::{Keyword, Sign};
 use tsa_tree::stmt::{Action, Point, Stmt};
 use tsa_unit_simple::{Part, Value, colon, for_init, for_step, mark, test, value_or_none};
 
-/// What stands before a body that ends its statement, with the numbers of the points there.
+/// What stands before a body that ends its statement, with the numbers of the points there. Its trees stand in the arena.
 #[derive(Clone, Copy)]
 pub enum Head<'a> {
     While {
-        test: Expr<'a>,
+        test: &'a Expr<'a>,
         number: u32,
     },
     Switch {
-        value: Expr<'a>,
+        value: &'a Expr<'a>,
         number: u32,
     },
     For {
         init: Option<&'a Stmt<'a>>,
-        test: Option<Expr<'a>>,
+        test: Option<&'a Expr<'a>>,
         number: u32,
         step: Option<&'a Stmt<'a>>,
     },
-    Case(Expr<'a>),
+    Case(&'a Expr<'a>),
     Otherwise,
     Label(Name<'a>),
 }
@@ -51,7 +51,7 @@ pub struct Headed<'a> {
 /// A test in its parentheses, the number of its point, and the token after it.
 #[derive(Clone, Copy)]
 pub struct Marked<'a> {
-    pub test: Expr<'a>,
+    pub test: &'a Expr<'a>,
     pub number: u32,
     pub next: u32,
 }
@@ -67,13 +67,13 @@ pub fn marked_test<'a>(
     ensures gives { Gives seen_marked result (test_at (input reader.entry) (named reader.entry) depth at) }
     ensures number { IfOk result (λ r. r.number ≡ length points.old.items) }
     ensures pointed { IfOk result (λ r. map point_shape points.new.items ≡ map point_shape points.old.items
-        ++ point_of_test (shape r.test) ∷ []) }
+        ++ point_of_test (shape r.test.now) ∷ []) }
     ensures ends { IfOk result (λ r. (at < r.next) × (r.next ≤ length reader.entry.tokens.now)) }
 {
     let tested = test(reader, at, depth)?;
     let number = mark(points, Action::Test(Some(tested.tree)), tested.tree.span)?;
     Ok(Marked {
-        test: *tested.tree,
+        test: tested.tree,
         number,
         next: tested.next,
     })
@@ -121,7 +121,7 @@ pub fn switch_head<'a>(
     let value = test(reader, start + 1, depth)?;
     let number = mark(points, Action::Switch(value.tree), value.tree.span)?;
     let head = Head::Switch {
-        value: *value.tree,
+        value: value.tree,
         number,
     };
     Ok(Headed {
@@ -189,7 +189,8 @@ pub fn case_head<'a>(
 {
     let value = reader.expression(start + 1, depth, 0)?;
     let next = colon(reader, value.next)?;
-    let head = Head::Case(value.tree);
+    let kept = kept_in(reader.bump, value.tree)?;
+    let head = Head::Case(kept);
     Ok(Headed { head, next })
 }
 

@@ -8,7 +8,6 @@ ghost use Rattle.tsa_expr.specs.Source.{input};
 
 use crate::text::TextReader;
 use tsa_base::Span;
-use tsa_decl_declarators::kept_in;
 use tsa_expr::SyntaxRefusal;
 use tsa_tree::expr::Expr;
 use tsa_tree::stmt::{Action, Point};
@@ -20,12 +19,12 @@ impl<'a, 't> TextReader<'a, 't> {
     pub fn mark_loop(
         self,
         start: u32,
-        test: Option<Expr<'a>>,
+        test: Option<&'a Expr<'a>>,
         points: &mut Vec<Point<'a>>,
     ) -> Result<u32, SyntaxRefusal>
         ensures number { IfOk result (λ number. number ≡ length points.old.items) }
         ensures pointed { OnOk result (map point_shape points.new.items ≡ map point_shape points.old.items
-            ++ point_of_for (span_at (input self.entry.reader) start) (option_map shape test.entry) ∷ []) }
+            ++ point_of_for (span_at (input self.entry.reader) start) (option_map (λ x. shape x.now) test.entry) ∷ []) }
         ensures memory { OnErr result (result ≡ Err SyntaxRefusal.NoMemory) }
     {
         let Some(tree) = test else {
@@ -33,7 +32,6 @@ impl<'a, 't> TextReader<'a, 't> {
             let span = Span { from, to: from + 3 };
             return mark(points, Action::Test(None), span);
         };
-        let kept = kept_in(self.reader.bump, tree)?;
-        mark(points, Action::Test(Some(kept)), kept.span)
+        mark(points, Action::Test(Some(tree)), tree.span)
     }
 }

@@ -1,12 +1,15 @@
 -- What stands in the parentheses of statements.
 use Rattle.std.proofs.Common.{ℕ, ◌+◌, ◌≡◌, ◌≢◌, ◌∙◌, Some, None, nat_eq, ap, sym, refl, false, List, Ok, Err}
+use Rattle.std.specs.Borrow.{Bor}
 use Rattle.tsa_base.specs.Tokens.{Lexeme}
 use Rattle.tsa_grammar.proofs.Cases.{goes, chosen, other}
 use Rattle.tsa_grammar.specs.Reading.{refuse, syntax}
+use Rattle.tsa_tree.specs.declared.expr.Expr.{Expr}
 use Rattle.tsa_tree.specs.declared.sign.Keyword.TheVariants as key
 use Rattle.tsa_tree.specs.declared.sign.Sign.{Sign}
 use Rattle.tsa_tree.specs.declared.sign.Sign.TheVariants as sign
 use Rattle.tsa_tree.specs.expressions.Syntax.{Expression}
+use Rattle.tsa_tree.specs.expressions.Shapes.{shape}
 use Rattle.tsa_tree.specs.Reads.{read}
 use Rattle.tsa_tree.specs.Rows.{an_expression, expression, a_close, a_colon, a_semicolon, a_keyword, mark, is_keyword}
 use Rattle.tsa_tree.specs.tokens.Signs.{Aliases, sign_at}
@@ -75,11 +78,12 @@ module _ (ts : List Lexeme) (aliases : Aliases) where
   value_endless d m x n e h r f =
       fails_same e _ _ (other _ _ _ (not_semicolon (sign_at ts aliases m) h) ∙ goes _ _ x n r) (fails_then e _ _ f)
 
-  pub value_goes : (d m : ℕ) (x : Expression) (n k : ℕ) → sign_at ts aliases m ≢ sign.Semicolon
-      → read ts an_expression (expression aliases d 0) m ≡ Ok (x, n) → one_token ts (a_semicolon aliases) n ≡ Ok (tt, k)
-      → value_or_none_at ts aliases d m ≡ Ok (Some x, k)
+  pub value_goes : (d m : ℕ) (x : Expr) (n k : ℕ) (y : Bor Expr) → sign_at ts aliases m ≢ sign.Semicolon
+      → read ts an_expression (expression aliases d 0) m ≡ Ok (shape x, n) → one_token ts (a_semicolon aliases) n ≡ Ok (tt, k)
+      → y.now ≡ x → value_or_none_at ts aliases d m ≡ Ok (Some (shape y.now), k)
   unfolding value_or_none_at
-  value_goes d m x n k h r c = other _ _ _ (not_semicolon (sign_at ts aliases m) h) ∙ goes _ _ x n r ∙ goes _ _ tt k c
+  value_goes d m x n k y h r c e =
+      other _ _ _ (not_semicolon (sign_at ts aliases m) h) ∙ goes _ _ (shape x) n r ∙ goes _ _ tt k c ∙ ap (λ x. Ok (Some (shape x), k)) (sym e)
 
   -- the word `while`
   pub while_goes : (m : ℕ) → sign_at ts aliases m ≡ sign.Keyword key.While → one_token ts (a_keyword aliases key.While) m ≡ Ok (tt, m + 1)

@@ -35,24 +35,24 @@ use Rattle.tsa_unit_simple.proofs.PointLaws.{alone_points}
 use Rattle.tsa_unit_simple.specs.PointNumbers.{IsPointed, IsAlone, ArePointed}
 
 -- a local has one point
-pub local_alone : (d : Bor Decl) → IsAlone (Local d.now) (Declare d) d.now.span
+pub local_alone : (d : Bor Decl) → IsAlone (Local d) (Declare d) d.now.span
 local_alone d = (refl, λ n. (refl, refl))
 
 pub local_points : (old new : List Point) (d : Bor Decl) → new ≡ old ++ record { action = Declare d; span = d.now.span } ∷ []
-    → IsPointed old new (record { kind = Local d.now; point = Some (length old); span = d.now.span })
-local_points old new d q = alone_points old new (Local d.now) (Declare d) d.now.span (length old) (local_alone d) refl q
+    → IsPointed old new (record { kind = Local d; point = Some (length old); span = d.now.span })
+local_points old new d q = alone_points old new (Local d) (Declare d) d.now.span (length old) (local_alone d) refl q
 
-pub local_listed : (front back : List Stmt) (d : Decl) (s : Stmt) (n m : ℕ) → back ≡ front ++ s ∷ []
-    → s ≡ record { kind = Local d; point = Some n; span = d.span } → n ≡ m
-    → back ≡ front ++ record { kind = Local d; point = Some m; span = d.span } ∷ []
+pub local_listed : (front back : List Stmt) (d : Bor Decl) (s : Stmt) (n m : ℕ) → back ≡ front ++ s ∷ []
+    → s ≡ record { kind = Local d; point = Some n; span = d.now.span } → n ≡ m
+    → back ≡ front ++ record { kind = Local d; point = Some m; span = d.now.span } ∷ []
 local_listed front back d s n m q h e =
-    q ∙ ap (λ s. front ++ s ∷ []) h ∙ ap (λ n. front ++ record { kind = Local d; point = Some n; span = d.span } ∷ []) e
+    q ∙ ap (λ s. front ++ s ∷ []) h ∙ ap (λ n. front ++ record { kind = Local d; point = Some n; span = d.now.span } ∷ []) e
 
 pub local_kept : (old new : List Point) (d : Bor Decl) (s t : Stmt) (n : ℕ) → t ≡ s
-    → s ≡ record { kind = Local d.now; point = Some n; span = d.now.span } → n ≡ length old
+    → s ≡ record { kind = Local d; point = Some n; span = d.now.span } → n ≡ length old
     → new ≡ old ++ record { action = Declare d; span = d.now.span } ∷ [] → IsPointed old new t
 local_kept old new d s t n e h k q =
-    subst (λ s. IsPointed old new s) (sym (e ∙ h)) (alone_points old new (Local d.now) (Declare d) d.now.span n (local_alone d) k q)
+    subst (λ s. IsPointed old new s) (sym (e ∙ h)) (alone_points old new (Local d) (Declare d) d.now.span n (local_alone d) k q)
 
 -- the statements of a block, one more
 pub shapes_push : (xs : List Stmt) (s : Stmt) → stmt_shapes (xs ++ s ∷ []) ≡ joined (stmt_shapes xs) (more (stmt_shape s.kind s.span) none)
@@ -117,13 +117,10 @@ loop_untested old new word from e h =
     one_more old new (record { action = Test None; span = record { from = from; to = from + 3 } }) h
     ∙ ap (λ from. map point_shape old ++ record { deed = tests None; span = record { from = from; to = from + 3 } } ∷ []) e
 
-pub loop_tested : (old new : List Point) (word : Span) (x : Bor Expr) (y : Expr)
-    → new ≡ old ++ record { action = Test (Some x); span = x.now.span } ∷ [] → x.now ≡ y
-    → map point_shape new ≡ map point_shape old ++ point_of_for word (Some (shape y)) ∷ []
-loop_tested old new word x y h e =
-    one_more old new (record { action = Test (Some x); span = x.now.span }) h
-    ∙ ap (λ p. map point_shape old ++ p ∷ []) (tested_point x)
-    ∙ ap (λ y. map point_shape old ++ point_of_test (shape y) ∷ []) e
+pub loop_tested : (old new : List Point) (word : Span) (x : Bor Expr) → new ≡ old ++ record { action = Test (Some x); span = x.now.span } ∷ []
+    → map point_shape new ≡ map point_shape old ++ point_of_for word (Some (shape x.now)) ∷ []
+loop_tested old new word x h =
+    one_more old new (record { action = Test (Some x); span = x.now.span }) h ∙ ap (λ p. map point_shape old ++ p ∷ []) (tested_point x)
 
 pub ruleset loops = (loop_untested, loop_tested)
 
@@ -138,12 +135,12 @@ unclosed _ h = refl
 
 -- one local more
 pub locals_one : (front back : List Stmt) (xs : List Decl) (i : ℕ) (d : Decl) (s : Stmt) → i < length xs
-    → (s.kind ≡ Local (get_or xs i d)) × (s.span ≡ (get_or xs i d).span) → back ≡ front ++ s ∷ []
+    → stmt_shape s.kind s.span ≡ local (decl_shape (get_or xs i d)) → back ≡ front ++ s ∷ []
     → joined (stmt_shapes front) (locals_before (decl_shapes (drop i xs)) none) ≡ joined (stmt_shapes back) (locals_before (decl_shapes (drop (i + 1) xs)) none)
 locals_one front back xs i d s lt e q =
     ap (λ ys. joined (stmt_shapes front) (locals_before (decl_shapes ys) none)) (drop_more xs i d lt)
     ∙ sym (joined-joined (stmt_shapes front) (more (local (decl_shape (get_or xs i d))) none) (locals_before (decl_shapes (drop (i + 1) xs)) none))
-    ∙ ap (λ x. joined (joined (stmt_shapes front) (more x none)) (locals_before (decl_shapes (drop (i + 1) xs)) none)) (sym (ap (λ k. stmt_shape k s.span) e.0))
+    ∙ ap (λ x. joined (joined (stmt_shapes front) (more x none)) (locals_before (decl_shapes (drop (i + 1) xs)) none)) (sym e)
     ∙ ap (λ ys. joined ys (locals_before (decl_shapes (drop (i + 1) xs)) none)) (sym (ap stmt_shapes q ∙ shapes_push front s))
 
 -- and none more

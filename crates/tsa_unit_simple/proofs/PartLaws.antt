@@ -213,17 +213,17 @@ pub nothing_stepped : (old : List Point) → IsStepped old old None
 nothing_stepped old = (sym (append-nil (map point_shape old)), tt)
 
 -- a local as the first part
-pub local_begun : (old new : List Point) (s : Bor Stmt) (d : Decl) → (s.now.kind ≡ Local d) × (s.now.span ≡ d.span) → IsPointed old new s.now
+pub local_begun : (old new : List Point) (s : Bor Stmt) (d : Bor Decl) → (s.now.kind ≡ Local d) × (s.now.span ≡ d.now.span) → IsPointed old new s.now
     → IsBegun old new (Some s)
 local_begun old new s d i p = go s.now.kind s.now.point s.now.span i p
   where
-    go : (kind : StmtKind) (point : Option ℕ) (span : Span) → (kind ≡ Local d) × (span ≡ d.span)
+    go : (kind : StmtKind) (point : Option ℕ) (span : Span) → (kind ≡ Local d) × (span ≡ d.now.span)
         → (map point_shape new ≡ map point_shape old ++ points_of (stmt_shape kind span)) × IsNumbered kind point span (length old)
         → (map point_shape new ≡ map point_shape old ++ points_of_init (init_of kind span)) × (MayBeFirst kind span × (point ≡ Some (length old)))
     go (Local e) point span i p = (p.0, (p.1.1, p.1.0))
     go kind point span i p = absurd cc
 
-pub local_seen : (s : Stmt) (d : Decl) → (s.kind ≡ Local d) × (s.span ≡ d.span) → init_of s.kind s.span ≡ local_init (decl_shape d)
+pub local_seen : (s : Stmt) (d : Bor Decl) → (s.kind ≡ Local d) × (s.span ≡ d.now.span) → init_of s.kind s.span ≡ local_init (decl_shape d.now)
 local_seen s d i = ap (λ kind. init_of kind s.span) i.0
 
 pub ruleset simples = (simply_fails, simply_goes, simple_kept, simple_seen)

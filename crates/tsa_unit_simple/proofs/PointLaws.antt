@@ -8,8 +8,6 @@ use Rattle.tsa_tree.specs.declared.expr.Expr.{Expr}
 use Rattle.tsa_tree.specs.declared.stmt.Stmt.{Stmt}
 use Rattle.tsa_tree.specs.declared.stmt.Action.TheVariants as actions
 use Rattle.tsa_tree.specs.declared.stmt.StmtKind.TheVariants as kinds
-use Rattle.tsa_tree.specs.expressions.Shapes.{shape}
-use Rattle.tsa_tree.specs.points.Syntax.{evaluates, assigns}
 use Rattle.tsa_tree.specs.statements.Syntax.{simple}
 use Rattle.tsa_unit_simple.specs.declared.simple.SimpleKind.{SimpleKind}
 use Rattle.tsa_unit_simple.specs.declared.simple.SimpleKind.TheVariants.{Eval, Assign}
@@ -30,21 +28,13 @@ alone_points old new kind action span n h e q = (
 )
 
 -- a simple statement has one point
-pub eval_points : (old new : List Point) (x : Expr) (kept : Bor Expr) (span : Span) (n : ℕ) → kept.now ≡ x → n ≡ length old
-    → new ≡ old ++ record { action = actions.Eval kept; span = span } ∷ [] → IsPointed old new (simple_with (Eval x) n span)
-eval_points old new x kept span n h e q =
-    alone_points old new (kinds.Eval x) (actions.Eval kept) span n
-    (ap (λ x. record { deed = evaluates (shape x); span = span } ∷ []) (sym h), λ n. refl) e q
+pub eval_points : (old new : List Point) (x : Bor Expr) (span : Span) (n : ℕ) → n ≡ length old
+    → new ≡ old ++ record { action = actions.Eval x; span = span } ∷ [] → IsPointed old new (simple_with (Eval x) n span)
+eval_points old new x span n e q = alone_points old new (kinds.Eval x) (actions.Eval x) span n (refl, λ n. refl) e q
 
-pub assign_points : (old new : List Point) (l r : Expr) (op : Option BinaryOp) (kept value : Bor Expr) (span : Span) (n : ℕ) → kept.now ≡ l → value.now ≡ r
-    → n ≡ length old → new ≡ old ++ record { action = actions.Assign kept op value; span = span } ∷ []
-    → IsPointed old new (simple_with (Assign l op r) n span)
-assign_points old new l r op kept value span n h k e q =
-    alone_points old new (kinds.Assign l op r) (actions.Assign kept op value) span n (
-      ap (λ l. record { deed = assigns (shape l) op (shape r); span = span } ∷ []) (sym h)
-          ∙ ap (λ r. record { deed = assigns (shape kept.now) op (shape r); span = span } ∷ []) (sym k),
-      λ n. refl,
-    ) e q
+pub assign_points : (old new : List Point) (l r : Bor Expr) (op : Option BinaryOp) (span : Span) (n : ℕ) → n ≡ length old
+    → new ≡ old ++ record { action = actions.Assign l op r; span = span } ∷ [] → IsPointed old new (simple_with (Assign l op r) n span)
+assign_points old new l r op span n e q = alone_points old new (kinds.Assign l op r) (actions.Assign l op r) span n (refl, λ n. refl) e q
 
 -- and it is the statement of its kind
 pub simple_shaped : (k : SimpleKind) (n : ℕ) (span : Span) (s : Stmt) → s ≡ simple_with k n span → stmt_shape s.kind s.span ≡ simple (kind_shape k span)

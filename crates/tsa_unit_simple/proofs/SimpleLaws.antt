@@ -1,5 +1,6 @@
 -- Simple statements: what their first token and the one after the first operand decide.
 use Rattle.std.proofs.Common.{ℕ, ◌+◌, ◌≡◌, ◌∙◌, ap, sym, refl, Bool, true, false, List, Option, Some, None, Ok, Err, nat_eq, nat_le}
+use Rattle.tsa_base.specs.declared.token.Span.{Span}
 use Rattle.tsa_base.specs.Tokens.{Lexeme}
 use Rattle.tsa_grammar.proofs.Cases.{chosen, goes}
 use Rattle.tsa_grammar.specs.Form.{done, token, part}
@@ -23,8 +24,9 @@ use Rattle.tsa_expr.proofs.Answering.{fails_then, fails_same}
 use Rattle.tsa_expr.proofs.Places.{sign_within}
 use Rattle.tsa_attr.proofs.Joining.{then-then, then-same, then-ok}
 use Rattle.tsa_unit_simple.specs.declared.simple.Simple as read_simple
+use Rattle.tsa_unit_simple.specs.declared.simple.SimpleKind.{SimpleKind}
 use Rattle.tsa_unit_simple.specs.Outcomes.{step_in, simple_at}
-use Rattle.tsa_unit_simple.specs.Readings.{simple_shape}
+use Rattle.tsa_unit_simple.specs.Readings.{kind_shape, simple_shape}
 
 is_step : (s : Sign) (op : BinaryOp) → step_in s ≡ Some op → s ≡ sign.Step op
 is_step (sign.Step o) op h = cc
@@ -37,6 +39,9 @@ unfolding choose then
 rest-law true (Ok p) x m f = refl
 rest-law true (Err e) x m f = refl
 rest-law false r x m f = refl
+
+abbrev given : Simple → ℕ → Outcome Simple
+given x n = Ok (x, n)
 
 module _ (ts : List Lexeme) (aliases : Aliases) where
   abbrev going : Row a_simple → ℕ → Outcome SimplePart
@@ -55,6 +60,11 @@ module _ (ts : List Lexeme) (aliases : Aliases) where
   unfolding simple_at
   simple_is d m = ap (λ r. then r dropped) (read_steps ts a_simple (simple aliases d) m)
 
+  -- what was made of the parts that were read
+  made : (r : read_simple.Simple) (kind : SimpleKind) (make : Span → Simple) (span : Span) (n : ℕ) → kind_shape kind ≡ make
+      → simple_shape r ≡ kind_shape kind span → r.next ≡ n → given (make span) n ≡ Ok (simple_shape r, r.next)
+  made r kind make span n a q p = ap (λ s. given s n) (sym (q ∙ ap (λ f. f span) a)) ∙ ap (λ n. given (simple_shape r) n) (sym p)
+
   -- a step before its operand
   stepped : (d m : ℕ) (op : BinaryOp) → step_in (sign_at ts aliases m) ≡ Some op
       → simple_at ts aliases d m
@@ -70,13 +80,13 @@ module _ (ts : List Lexeme) (aliases : Aliases) where
       → Fails e (read ts an_expression (operand aliases d) (m + 1)) → Fails e (simple_at ts aliases d m)
   stepped_fails d m op e h f = fails_same e _ _ (stepped d m op h) (fails_then e _ _ f)
 
-  pub stepped_goes : (d m : ℕ) (op : BinaryOp) (x : Expression) (n : ℕ) (y : Expression) (r : read_simple.Simple)
+  pub stepped_goes : (d m : ℕ) (op : BinaryOp) (x : Expression) (n : ℕ) (y : Expression) (kind : SimpleKind) (r : read_simple.Simple)
       → step_in (sign_at ts aliases m) ≡ Some op → read ts an_expression (operand aliases d) (m + 1) ≡ Ok (x, n) → y ≡ one_at ts m
-      → simple_shape r ≡ assignment x (Some op) y (span_over ts m n) → r.next ≡ n
+      → kind_shape kind ≡ assignment x (Some op) y → simple_shape r ≡ kind_shape kind (span_over ts m n) → r.next ≡ n
       → simple_at ts aliases d m ≡ Ok (simple_shape r, r.next)
-  stepped_goes d m op x n y r h k o q p =
+  stepped_goes d m op x n y kind r h k o a q p =
       stepped d m op h ∙ goes _ _ x n k ∙ ap (λ y. Ok (assignment x (Some op) y (span_over ts m n), n)) (sym o)
-      ∙ ap (λ s. Ok (s, n)) (sym q) ∙ ap (λ n. Ok (simple_shape r, n)) (sym p)
+      ∙ made r kind (assignment x (Some op) y) (span_over ts m n) n a q p
 
   -- an operand first
   plain_row : (d m : ℕ) (s : Sign) → step_in s ≡ None
@@ -101,18 +111,18 @@ module _ (ts : List Lexeme) (aliases : Aliases) where
   begun d start l m h k = unstepped d start h ∙ goes _ _ l m k
 
   -- a step after it
-  pub step_behind : (d start : ℕ) (l : Expression) (m : ℕ) (op : BinaryOp) (y : Expression) (r : read_simple.Simple)
+  pub step_behind : (d start : ℕ) (l : Expression) (m : ℕ) (op : BinaryOp) (y : Expression) (kind : SimpleKind) (r : read_simple.Simple)
       → step_in (sign_at ts aliases start) ≡ None → read ts an_expression (operand aliases d) start ≡ Ok (l, m)
       → step_in (sign_at ts aliases m) ≡ Some op → y ≡ one_at ts m
-      → simple_shape r ≡ assignment l (Some op) y (span_over ts start (m + 1)) → r.next ≡ m + 1
+      → kind_shape kind ≡ assignment l (Some op) y → simple_shape r ≡ kind_shape kind (span_over ts start (m + 1)) → r.next ≡ m + 1
       → simple_at ts aliases d start ≡ Ok (simple_shape r, r.next)
-  step_behind d start l m op y r h k b o q p =
+  step_behind d start l m op y kind r h k b o a q p =
       let e : sign_at ts aliases m ≡ sign.Step op = is_step (sign_at ts aliases m) op b in
       begun d start l m h k ∙ ap (λ s. then (going (behind d start l m s) m) dropped) e
       ∙ ap (λ r. then r dropped) (chosen _ _ _ (ap (λ s. nat_eq (mark s) 26) e))
       ∙ then-ok _ (m + 1) dropped
       ∙ ap (λ y. Ok (assignment l (Some op) y (span_over ts start (m + 1)), m + 1)) (sym o)
-      ∙ ap (λ s. Ok (s, m + 1)) (sym q) ∙ ap (λ n. Ok (simple_shape r, n)) (sym p)
+      ∙ made r kind (assignment l (Some op) y) (span_over ts start (m + 1)) (m + 1) a q p
 
   -- an assignment
   abbrev value_row : (d start : ℕ) → Expression → Option BinaryOp → Row a_simple
@@ -146,13 +156,13 @@ module _ (ts : List Lexeme) (aliases : Aliases) where
       → Fails e (simple_at ts aliases d start)
   assigned_fails d start l m op e h k b f = fails_same e _ _ (assigned d start l m op h k b) (fails_then e _ _ f)
 
-  pub assigned_goes : (d start : ℕ) (l : Expression) (m : ℕ) (op : Option BinaryOp) (x : Expression) (n : ℕ) (r : read_simple.Simple)
+  pub assigned_goes : (d start : ℕ) (l : Expression) (m : ℕ) (op : Option BinaryOp) (x : Expression) (n : ℕ) (kind : SimpleKind) (r : read_simple.Simple)
       → step_in (sign_at ts aliases start) ≡ None → read ts an_expression (operand aliases d) start ≡ Ok (l, m)
       → assigns (sign_at ts aliases m) ≡ Some op → read ts an_expression (expression aliases d 0) (m + 1) ≡ Ok (x, n)
-      → simple_shape r ≡ assignment l op x (span_over ts start n) → r.next ≡ n
+      → kind_shape kind ≡ assignment l op x → simple_shape r ≡ kind_shape kind (span_over ts start n) → r.next ≡ n
       → simple_at ts aliases d start ≡ Ok (simple_shape r, r.next)
-  assigned_goes d start l m op x n r h k b v q p =
-      assigned d start l m op h k b ∙ goes _ _ x n v ∙ ap (λ s. Ok (s, n)) (sym q) ∙ ap (λ n. Ok (simple_shape r, n)) (sym p)
+  assigned_goes d start l m op x n kind r h k b v a q p =
+      assigned d start l m op h k b ∙ goes _ _ x n v ∙ made r kind (assignment l op x) (span_over ts start n) n a q p
 
   -- an expression
   rest_row : (d start : ℕ) (l : Expression) (m : ℕ) (s : Sign) → step_in s ≡ None → assigns s ≡ None
@@ -190,13 +200,14 @@ module _ (ts : List Lexeme) (aliases : Aliases) where
       → Fails e (simple_at ts aliases d start)
   rest_fails d start l m e h k b c f = fails_same e _ _ (rest d start l m h k b c) (fails_then e _ _ f)
 
-  pub rest_goes : (d start : ℕ) (l : Expression) (m : ℕ) (x : Expression) (n : ℕ) (r : read_simple.Simple) → step_in (sign_at ts aliases start) ≡ None
+  pub rest_goes : (d start : ℕ) (l : Expression) (m : ℕ) (x : Expression) (n : ℕ) (kind : SimpleKind) (r : read_simple.Simple) → step_in (sign_at ts aliases start) ≡ None
       → read ts an_expression (operand aliases d) start ≡ Ok (l, m) → step_in (sign_at ts aliases m) ≡ None
       → assigns (sign_at ts aliases m) ≡ None → read ts an_expression (expression aliases d 0) start ≡ Ok (x, n)
-      → simple_shape r ≡ evaluation x (span_over ts start n) → r.next ≡ n → simple_at ts aliases d start ≡ Ok (simple_shape r, r.next)
-  rest_goes d start l m x n r h k b c v q p =
-      rest d start l m h k b c ∙ goes _ _ x n v ∙ ap (λ s. Ok (s, n)) (sym q) ∙ ap (λ n. Ok (simple_shape r, n)) (sym p)
+      → kind_shape kind ≡ evaluation x → simple_shape r ≡ kind_shape kind (span_over ts start n) → r.next ≡ n
+      → simple_at ts aliases d start ≡ Ok (simple_shape r, r.next)
+  rest_goes d start l m x n kind r h k b c v a q p =
+      rest d start l m h k b c ∙ goes _ _ x n v ∙ made r kind (evaluation x) (span_over ts start n) n a q p
 
-pub ruleset simples = (stepped_fails, stepped_goes, unstepped_fails, sign_within)
+pub ruleset simples = (stepped_fails, unstepped_fails, sign_within)
 
-pub ruleset behind_operands = (sign_within, step_behind, assigned_fails, assigned_goes, rest_fails, rest_goes)
+pub ruleset behind_operands = (sign_within, assigned_fails, rest_fails)

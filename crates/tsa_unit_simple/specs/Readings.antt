@@ -18,8 +18,8 @@ use Rattle.tsa_unit_simple.specs.declared.simple.SimpleKind.{SimpleKind}
 use Rattle.tsa_unit_simple.specs.declared.simple.SimpleKind.TheVariants.{Eval, Assign}
 
 abbrev pub kind_shape : SimpleKind → Span → Simple
-kind_shape (Eval x) span = evaluation (shape x) span
-kind_shape (Assign left op right) span = assignment (shape left) op (shape right) span
+kind_shape (Eval x) span = evaluation (shape x.now) span
+kind_shape (Assign left op right) span = assignment (shape left.now) op (shape right.now) span
 
 abbrev pub simple_shape : read_simple.Simple → Simple
 simple_shape r = kind_shape r.kind r.span
@@ -34,7 +34,7 @@ abbrev pub seen_tested : Tested → Expression × ℕ
 seen_tested r = (shape r.tree.now, r.next)
 
 abbrev pub seen_value : Value → Option Expression × ℕ
-seen_value r = (option_map shape r.tree, r.next)
+seen_value r = (option_map (λ x. shape x.now) r.tree, r.next)
 
 abbrev pub seen_body : Body → Statement × ℕ
 seen_body r = (stmt_shape r.stmt.now.kind r.stmt.now.span, r.next)

@@ -24,7 +24,7 @@ pub struct Tested<'a> {
 /// An expression where one is read, and the token after its `;`.
 #[derive(Clone, Copy)]
 pub struct Value<'a> {
-    pub tree: Option<Expr<'a>>,
+    pub tree: Option<&'a Expr<'a>>,
     pub next: u32,
 }
 
@@ -106,8 +106,9 @@ pub fn value_or_none<'a>(
     }
     let inner = reader.expression(at, depth, 0)?;
     let next = semicolon(reader, inner.next)?;
+    let tree = kept_in(reader.bump, inner.tree)?;
     Ok(Value {
-        tree: Some(inner.tree),
+        tree: Some(tree),
         next,
     })
 }

@@ -1,8 +1,9 @@
 //! Statements that hold no other one are read (C11 6.8.3, 6.8.6).
 ghost use Rattle.std.specs.Prelude.{◌≡◌, ◌+◌, ◌≤◌, ◌<◌, length, Some, None, IfOk, OnErr, Err};
 ghost use Rattle.tsa_base.specs.declared.token.Span.{Span as span_type};
+ghost use Rattle.tsa_tree.specs.expressions.Shapes.{shape};
 ghost use Rattle.tsa_tree.specs.tokens.Signs.{sign_at};
-ghost use Rattle.tsa_tree.specs.statements.Syntax.{simple as simple_statement_of, empty as nothing_done};
+ghost use Rattle.tsa_tree.specs.statements.Syntax.{simple as simple_statement_of, empty as nothing_done, return as returned};
 ghost use Rattle.tsa_tree.specs.statements.Shapes.{stmt_shape};
 ghost use Rattle.tsa_expr.specs.Source.{input, named};
 ghost use Rattle.tsa_expr.specs.Gives.{Gives};
@@ -12,7 +13,6 @@ ghost use Rattle.tsa_unit_simple.specs.Readings.{kind_shape, seen_statement};
 
 use crate::points::{Deed, Read, alone, mark};
 use crate::simple::{SimpleKind, read_simple};
-use bumpalo::Bump;
 use tsa_base::Span;
 use tsa_decl_declarators::{kept_in, name, semicolon};
 use tsa_expr::{Reader, Reading, SyntaxRefusal};
@@ -22,7 +22,6 @@ use tsa_tree::stmt::{Action, Point, Stmt, StmtKind};
 /// Marks the point of a simple statement, and gives its number.
 #[tactic(auto, using(crate::proofs::PointLaws::simples))]
 pub fn mark_simple<'a>(
-    bump: &'a Bump,
     simple: &SimpleKind<'a>,
     span: Span,
     points: &mut Vec<Point<'a>>,
@@ -31,21 +30,14 @@ pub fn mark_simple<'a>(
     ensures memory { OnErr result (result ≡ Err SyntaxRefusal.NoMemory) }
 {
     match simple {
-        SimpleKind::Eval(tree) => {
-            let kept = kept_in(bump, *tree)?;
-            let number = mark(points, Action::Eval(kept), span)?;
-            Ok(number)
-        }
+        SimpleKind::Eval(tree) => mark(points, Action::Eval(tree), span),
         SimpleKind::Assign { left, op, right } => {
-            let kept = kept_in(bump, *left)?;
-            let value = kept_in(bump, *right)?;
             let action = Action::Assign {
-                left: kept,
+                left,
                 op: *op,
-                right: value,
+                right,
             };
-            let number = mark(points, action, span)?;
-            Ok(number)
+            mark(points, action, span)
         }
     }
 }
@@ -57,15 +49,15 @@ pub fn simple_with<'a>(simple: &SimpleKind<'a>, number: u32, span: Span) -> Stmt
     let point = Some(number);
     match simple {
         SimpleKind::Eval(tree) => Stmt {
-            kind: StmtKind::Eval(*tree),
+            kind: StmtKind::Eval(tree),
             point,
             span,
         },
         SimpleKind::Assign { left, op, right } => Stmt {
             kind: StmtKind::Assign {
-                left: *left,
+                left,
                 op: *op,
-                right: *right,
+                right,
             },
             point,
             span,
@@ -76,7 +68,6 @@ pub fn simple_with<'a>(simple: &SimpleKind<'a>, number: u32, span: Span) -> Stmt
 /// The statement that a simple one is, of one point that is marked, up to before `next`.
 #[tactic(auto, using(crate::proofs::PointLaws::simply))]
 fn simply<'a>(
-    bump: &'a Bump,
     simple: &SimpleKind<'a>,
     span: Span,
     next: u32,
@@ -87,7 +78,7 @@ fn simply<'a>(
     ensures pointed { IfOk result (λ r. IsPointed points.old.items points.new.items r.stmt) }
     ensures memory { OnErr result (result ≡ Err SyntaxRefusal.NoMemory) }
 {
-    let number = mark_simple(bump, simple, span, points)?;
+    let number = mark_simple(simple, span, points)?;
     let stmt = simple_with(simple, number, span);
     Ok(Read { stmt, next })
 }
@@ -109,7 +100,7 @@ pub fn simple_statement<'a>(
     let simple = read_simple(reader, at, depth, sign)?;
     let next = semicolon(reader, simple.next)?;
     let span = reader.over(at, next);
-    simply(reader.bump, &simple.kind, span, next, points)
+    simply(&simple.kind, span, next, points)
 }
 
 /// A statement of one point that begins at `start` and ends with the `;` that has to stand at a place.
@@ -233,13 +224,13 @@ fn value_return<'a>(
     points: &mut Vec<Point<'a>>,
 ) -> Result<Read<'a>, SyntaxRefusal>
     ensures gives { Gives seen_statement result
-        (closed_at (input reader.entry) (named reader.entry) (stmt_shape (StmtKind.Return (Some value.now.tree))) start value.now.next) }
+        (closed_at (input reader.entry) (named reader.entry) (returned (Some (shape value.now.tree))) start value.now.next) }
     ensures pointed { IfOk result (λ r. IsPointed points.old.items points.new.items r.stmt) }
     ensures ends { IfOk result (λ r. (value.now.next < r.next) × (r.next ≤ length reader.entry.tokens.now)) }
 {
     let kept = kept_in(reader.bump, value.tree)?;
     let deed = Deed {
-        kind: StmtKind::Return(Some(value.tree)),
+        kind: StmtKind::Return(Some(kept)),
         action: Action::Return(Some(kept)),
     };
     closed_statement(reader, start, value.next, &deed, points)

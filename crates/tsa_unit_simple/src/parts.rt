@@ -55,7 +55,7 @@ fn simple_part<'a>(
     ensures ends { IfOk result (λ r. (at < r.next) × (r.next ≤ length reader.entry.tokens.now)) }
 {
     let simple = read_simple(reader, at, depth, sign)?;
-    let number = mark_simple(reader.bump, &simple.kind, simple.span, points)?;
+    let number = mark_simple(&simple.kind, simple.span, points)?;
     let stmt = simple_with(&simple.kind, number, simple.span);
     in_body(reader.bump, stmt, simple.next)
 }

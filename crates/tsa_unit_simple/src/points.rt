@@ -80,11 +80,11 @@ pub fn alone<'a>(
 }
 
 /// The statement that a local is, whose point has a number.
-fn local_of<'a>(decl: &Decl<'a>, number: u32) -> Stmt<'a>
-    ensures is { result ≡ record { kind = StmtKind.Local decl.now; point = Some number; span = decl.now.span } }
+fn local_of<'a>(decl: &'a Decl<'a>, number: u32) -> Stmt<'a>
+    ensures is { result ≡ record { kind = StmtKind.Local decl.entry; point = Some number; span = decl.entry.now.span } }
 {
     Stmt {
-        kind: StmtKind::Local(*decl),
+        kind: StmtKind::Local(decl),
         point: Some(number),
         span: decl.span,
     }
@@ -98,9 +98,9 @@ pub fn local<'a>(
     list: &mut Vec<Stmt<'a>>,
 ) -> Result<(), SyntaxRefusal>
     ensures listed { OnOk result (list.new.items ≡ list.old.items
-        ++ record { kind = StmtKind.Local decl.entry.now; point = Some (length points.old.items); span = decl.entry.now.span } ∷ []) }
+        ++ record { kind = StmtKind.Local decl.entry; point = Some (length points.old.items); span = decl.entry.now.span } ∷ []) }
     ensures pointed { OnOk result (IsPointed points.old.items points.new.items
-        (record { kind = StmtKind.Local decl.entry.now; point = Some (length points.old.items); span = decl.entry.now.span })) }
+        (record { kind = StmtKind.Local decl.entry; point = Some (length points.old.items); span = decl.entry.now.span })) }
     ensures memory { OnErr result (result ≡ Err SyntaxRefusal.NoMemory) }
 {
     let number = mark(points, Action::Declare(decl), decl.span)?;
@@ -115,7 +115,7 @@ pub fn local_in<'a>(
     decl: &'a Decl<'a>,
     points: &mut Vec<Point<'a>>,
 ) -> Result<&'a Stmt<'a>, SyntaxRefusal>
-    ensures is { IfOk result (λ stmt. (stmt.now.kind ≡ StmtKind.Local decl.entry.now) × (stmt.now.span ≡ decl.entry.now.span)) }
+    ensures is { IfOk result (λ stmt. (stmt.now.kind ≡ StmtKind.Local decl.entry) × (stmt.now.span ≡ decl.entry.now.span)) }
     ensures pointed { IfOk result (λ stmt. IsPointed points.old.items points.new.items stmt.now) }
     ensures memory { OnErr result (result ≡ Err SyntaxRefusal.NoMemory) }
 {

@@ -1,29 +1,32 @@
 //! Simple statements are read: expressions and assignments, without their `;` (C11 6.5.16, 6.8.3).
-ghost use Rattle.std.specs.Prelude.{◌≡◌, ◌≤◌, ◌<◌, length, None, Ok, IfOk};
+ghost use Rattle.std.specs.Prelude.{◌≡◌, ◌≤◌, ◌<◌, length, None, Ok, Err, IfOk, OnErr};
 ghost use Rattle.tsa_tree.specs.Reads.{read};
 ghost use Rattle.tsa_tree.specs.Rows.{an_expression, operand};
 ghost use Rattle.tsa_tree.specs.expressions.Shapes.{shape};
 ghost use Rattle.tsa_tree.specs.tokens.Signs.{sign_at, span_over};
 ghost use Rattle.tsa_tree.specs.statements.Spelling.{one_at};
+ghost use Rattle.tsa_tree.specs.statements.Syntax.{assignment, evaluation};
 ghost use Rattle.tsa_expr.specs.Gives.{Gives};
 ghost use Rattle.tsa_expr.specs.Source.{input, named};
 ghost use Rattle.tsa_unit_simple.specs.Outcomes.{simple_at, step_in};
 ghost use Rattle.tsa_unit_simple.specs.Readings.{kind_shape, seen_simple, simple_shape};
 
 use crate::signs::{assigns, step_of};
+use bumpalo::Bump;
 use tsa_base::Span;
+use tsa_decl_declarators::kept_in;
 use tsa_expr::{Reader, Reading, SyntaxRefusal};
 use tsa_tree::expr::{BinaryOp, Expr, ExprKind};
 use tsa_tree::sign::Sign;
 
-/// What a simple statement does.
+/// What a simple statement does. Its trees stand in the arena.
 #[derive(Clone, Copy)]
 pub enum SimpleKind<'a> {
-    Eval(Expr<'a>),
+    Eval(&'a Expr<'a>),
     Assign {
-        left: Expr<'a>,
+        left: &'a Expr<'a>,
         op: Option<BinaryOp>,
-        right: Expr<'a>,
+        right: &'a Expr<'a>,
     },
 }
 
@@ -47,6 +50,30 @@ fn one<'a>(reader: Reader<'_, '_>, at: u32) -> Expr<'a>
         kind,
         span: reader.span(at),
     }
+}
+
+/// The evaluation of an expression, which is kept in the arena.
+fn eval_in<'a>(bump: &'a Bump, tree: Expr<'a>) -> Result<SimpleKind<'a>, SyntaxRefusal>
+    ensures is { IfOk result (λ kind. kind_shape kind ≡ evaluation (shape tree.entry)) }
+    ensures memory { OnErr result (result ≡ Err SyntaxRefusal.NoMemory) }
+{
+    let kept = kept_in(bump, tree)?;
+    Ok(SimpleKind::Eval(kept))
+}
+
+/// An assignment, whose place and value are kept in the arena.
+fn assign_in<'a>(
+    bump: &'a Bump,
+    place: Expr<'a>,
+    op: Option<BinaryOp>,
+    value: Expr<'a>,
+) -> Result<SimpleKind<'a>, SyntaxRefusal>
+    ensures is { IfOk result (λ kind. kind_shape kind ≡ assignment (shape place.entry) op (shape value.entry)) }
+    ensures memory { OnErr result (result ≡ Err SyntaxRefusal.NoMemory) }
+{
+    let left = kept_in(bump, place)?;
+    let right = kept_in(bump, value)?;
+    Ok(SimpleKind::Assign { left, op, right })
 }
 
 /// The simple statement of a kind from a token up to before `next`.
@@ -77,11 +104,8 @@ pub fn read_simple<'a>(
     match step_of(sign) {
         Some(op) => {
             let operand = reader.operand(at + 1, depth)?;
-            let kind = SimpleKind::Assign {
-                left: operand.tree,
-                op: Some(op),
-                right: one(reader, at),
-            };
+            let step = one(reader, at);
+            let kind = assign_in(reader.bump, operand.tree, Some(op), step)?;
             Ok(spanned(reader, at, kind, operand.next))
         }
         None => {
@@ -106,23 +130,16 @@ fn behind_operand<'a>(
 {
     let sign = left.ahead;
     if let Some(op) = step_of(sign) {
-        let kind = SimpleKind::Assign {
-            left: left.tree,
-            op: Some(op),
-            right: one(reader, left.next),
-        };
+        let step = one(reader, left.next);
+        let kind = assign_in(reader.bump, left.tree, Some(op), step)?;
         return Ok(spanned(reader, left.start, kind, left.next + 1));
     }
     if let Some(op) = assigns(sign) {
         let right = reader.expression(left.next + 1, depth, 0)?;
-        let kind = SimpleKind::Assign {
-            left: left.tree,
-            op,
-            right: right.tree,
-        };
+        let kind = assign_in(reader.bump, left.tree, op, right.tree)?;
         return Ok(spanned(reader, left.start, kind, right.next));
     }
     let whole = reader.rest(depth, left)?;
-    let kind = SimpleKind::Eval(whole.tree);
+    let kind = eval_in(reader.bump, whole.tree)?;
     Ok(spanned(reader, left.start, kind, whole.next))
 }

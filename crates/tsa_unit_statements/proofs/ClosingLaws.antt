@@ -50,15 +50,15 @@ grown first middle ps h =
 numbered_on : (s : Stmt) (m n : ℕ) → m ≡ n → IsNumbered s.kind s.point s.span m → IsNumbered s.kind s.point s.span n
 numbered_on s m n e h = subst (λ n. IsNumbered s.kind s.point s.span n) e h
 
-pub while_pointed : (first middle last : List Point) (test : Expr) (number : ℕ) (body : Bor Stmt) (word span : Span)
+pub while_pointed : (first middle last : List Point) (test : Bor Expr) (number : ℕ) (body : Bor Stmt) (word span : Span)
     → IsOpened word first middle (head.While test number) → IsPointed middle last body.now
     → IsPointed first last (record { kind = kind.While test body; point = Some number; span = span })
 while_pointed first middle last test number body word span h k = (
-  one_ahead first middle last (point_of_test (shape test)) _ h.0 k.0,
+  one_ahead first middle last (point_of_test (shape test.now)) _ h.0 k.0,
   (ap Some h.1, numbered_on body.now _ _ (grown first middle _ h.0) k.1),
 )
 
-pub switch_pointed : (first middle last : List Point) (value : Expr) (number : ℕ) (body : Bor Stmt) (word span : Span)
+pub switch_pointed : (first middle last : List Point) (value : Bor Expr) (number : ℕ) (body : Bor Stmt) (word span : Span)
     → IsOpened word first middle (head.Switch value number) → IsPointed middle last body.now
     → IsPointed first last (record { kind = kind.Switch value body; point = Some number; span = span })
 switch_pointed first middle last value number body word span h k = (
@@ -78,7 +78,7 @@ step_count (Eval x) s h = refl
 step_count (Assign l o r) s h = refl
 step_count _ s h = absurd h
 
-for_numbered : (n number : ℕ) (init : Option (Bor Stmt)) (test : Option Expr) (step : Option (Bor Stmt)) (body : Bor Stmt) (span : Span)
+for_numbered : (n number : ℕ) (init : Option (Bor Stmt)) (test : Option (Bor Expr)) (step : Option (Bor Stmt)) (body : Bor Stmt) (span : Span)
     → IsPartAt init n → number ≡ n + length (points_of_init (init_seen init)) → IsStepAt step (number + 1)
     → IsNumbered body.now.kind body.now.point body.now.span (number + 1 + length (points_of_step (step_seen step)))
     → IsNumbered (kind.For init test step body) (Some number) span n
@@ -102,23 +102,23 @@ for_point : (word span : Span) (test : Option Expression) → span.from ≡ word
 for_point word span None e = ap (λ from. record { deed = tests None; span = record { from = from; to = from + 3 } }) (sym e)
 for_point word span (Some x) e = refl
 
-pub for_pointed : (first middle last : List Point) (init : Option (Bor Stmt)) (test : Option Expr) (number : ℕ) (step : Option (Bor Stmt)) (body : Bor Stmt)
+pub for_pointed : (first middle last : List Point) (init : Option (Bor Stmt)) (test : Option (Bor Expr)) (number : ℕ) (step : Option (Bor Stmt)) (body : Bor Stmt)
     (word span : Span) → span.from ≡ word.from → IsOpened word first middle (head.For init test number step) → IsPointed middle last body.now
     → IsPointed first last (record { kind = kind.For init test step body; point = Some number; span = span })
 for_pointed first middle last init test number step body word span f h k =
     let before = points_of_init (init_seen init) in
     let after = points_of_step (step_seen step) in
     let inner = points_of (stmt_shape body.now.kind body.now.span) in
-    let point = point_of_for word (option_map shape test) in
+    let point = point_of_for word (option_map (λ x. shape x.now) test) in
     let counted : length middle ≡ length first + length (before ++ point ∷ after) = grown first middle (before ++ point ∷ after) h.0 in
     let apart : length (before ++ point ∷ after) ≡ length before + length (point ∷ after) = length-append before (point ∷ after) in (
       shaped init step (k.0 ∙ ap (λ ps. ps ++ inner) h.0 ∙ append-append (map point_shape first) (before ++ point ∷ after) inner
-          ∙ ap (λ ps. map point_shape first ++ ps) (append-append before (point ∷ after) inner ∙ ap (λ p. before ++ p ∷ (after ++ inner)) (for_point word span (option_map shape test) f))),
+          ∙ ap (λ ps. map point_shape first ++ ps) (append-append before (point ∷ after) inner ∙ ap (λ p. before ++ p ∷ (after ++ inner)) (for_point word span (option_map (λ x. shape x.now) test) f))),
       for_numbered (length first) number init test step body span h.1 h.2 h.3 (numbered_on body.now _ _ (omega (arith, counted, apart, h.2)) k.1),
     )
   where
     shaped : (i s : Option (Bor Stmt))
-        → map point_shape last ≡ map point_shape first ++ (points_of_init (init_seen i) ++ point_of_for span (option_map shape test) ∷ (points_of_step (step_seen s) ++ points_of (stmt_shape body.now.kind body.now.span)))
+        → map point_shape last ≡ map point_shape first ++ (points_of_init (init_seen i) ++ point_of_for span (option_map (λ x. shape x.now) test) ∷ (points_of_step (step_seen s) ++ points_of (stmt_shape body.now.kind body.now.span)))
         → map point_shape last ≡ map point_shape first ++ points_of (stmt_shape (kind.For i test s body) span)
     shaped None None q = q
     shaped None (Some y) q = q
@@ -146,7 +146,7 @@ if_pointed first middle between last marked arm None span h k o =
     (one_ahead first middle between _ _ h.0 k.0, (ap Some h.1, numbered_on arm.now _ _ (grown first middle _ h.0) k.1, tt))
 if_pointed first middle between last marked arm (Some s) span h k o =
     let inner = points_of (stmt_shape arm.now.kind arm.now.span) in
-    let point = point_of_test (shape marked.test) in
+    let point = point_of_test (shape marked.test.now) in
     let counted : length middle ≡ length first + 1 = grown first middle (point ∷ []) h.0 in
     let further : length between ≡ length middle + length inner = grown middle between inner k.0 in (
       o.0 ∙ ap (λ ps. ps ++ points_of (stmt_shape s.now.kind s.now.span)) (one_ahead first middle between point inner h.0 k.0)
@@ -154,17 +154,17 @@ if_pointed first middle between last marked arm (Some s) span h k o =
       (ap Some h.1, numbered_on arm.now _ _ counted k.1, numbered_on s.now _ _ (omega (arith, counted, further)) o.1),
     )
 
-pub if_shaped : (test : Expr) (arm : Bor Stmt) (other : Option (Bor Stmt)) (span : Span)
-    → stmt_shape (kind.If test arm other) span ≡ if_with (shape test) arm.now other span
+pub if_shaped : (test : Bor Expr) (arm : Bor Stmt) (other : Option (Bor Stmt)) (span : Span)
+    → stmt_shape (kind.If test arm other) span ≡ if_with (shape test.now) arm.now other span
 if_shaped test arm None span = refl
 if_shaped test arm (Some s) span = refl
 
 -- a `do` with its test
-pub do_pointed : (first middle last : List Point) (body : Bor Stmt) (test : Expr) (number : ℕ) (span : Span) → IsPointed first middle body.now
-    → map point_shape last ≡ map point_shape middle ++ point_of_test (shape test) ∷ [] → number ≡ length middle
+pub do_pointed : (first middle last : List Point) (body : Bor Stmt) (test : Bor Expr) (number : ℕ) (span : Span) → IsPointed first middle body.now
+    → map point_shape last ≡ map point_shape middle ++ point_of_test (shape test.now) ∷ [] → number ≡ length middle
     → IsPointed first last (record { kind = kind.DoWhile body test; point = Some number; span = span })
 do_pointed first middle last body test number span h k e = (
-  k ∙ ap (λ ps. ps ++ point_of_test (shape test) ∷ []) h.0 ∙ append-append (map point_shape first) (points_of (stmt_shape body.now.kind body.now.span)) _,
+  k ∙ ap (λ ps. ps ++ point_of_test (shape test.now) ∷ []) h.0 ∙ append-append (map point_shape first) (points_of (stmt_shape body.now.kind body.now.span)) _,
   (h.1, ap Some (e ∙ grown first middle _ h.0)),
 )
 

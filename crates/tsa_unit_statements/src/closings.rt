@@ -109,7 +109,7 @@ pub fn if_with_arms<'a>(
 ) -> Read<'a>
     requires { 0 < arms.next }
     ensures is { seen_statement result ≡ (
-      if_with (shape marked.entry.test) arms.entry.yes.now arms.entry.no
+      if_with (shape marked.entry.test.now) arms.entry.yes.now arms.entry.no
           (span_over (input reader.entry) start arms.entry.next),
       arms.entry.next,
     ) }

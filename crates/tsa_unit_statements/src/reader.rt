@@ -237,7 +237,7 @@ fn arms<'a>(
     points: &mut Vec<Point<'a>>,
 ) -> Result<Read<'a>, SyntaxRefusal>
     ensures gives { Gives seen_statement result
-        (arms_at (input source.entry.reader) (named source.entry.reader) depth start (shape marked.entry.test) marked.entry.next) }
+        (arms_at (input source.entry.reader) (named source.entry.reader) depth start (shape marked.entry.test.now) marked.entry.next) }
     ensures pointed { IfOk result (λ r. (first : List point_type) → IsMarked first points.old.items marked.entry
         → IsPointed first points.new.items r.stmt) }
     ensures ends { IfOk result (λ r. (marked.entry.next < r.next) × (r.next ≤ length source.entry.reader.tokens.now)) }

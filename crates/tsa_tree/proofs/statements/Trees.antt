@@ -62,18 +62,18 @@ pub block_at : (x : Stmt) (items : Bor (List Stmt)) → x.kind ≡ kind.Block it
 block_at x items is = ap (λ k. stmt_shape k x.span) is ∙ shape-block items x.span
 
 -- a `for` with the parts that may be left out
-pub for_at : (x : Stmt) (init : Option (Bor Stmt)) (test : Option Expr) (step : Option (Bor Stmt)) (body : Bor Stmt) → x.kind ≡ kind.For init test step body
-    → shape_of x ≡ for_loop (init_given init) (option_map shape test) (step_given step) (shape_of body.now) x.span
+pub for_at : (x : Stmt) (init : Option (Bor Stmt)) (test : Option (Bor Expr)) (step : Option (Bor Stmt)) (body : Bor Stmt) → x.kind ≡ kind.For init test step body
+    → shape_of x ≡ for_loop (init_given init) (option_map (λ x. shape x.now) test) (step_given step) (shape_of body.now) x.span
 for_at x init test step body is = ap (λ k. stmt_shape k x.span) is ∙ parts init step
   where
     parts : (i s : Option (Bor Stmt)) → stmt_shape (kind.For i test s body) x.span
-        ≡ for_loop (init_given i) (option_map shape test) (step_given s) (shape_of body.now) x.span
+        ≡ for_loop (init_given i) (option_map (λ x. shape x.now) test) (step_given s) (shape_of body.now) x.span
     parts None None = refl
     parts None (Some s) = refl
     parts (Some i) None = refl
     parts (Some i) (Some s) = refl
 
 -- an `if` with an `else`
-pub else_at : (x : Stmt) (test : Expr) (arm other : Bor Stmt) (given : Option (Bor Stmt)) → x.kind ≡ kind.If test arm given → given ≡ Some other
-    → shape_of x ≡ if_else (shape test) (shape_of arm.now) (shape_of other.now) x.span
+pub else_at : (x : Stmt) (test : Bor Expr) (arm other : Bor Stmt) (given : Option (Bor Stmt)) → x.kind ≡ kind.If test arm given → given ≡ Some other
+    → shape_of x ≡ if_else (shape test.now) (shape_of arm.now) (shape_of other.now) x.span
 else_at x test arm other given is some = ap (λ k. stmt_shape k x.span) is ∙ ap (λ g. stmt_shape (kind.If test arm g) x.span) some

@@ -22,14 +22,14 @@ use Rattle.tsa_tree.specs.statements.Syntax.{otherwise, label, break, continue, 
 
 -- a statement that is the first or the third part of a `for`: neither has a `;` of its own
 abbrev pub init_of : StmtKind → Span → ForInit
-init_of (Local d) span = local_init (decl_shape d)
-init_of (Eval x) span = simple_init (evaluation (shape x) span)
-init_of (Assign left op right) span = simple_init (assignment (shape left) op (shape right) span)
+init_of (Local d) span = local_init (decl_shape d.now)
+init_of (Eval x) span = simple_init (evaluation (shape x.now) span)
+init_of (Assign left op right) span = simple_init (assignment (shape left.now) op (shape right.now) span)
 init_of kind span = no_init
 
 abbrev pub step_of : StmtKind → Span → Option Simple
-step_of (Eval x) span = Some (evaluation (shape x) span)
-step_of (Assign left op right) span = Some (assignment (shape left) op (shape right) span)
+step_of (Eval x) span = Some (evaluation (shape x.now) span)
+step_of (Assign left op right) span = Some (assignment (shape left.now) op (shape right.now) span)
 step_of kind span = None
 
 abbrev pub init_held : Held-StmtKind-If-2 → ForInit
@@ -53,22 +53,22 @@ abbrev mutual
   pub stmt_shape : StmtKind → Span → Statement
   stmt_shape (Block' pointer count row) span = block (stmt_row_shape row) span
   stmt_shape Empty span = empty span
-  stmt_shape (Local d) span = local (decl_shape d)
-  stmt_shape (Eval x) span = simple (evaluation (shape x) span)
-  stmt_shape (Assign left op right) span = simple (assignment (shape left) op (shape right) span)
-  stmt_shape (If' test pointer arm point arm_span other) span = if_shape (shape test) (stmt_shape arm arm_span) other span
-  stmt_shape (While' test pointer body point body_span) span = while_loop (shape test) (stmt_shape body body_span) span
-  stmt_shape (DoWhile' pointer body point body_span test) span = do_loop (stmt_shape body body_span) (shape test) span
+  stmt_shape (Local d) span = local (decl_shape d.now)
+  stmt_shape (Eval x) span = simple (evaluation (shape x.now) span)
+  stmt_shape (Assign left op right) span = simple (assignment (shape left.now) op (shape right.now) span)
+  stmt_shape (If' test pointer arm point arm_span other) span = if_shape (shape test.now) (stmt_shape arm arm_span) other span
+  stmt_shape (While' test pointer body point body_span) span = while_loop (shape test.now) (stmt_shape body body_span) span
+  stmt_shape (DoWhile' pointer body point body_span test) span = do_loop (stmt_shape body body_span) (shape test.now) span
   stmt_shape (For' init test step pointer body point body_span) span =
-      for_loop (init_held init) (option_map shape test) (step_held step) (stmt_shape body body_span) span
-  stmt_shape (Switch' value pointer body point body_span) span = switch (shape value) (stmt_shape body body_span) span
-  stmt_shape (Case' value pointer body point body_span) span = case (shape value) (stmt_shape body body_span) span
+      for_loop (init_held init) (option_map (λ x. shape x.now) test) (step_held step) (stmt_shape body body_span) span
+  stmt_shape (Switch' value pointer body point body_span) span = switch (shape value.now) (stmt_shape body body_span) span
+  stmt_shape (Case' value pointer body point body_span) span = case (shape value.now) (stmt_shape body body_span) span
   stmt_shape (Otherwise' pointer body point body_span) span = otherwise (stmt_shape body body_span) span
   stmt_shape (Label' name pointer body point body_span) span = label (name_shape name) (stmt_shape body body_span) span
   stmt_shape Break span = break span
   stmt_shape Continue span = continue span
   stmt_shape (Goto name) span = goto (name_shape name) span
-  stmt_shape (Return x) span = return (option_map shape x) span
+  stmt_shape (Return x) span = return (option_map (λ x. shape x.now) x) span
 
   if_shape : Expression → Statement → Held-StmtKind-If-2 → Span → Statement
   if_shape test arm None' span = if_alone test arm span
@@ -106,7 +106,7 @@ counted_held (Some' pointer kind point span) = counted kind span
 
 -- what may be the first part of a `for`: the span of a local is that of its declaration (C11 6.8.5.3)
 abbrev pub MayBeFirst : StmtKind → Span → Type 0
-MayBeFirst (Local d) span = span ≡ d.span
+MayBeFirst (Local d) span = span ≡ d.now.span
 MayBeFirst (Eval x) span = Unit {0}
 MayBeFirst (Assign left op right) span = Unit {0}
 MayBeFirst kind span = ⊥
@@ -131,7 +131,7 @@ abbrev mutual
   pub IsNumbered : StmtKind → (point : Option ℕ) → Span → (n : ℕ) → Type 0
   IsNumbered (Block' pointer count row) point span n = (point ≡ None) × AreNumberedInRow row n
   IsNumbered Empty point span n = point ≡ Some n
-  IsNumbered (Local d) point span n = (point ≡ Some n) × (span ≡ d.span)
+  IsNumbered (Local d) point span n = (point ≡ Some n) × (span ≡ d.now.span)
   IsNumbered (Eval x) point span n = point ≡ Some n
   IsNumbered (Assign left op right) point span n = point ≡ Some n
   IsNumbered (If' test pointer arm arm_point arm_span other) point span n =

@@ -14,10 +14,10 @@ use Rattle.tsa_types_simple.proofs.leaves.simple.Goals as goal
 pub returns-in_ok-right-in-Assign-clause-judged : goal.returns-in_ok-right-in-Assign-clause-judged
 returns-in_ok-right-in-Assign-clause-judged c =
     let known = context_of c.args.view.scope.now in
-    let target : Target = record { span = c.in-Assign.left.span; found = c.in_ok-found-in-Assign.found } in
+    let target : Target = record { span = c.in-Assign.left.now.span; found = c.in_ok-found-in-Assign.found } in
     c.assignment_failure.ensures
     ∙ ap (assigned c.in-Assign.op c.args.stmt.now.span target) c.in_ok-right-in-Assign.ensures.judged
-    ∙ assignment_is known c.in-Assign.left c.in-Assign.op (shape c.in-Assign.right) c.args.stmt.now.span target refl c.in_ok-found-in-Assign.ensures.judged
+    ∙ assignment_is known c.in-Assign.left.now c.in-Assign.op (shape c.in-Assign.right.now) c.args.stmt.now.span target refl c.in_ok-found-in-Assign.ensures.judged
     ∙ sym (ap (λ k. first (alone_premises c.args.view.scope.now (stmt_shape k c.args.stmt.now.span))) c.in-Assign.is)
 
 pub returns-in_default-clause-judged : goal.returns-in_default-clause-judged

@@ -6,7 +6,7 @@ use Rattle.tsa_unit_simple.proofs.parts.declare.Goals as goal
 -- src/parts.rt:218:5
 pub locals-preserved : goal.locals-preserved
 locals-preserved c = record {
-  listed = c.locals.invariant.listed ∙ locals_one _ _ _ _ _ _ c.locals-test.true (refl, refl) c.in_ok-local.ensures.listed;
+  listed = c.locals.invariant.listed ∙ locals_one _ _ _ _ _ _ c.locals-test.true refl c.in_ok-local.ensures.listed;
   pointed = λ start h. subst (ArePointed start c.local.new.points.items) (sym c.in_ok-local.ensures.listed) (pushed start _ _ _ _ (c.locals.invariant.pointed start h) c.in_ok-local.ensures.pointed);
 }
 

@@ -87,12 +87,10 @@ put-returns-in-Block t c =
 pub put-returns-in-For : goal.put-returns-in-For
 put-returns-in-For t c =
     let span = c.args.stmt.now.span in
-    let inner = shape_of c.in-For.body.now in
     lemmas.whole_for c.args.self (shape_of c.args.stmt.now)
-    (for_loop (init_given c.in-For.init) (option_map (λ x. shape x.now) c.as_ref-test.result) (step_given c.in-For.step) inner span) c.put_for.result c.args.ahead.now c.put_for.new.ahead
-    (for_at c.args.stmt.now c.in-For.init c.in-For.test c.in-For.step c.in-For.body c.in-For.is
-    ∙ ap (λ x. for_loop (init_given c.in-For.init) x (step_given c.in-For.step) inner span)
-    (sym (lemmas.test_shapes c.as_ref-test.result ∙ ap (option_map shape) c.as_ref-test.ensures.value)))
+    (for_loop (init_given c.in-For.init) (option_map (λ x. shape x.now) c.in-For.test) (step_given c.in-For.step) (shape_of c.in-For.body.now) span)
+    c.put_for.result c.args.ahead.now c.put_for.new.ahead
+    (for_at c.args.stmt.now c.in-For.init c.in-For.test c.in-For.step c.in-For.body c.in-For.is)
     (IfOk-weaker c.put_for.result _ _ (λ s h. h span) c.put_for.ensures)
 
 pub put-returns-in_ok-put_case-in-Case : goal.put-returns-in_ok-put_case-in-Case
@@ -121,21 +119,21 @@ pub put-returns-in-Local : goal.put-returns-in-Local
 put-returns-in-Local t c =
     let new = c.put_next-in-Local.new.ahead in
     subst (λ k. IfOk c.put_next-in-Local.result (λ s. IsPut c.args.self (stmt_shape k c.args.stmt.now.span) s c.args.ahead.now new)) (sym c.in-Local.is)
-    (lemmas.leaf c.args.self (local (decl_shape c.in-Local.field-0)) c.put_next-in-Local.result c.args.self.follow c.args.ahead.now new
+    (lemmas.leaf c.args.self (local (decl_shape c.in-Local.field-0.now)) c.put_next-in-Local.result c.args.self.follow c.args.ahead.now new
     (λ s a f q. lemmas.put_local c.args.self c.args.ahead.now new s a f _ q) c.put_next-in-Local.ensures.at c.put_next-in-Local.ensures.first c.put_next-in-Local.ensures.put)
 
 pub put-returns-in-Eval : goal.put-returns-in-Eval
 put-returns-in-Eval t c =
     let new = c.put_next-in-Eval.new.ahead in
     subst (λ k. IfOk c.put_next-in-Eval.result (λ s. IsPut c.args.self (stmt_shape k c.args.stmt.now.span) s c.args.ahead.now new)) (sym c.in-Eval.is)
-    (lemmas.leaf c.args.self (simple (evaluation (shape c.in-Eval.field-0) c.args.stmt.now.span)) c.put_next-in-Eval.result c.args.self.follow c.args.ahead.now new
+    (lemmas.leaf c.args.self (simple (evaluation (shape c.in-Eval.field-0.now) c.args.stmt.now.span)) c.put_next-in-Eval.result c.args.self.follow c.args.ahead.now new
     (λ s a f q. lemmas.put_simple c.args.self c.args.ahead.now new s a f _ q) c.put_next-in-Eval.ensures.at c.put_next-in-Eval.ensures.first c.put_next-in-Eval.ensures.put)
 
 pub put-returns-in-Assign : goal.put-returns-in-Assign
 put-returns-in-Assign t c =
     let new = c.put_next-in-Assign.new.ahead in
     subst (λ k. IfOk c.put_next-in-Assign.result (λ s. IsPut c.args.self (stmt_shape k c.args.stmt.now.span) s c.args.ahead.now new)) (sym c.in-Assign.is)
-    (lemmas.leaf c.args.self (simple (assignment (shape c.in-Assign.left) c.in-Assign.op (shape c.in-Assign.right) c.args.stmt.now.span)) c.put_next-in-Assign.result c.args.self.follow c.args.ahead.now new
+    (lemmas.leaf c.args.self (simple (assignment (shape c.in-Assign.left.now) c.in-Assign.op (shape c.in-Assign.right.now) c.args.stmt.now.span)) c.put_next-in-Assign.result c.args.self.follow c.args.ahead.now new
     (λ s a f q. lemmas.put_simple c.args.self c.args.ahead.now new s a f _ q) c.put_next-in-Assign.ensures.at c.put_next-in-Assign.ensures.first c.put_next-in-Assign.ensures.put)
 
 pub put-returns-in-Break : goal.put-returns-in-Break
@@ -166,5 +164,5 @@ pub put-returns-in-Return : goal.put-returns-in-Return
 put-returns-in-Return t c =
     let old = c.args.ahead.now in
     subst (λ k. IfOk c.one_point.result (λ s. IsPut c.args.self (stmt_shape k c.args.stmt.now.span) s old old)) (sym c.in-Return.is)
-    (lemmas.last_leaf c.args.self (return (option_map shape c.in-Return.field-0) c.args.stmt.now.span) c.one_point.result old
+    (lemmas.last_leaf c.args.self (return (option_map (λ x. shape x.now) c.in-Return.field-0) c.args.stmt.now.span) c.one_point.result old
     (λ s a f. lemmas.put_return c.args.self old old s a f _ _ refl) c.one_point.ensures.at c.one_point.ensures.first)
