@@ -10,6 +10,7 @@ pub record LimitsAreAsWritten : Type 0 where
   pub functions : limit.FUNCTION_LIMIT ≡ 1024
   pub places : limit.PLACE_LIMIT ≡ 65536
   pub tries : limit.TRY_LIMIT ≡ 48
+  pub pending : limit.PENDING_LIMIT ≡ 54
   pub threads : limit.THREAD_LIMIT ≡ 64
   pub turns : limit.TURN_LIMIT ≡ 100000
   pub frames : limit.FRAME_LIMIT ≡ 256

@@ -19,8 +19,8 @@ pub use laws::{
     tokens_are_as_written,
 };
 pub use limits::{
-    CAPABILITY_LIMIT, FRAME_LIMIT, FUNCTION_LIMIT, INPUT_LIMIT, NESTING_LIMIT, PLACE_LIMIT,
-    POINT_LIMIT, THREAD_LIMIT, TRY_LIMIT, TURN_LIMIT,
+    CAPABILITY_LIMIT, FRAME_LIMIT, FUNCTION_LIMIT, INPUT_LIMIT, NESTING_LIMIT, PENDING_LIMIT,
+    PLACE_LIMIT, POINT_LIMIT, THREAD_LIMIT, TRY_LIMIT, TURN_LIMIT,
 };
 pub use memory::{MemorySink, MemorySource};
 pub use places::{LineStarts, Place};

@@ -8,7 +8,7 @@ ghost use Rattle.tsa_flow_solver.specs.Rows.{AreRising, set_at};
 
 use crate::lanes::Lanes;
 use crate::row::Row;
-use tsa_base::NoMemory;
+use tsa_base::{NoMemory, PENDING_LIMIT};
 use tsa_graph::Block;
 use tsa_graph_edges::Outcome;
 use tsa_rules::{Asked, Role, Status, Statuses};
@@ -26,7 +26,7 @@ fn is_unseen(asked: Asked, set: Statuses) -> bool
 {
     match asked {
         Asked::Call => false,
-        Asked::Variable(variable) => variable < 54 && set.has(Status::Pending(variable)),
+        Asked::Variable(variable) => variable < PENDING_LIMIT && set.has(Status::Pending(variable)),
     }
 }
 

@@ -15,7 +15,7 @@ use crate::filling::{Origin, next_place};
 use crate::refusal::PlaceRefusal;
 use std::alloc::Global;
 use std::marker::Model;
-use tsa_base::NoMemory;
+use tsa_base::{NoMemory, PLACE_LIMIT};
 use tsa_place_layout::{Layout, Part, Structures, define_struct};
 use tsa_place_model::{Holder, Placed};
 use tsa_tree::decl::Init;
@@ -162,7 +162,7 @@ impl Globals {
         ensures { Adds scope.now part (option_map (λ x. init_shape x.now) init.entry) self.old self.new result }
     {
         let start = next_place(&self.places)?;
-        if u64::from(start) + u64::from(self.structs.thing_size(part.thing)) > 65536 {
+        if u64::from(start) + u64::from(self.structs.thing_size(part.thing)) > PLACE_LIMIT as u64 {
             return Err(PlaceRefusal::TooMany { span: part.span });
         }
         let from = self.next(&part, init)?;

@@ -8,14 +8,14 @@ ghost use Rattle.tsa_place_layout.specs.Tables.{begins_from, IsKept};
 use crate::parts::Part;
 use std::alloc::Global;
 use std::marker::Model;
-use tsa_base::NoMemory;
+use tsa_base::{NoMemory, PLACE_LIMIT};
 use tsa_tree::kind::{Kind, ThingType};
 
 /// A count that stops.
 fn few(count: u64) -> u32
     ensures { result ≡ capped count }
 {
-    if count < 65537 { count as u32 } else { 65537 }
+    count.min(PLACE_LIMIT as u64 + 1) as u32
 }
 
 /// A struct: whether it is a lock, its members in order, how far behind the first place of them each begins, and how many places an object

@@ -4,7 +4,7 @@ ghost use Rattle.tsa_place_model.specs.LockPaths.{is_address as spec_is_address,
 ghost use Rattle.tsa_tree.specs.expressions.Shapes.{shape};
 
 use crate::leads::{Led, in_range, meant};
-use tsa_base::NoMemory;
+use tsa_base::{NoMemory, PLACE_LIMIT};
 use tsa_place_model::{Path, PathStep, Root};
 use tsa_tree::expr::{Expr, ExprKind, UnaryOp};
 use tsa_tree::kind::{Kind, ThingType};
@@ -267,7 +267,7 @@ impl<'w, 'a> Sight<'w, 'a> {
     fn constant_argument(self, value: Option<Number>) -> Result<Option<Path>, NoMemory>
         ensures { IfOk result (λ path. path ≡ spec_constant_argument value) }
     {
-        match in_range(65_536, value) {
+        match in_range(PLACE_LIMIT as u32, value) {
             Some(step) => Ok(Some(self.root(Root::Owner).onward(step)?)),
             None => Ok(None),
         }

@@ -16,7 +16,7 @@ ghost use Rattle.tsa_tree.specs.types.Scopes.{further};
 ghost use Rattle.tsa_tree.specs.types.Targets.{declared_in_all};
 ghost use Rattle.tsa_place_model.specs.LockPaths.{stable_in};
 
-use tsa_base::{NoMemory, Span};
+use tsa_base::{NoMemory, Span, TRY_LIMIT};
 use tsa_core_points::{Step, Walk, body_steps};
 use tsa_path::PathTable;
 use tsa_profile_accesses::{Failure, NamedLock, NamedLocks, ProfileCode};
@@ -141,7 +141,7 @@ pub fn judge_body<'a>(
     let steps = body_steps(known.scope.allocator(), body, inner.close)?;
     let found = along(ground, known, inner, &steps)?;
     answer_of(found.failure)?;
-    let passes_tries = limit(found.tries > 48, ProfileCode::LM7, inner.name);
+    let passes_tries = limit(found.tries as usize > TRY_LIMIT, ProfileCode::LM7, inner.name);
     let passes_paths = limit(found.paths.is_none(), ProfileCode::LM4, inner.name);
     known.tries = or_else(known.tries, passes_tries);
     known.paths = or_else(known.paths, passes_paths);

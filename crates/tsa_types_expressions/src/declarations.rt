@@ -10,7 +10,7 @@ ghost use Rattle.tsa_types_expressions.specs.Lengths.{told_of as spec_told_of, n
 use crate::constants::Found;
 use crate::expressions::View;
 use crate::verdicts::at;
-use tsa_base::{NoMemory, Span};
+use tsa_base::{NoMemory, PLACE_LIMIT, Span};
 use tsa_tree::decl::{BaseType, CType};
 use tsa_tree::expr::Expr;
 use tsa_tree::kind::{Declaring, Kind, Resolved, ThingType};
@@ -109,7 +109,7 @@ fn declared_as(pointer: bool, is_const: bool, base: Resolved) -> Resolved
 fn as_length(value: u32) -> Option<u32>
     ensures { result ≡ spec_as_length value }
 {
-    if 1 <= value && value <= 65536 {
+    if 1 <= value && value as usize <= PLACE_LIMIT {
         Some(value)
     } else {
         None
