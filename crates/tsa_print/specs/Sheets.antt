@@ -1,5 +1,5 @@
 -- What stands on a sheet, and what is put on it piece by piece.
-use Rattle.std.specs.Prelude.{ℕ, ◌-◌, List, [], ◌∷◌, ◌++◌, Bool, Some, None, codes, if◌then◌else◌}
+use Rattle.std.specs.Prelude.{ℕ, ◌-◌, List, [], ◌∷◌, ◌++◌, Bool, Some, None, codes, vec_len, if◌then◌else◌}
 use Rattle.std.specs.Borrow.{Bor}
 use Rattle.std.specs.declared.option.Option.{Option}
 use Rattle.tsa_tree.specs.declared.stmt.Stmt.{Stmt}
@@ -21,7 +21,7 @@ pub record Page : Type 0 where
   pub behind : Behind
 
 abbrev pub page_of : Sheet → Page
-page_of sheet = record { text = sheet.text.items; levels = sheet.levels; behind = sheet.behind }
+page_of sheet = record { text = sheet.text.items; levels = vec_len sheet.opened; behind = sheet.behind }
 
 -- what stands before a piece that closes a block or a struct or not, and that binds left or not
 abbrev pub lead_by : ℕ → Behind → (closes joins : Bool) → List ℕ

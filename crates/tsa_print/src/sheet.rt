@@ -1,5 +1,5 @@
 //! The sheet on which canonical text is written, token by token.
-ghost use Rattle.std.specs.Prelude.{◌≡◌, ◌++◌, [], OnOk, IfOk, false};
+ghost use Rattle.std.specs.Prelude.{◌≡◌, ◌++◌, [], OnOk, false, vec_len};
 ghost use Rattle.tsa_print.specs.declared.sheet.Behind.TheVariants.{LineStart};
 ghost use Rattle.tsa_tree.specs.expressions.Shapes.{shape};
 ghost use Rattle.tsa_print.specs.Canonical.{word, numeral, quoted, assigned, assign_text, mark, pieces};
@@ -20,42 +20,46 @@ pub enum Behind {
     Loose,
 }
 
-/// A text, how many blocks and structs are open after it, and what its next token stands after.
+/// A text, the tokens that opened the blocks and structs that are open after it, and what its next token stands after.
 #[derive(Drop)]
 pub struct Sheet {
     pub text: Vec<u8>,
-    pub levels: u32,
+    pub opened: Vec<Mark>,
     pub behind: Behind,
 }
+
+/// How many blocks and structs are indented at once.
+const STEP: usize = 128;
 
 const BLANKS: [u8; 256] = [b' '; 256];
 
 // Appends two blanks for each open block or struct. Most tokens begin no line, so it stands apart from what puts them.
 #[inline(never)]
 #[tactic(auto, using(crate::proofs::Pages::indents))]
-fn indent(text: &mut Vec<u8>, levels: u32) -> Result<(), NoMemory>
+fn indent(text: &mut Vec<u8>, levels: usize) -> Result<(), NoMemory>
     ensures { OnOk result (text.new.items ≡ text.old.items ++ indentation levels) }
 {
-    let mut left = 2 * levels as usize;
+    let mut left = levels;
     'blanks: while left > 0 {
-        let part = left.min(BLANKS.len());
-        text.extend_from_slice(&BLANKS[..part])?;
+        let part = left.min(STEP);
+        text.extend_from_slice(&BLANKS[..2 * part])?;
         left -= part;
     }
     Ok(())
 }
 
-// How many blocks and structs are open after a token.
-fn levels_behind(levels: u32, token: Mark) -> Result<u32, NoMemory>
-    ensures { IfOk result (λ n. n ≡ levels_behind levels (mark token)) }
+// Notes what a token opens or closes.
+fn note_level(opened: &mut Vec<Mark>, token: Mark) -> Result<(), NoMemory>
+    ensures { OnOk result (vec_len opened.new ≡ levels_behind (vec_len opened.old) (mark token)) }
 {
     if token.opens_level() {
-        return levels.checked_add(1).ok_or(NoMemory);
+        opened.push(token)?;
+        return Ok(());
     }
     if token.closes_level() {
-        return Ok(levels.saturating_sub(1));
+        let _ = opened.pop();
     }
-    Ok(levels)
+    Ok(())
 }
 
 fn kind_behind(token: Mark) -> Behind
@@ -88,25 +92,21 @@ impl Sheet {
     {
         Sheet {
             text: Vec::new(alloc),
-            levels: 0,
+            opened: Vec::new(alloc),
             behind: Behind::LineStart,
         }
     }
 
     // Appends what stands before a token that closes a block or struct or not, and before which no blank stands or may.
     fn begin(&mut self, closes: bool, joins: bool) -> Result<(), NoMemory>
-        ensures text { OnOk result (self.new.text.items ≡ self.old.text.items ++ lead_by self.old.levels self.old.behind closes joins) }
-        ensures levels { self.new.levels ≡ self.old.levels }
+        ensures text { OnOk result (self.new.text.items ≡ self.old.text.items ++ lead_by (vec_len self.old.opened) self.old.behind closes joins) }
+        ensures opened { vec_len self.new.opened ≡ vec_len self.old.opened }
         ensures behind { self.new.behind ≡ self.old.behind }
     {
         match self.behind {
             Behind::LineStart => {
-                let levels = if closes {
-                    self.levels.saturating_sub(1)
-                } else {
-                    self.levels
-                };
-                indent(&mut self.text, levels)
+                let closed = usize::from(closes);
+                indent(&mut self.text, self.opened.len().saturating_sub(closed))
             }
             Behind::Tight => Ok(()),
             Behind::Loose => append_if(&mut self.text, !joins, b" "),
@@ -121,7 +121,7 @@ impl Sheet {
         self.begin(token.closes_level(), token.binds_left())?;
         self.text.extend_from_slice(token.text())?;
         append_if(&mut self.text, token.ends_line(), b"\n")?;
-        self.levels = levels_behind(self.levels, token)?;
+        note_level(&mut self.opened, token)?;
         self.behind = kind_behind(token);
         Ok(())
     }
