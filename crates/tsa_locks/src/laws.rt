@@ -2,6 +2,8 @@
 ghost use Rattle.tsa_locks.specs.Examples.{TakingsAreAsWritten};
 ghost use Rattle.tsa_locks.specs.Laws.{HoldsChange, LocksAreTakenWhereTheyCanBe};
 ghost use Rattle.tsa_locks.specs.Sameness.{LocksAreTheirHolds};
+ghost use Rattle.tsa_locks.specs.TableLocks.{TheTableIsTheLocks};
+ghost use Rattle.tsa_locks.specs.TableStates.{TheTableIsTheState};
 
 /// Whoever takes a lock holds it once more, and whoever gives it back once less; nobody else's holds change. Who is in the way holds the
 /// lock.
@@ -26,4 +28,16 @@ pub fn locks_are_their_holds()
 #[tactic(auto, using(crate::proofs::LockExamples::as_written))]
 pub fn takings_are_as_written()
     ensures { TakingsAreAsWritten }
+{}
+
+/// What the calls of a table do to a lock is what the machine does to it: who holds it, in which mode and how often, and who is in the way.
+#[tactic(auto, using(crate::proofs::TableLocks::the_table_is_the_locks))]
+pub fn the_table_is_the_locks()
+    ensures { TheTableIsTheLocks }
+{}
+
+/// And they leave every other lock of a state as it was.
+#[tactic(auto, using(crate::proofs::TableStates::the_table_is_the_state))]
+pub fn the_table_is_the_state()
+    ensures { TheTableIsTheState }
 {}
