@@ -24,21 +24,22 @@ use Rattle.tsa_flow_solver.proofs.Standing.{at_place, is_passed}
 use Rattle.tsa_flow_solver.proofs.LongerWalks.{at_start, walks, walks_carried}
 
 -- nothing comes of nothing
-none_carried : (cases : ℕ → Case) (b : Block) (set : Statuses) → ((s : Status) → Has set s → ⊥) → (i : ℕ) (s : Status) → Carried cases b set i s → ⊥
+pub none_carried : (cases : ℕ → Case) (b : Block) (set : Statuses) → ((s : Status) → Has set s → ⊥) → (i : ℕ) (s : Status) → Carried cases b set i s → ⊥
 none_carried cases b set none zero s x = none s x
 none_carried cases b set none (suc i) s (t, (x, e)) = none_carried cases b set none i t x
 
 module _ (entry : Status) (cases : ℕ → Case) (r : Blocks) (rows : List Statuses) (work : List ℕ) (begun : HaveBegun entry r rows work) where
-  -- at the beginning the block of the first point waits, and all others make nothing of nothing
+  -- at the beginning the block of the first point waits, and no other has statuses
+  pub waiting_or_none : (first : Option Place) → slice_get r.places.items 0 ≡ first → (c : ℕ) → Contains work c ⊎ ((s : Status) → Has (set_at rows c) s → ⊥)
+  waiting_or_none None is c = inr (λ s x. let y = (begun.only c s x).1 in let e : Some y.0 ≡ None = sym y.1.0 ∙ is in let no : ⊥ = cc in no)
+  waiting_or_none (Some at) is c = elim (ℕ_discrete at.block c) [
+    | yes e ↦ inl (subst (Contains work) e (begun.waits at is))
+    | no d ↦ inr (λ s x. let y = (begun.only c s x).1 in d (ap (λ (z : Place). z.block) (one_there r.places.items 0 at y.0 is y.1.0) ∙ y.1.1))
+  ]
+
+  -- so all others make nothing of nothing
   open_by : (first : Option Place) → slice_get r.places.items 0 ≡ first → (c : ℕ) (b : Block) → Contains work c ⊎ IsClosedBy cases b (set_at rows c) rows
-  open_by first is c b = elim (waiting first is) [ inl x ↦ inl x | inr none ↦ inr (λ k d l s x. absurd (none_carried cases b (set_at rows c) none (last_in b) s x)) ]
-    where
-      waiting : (first : Option Place) → slice_get r.places.items 0 ≡ first → Contains work c ⊎ ((s : Status) → Has (set_at rows c) s → ⊥)
-      waiting None is = inr (λ s x. let y = (begun.only c s x).1 in let e : Some y.0 ≡ None = sym y.1.0 ∙ is in let no : ⊥ = cc in no)
-      waiting (Some at) is = elim (ℕ_discrete at.block c) [
-        | yes e ↦ inl (subst (Contains work) e (begun.waits at is))
-        | no d ↦ inr (λ s x. let y = (begun.only c s x).1 in d (ap (λ (z : Place). z.block) (one_there r.places.items 0 at y.0 is y.1.0) ∙ y.1.1))
-      ]
+  open_by first is c b = elim (waiting_or_none first is c) [ inl x ↦ inl x | inr none ↦ inr (λ k d l s x. absurd (none_carried cases b (set_at rows c) none (last_in b) s x)) ]
 
   pub open_first : AreOpen cases r.blocks.items rows work
   open_first c b at = open_by (slice_get r.places.items 0) refl c b

@@ -16,5 +16,6 @@ pub mod Comparing
 pub mod Meeting
 pub mod EdgeComparisons
 pub mod JoinsOfSets
+pub mod Evenly
 mod RowEquality
 pub mod LongerWalks

@@ -1,15 +1,18 @@
 -- The exits of a block are worked out one by one, in all lanes.
-use Rattle.std.proofs.Common.{◌∙◌, ℕ, ◌+◌, ◌<◌, Bool, true, false, List, [], ◌∷◌, ◌++◌, length, get_or, take, if◌then◌else◌, refl, sym, ap}
+use Rattle.std.proofs.Common.{◌≡◌, ◌∙◌, ◌⊎◌, inl, inr, ℕ, ◌+◌, ◌<◌, Bool, true, false, List, [], ◌∷◌, ◌++◌, length, get_or, take, if◌then◌else◌, refl, sym, ap}
 use Rattle.std.proofs.Common.{subst}
 use Rattle.tsa_graph.specs.declared.sequence.Block.{Block}
 use Rattle.tsa_graph.specs.declared.sequence.Exit.{Exit}
 use Rattle.tsa_rules.specs.declared.case.Case.{Case}
 use Rattle.tsa_rules.specs.declared.statuses.Statuses.{Statuses}
+use Rattle.tsa_rules.specs.Sets.{IsEmpty}
 use Rattle.tsa_flow_solver.specs.Courses.{leaving}
+use Rattle.tsa_flow_solver.specs.Evenness.{HasFollowed, IsSpreadEvenly}
 use Rattle.tsa_flow_solver.specs.Fronts.{AreSpread, HasTakenIn}
 use Rattle.tsa_flow_solver.specs.Passing.{ArePoints, IsLeft}
 use Rattle.tsa_flow_solver.specs.Rows.{AreWide, IsTakenIn, lane_of, row_at, set_at, union}
-use Rattle.tsa_flow_solver.proofs.Grids.{lane_long, lane_same, lane_taken, row_long}
+use Rattle.tsa_flow_solver.proofs.Evenly.{exit_evenly}
+use Rattle.tsa_flow_solver.proofs.Grids.{lane_at, lane_long, lane_same, lane_taken, row_long}
 use Rattle.tsa_flow_solver.proofs.JoinsOfSets.{as_before, exit_out, has_grown, none_out, Waits}
 use Rattle.tsa_flow_solver.proofs.Paid.{none_paid, one_paid}
 
@@ -45,3 +48,24 @@ module _ (n points : ℕ) (cases : ℕ → ℕ → Case) (b : Block) (exits : Li
           (ap (λ g. lane_of g l) taken.rows ∙ lane_taken rows l x.to row taken.taken taken.grown taken.is (wide l less))
           (subst (Waits (set_at (lane_of rows l) x.to) (union (set_at (lane_of rows l) x.to) (set_at row l)) x.to mid) (sym taken.waits) (waits_by rows l x.to row taken.taken taken.grown taken.is (wide l less) mid));
     }
+
+  -- and evenly
+  module _ (was is is' : Bool) (evenly : (l : ℕ) → ArePoints points b → l < n → IsSpreadEvenly (leaving (cases l) b) (set_at last l) (take i exits) (lane_of old l) (lane_of rows l) was is)
+      (inside : x.to < length rows) (followed : HasFollowed n points cases b x.outcome x.to last rows new mid mid' is is') where
+    wide' : (l : ℕ) → l < n → l < length (row_at rows x.to)
+    wide' l less = subst (λ m. l < m) (sym (row_long n rows x.to before.paid.wide inside)) less
+
+    in_lane : (l : ℕ) → is' ≡ true → (is ≡ true) × ((set_at (lane_of rows l) x.to ≡ set_at followed.row l) ⊎ IsEmpty (set_at (lane_of rows l) x.to))
+    in_lane l e = let h = followed.even e in (
+      h.0,
+      elim h.1 [
+        | inl same ↦ inl (lane_at rows l x.to ∙ ap (λ r. set_at r l) same)
+        | inr none ↦ inr (subst IsEmpty (sym (lane_at rows l x.to)) (none l))
+      ],
+    )
+
+    pub exit_evenly_spread : (l : ℕ) → ArePoints points b → l < n → IsSpreadEvenly (leaving (cases l) b) (set_at last l) (take (i + 1) exits) (lane_of old l) (lane_of new l) was is'
+    exit_evenly_spread l are less =
+        exit_evenly (leaving (cases l) b) (set_at last l) exits i d there (lane_of old l) (lane_of rows l) work mid was is (evenly l are less) (before.lanes l are less) (set_at followed.row l)
+        (subst (λ m. x.to < m) (sym (lane_long rows l)) inside) (followed.left l are less) is' (in_lane l) (lane_of new l)
+        (ap (λ g. lane_of g l) followed.taken.rows ∙ lane_taken rows l x.to followed.row followed.taken.taken followed.taken.grown followed.taken.is (wide' l less))

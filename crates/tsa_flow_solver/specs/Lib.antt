@@ -8,3 +8,4 @@ pub mod Joining
 pub mod Stages
 pub mod Reaching
 pub mod Agreeing
+pub mod Evenness

@@ -1,26 +1,30 @@
 //! The sets of statuses that are worked out so far, and the blocks whose sets have grown since they were worked out.
-ghost use Rattle.std.specs.Prelude.{◌≡◌, ◌+◌, ◌<◌, ◌↔◌, ℕ, All, length, List, IfOk, OnOk};
+ghost use Rattle.std.specs.Prelude.{◌≡◌, ◌+◌, ◌<◌, ◌↔◌, ℕ, All, length, List, true, IfOk, OnOk};
 ghost use Rattle.tsa_graph.specs.Rows.{AreBlocksOf};
 ghost use Rattle.tsa_core.specs.Control.{Edge};
-ghost use Rattle.tsa_flow_solver.specs.Courses.{course_by};
+ghost use Rattle.tsa_flow_solver.specs.Courses.{course_by, leaving};
+ghost use Rattle.tsa_flow_solver.specs.Evenness.{AreEven, HasFollowed, IsSpreadEvenly, IsTurnedEvenly, StaysEven};
 ghost use Rattle.tsa_flow_solver.specs.Fronts.{AreSpread, HasMore, HasTakenIn};
+ghost use Rattle.tsa_flow_solver.specs.Passing.{ArePoints};
 ghost use Rattle.tsa_flow_solver.specs.Rows.{AreWide, lane_of, no_statuses, row_at, set_at};
 ghost use Rattle.tsa_flow_solver.specs.Turns.{AreClosed, AreSound, AreTurned, HaveBegun, IsReady};
-ghost use Rattle.tsa_rules.specs.Sets.{Has};
+ghost use Rattle.tsa_rules.specs.Sets.{Has, IsEmpty};
 
 use crate::lanes::Lanes;
-use crate::passing::{along, leave};
+use crate::passing::{along, last_stays, leave};
 use crate::places::place_of;
 use crate::row::Row;
 use std::alloc::Global;
 use tsa_base::NoMemory;
-use tsa_graph::{Block, Blocks};
+use tsa_graph::{Block, Blocks, Exit};
 use tsa_rules::Statuses;
 
-/// The statuses at the first points of blocks, and the blocks that wait since some set of theirs has grown.
+/// The statuses at the first points of blocks, whether all that was brought to each of them was the same, and the blocks that wait since
+/// some set of theirs has grown.
 #[derive(Drop)]
 pub struct Front {
     pub rows: Vec<Row>,
+    pub is_even: bool,
     work: Vec<u32>,
 }
 
@@ -60,6 +64,7 @@ impl Front {
     {
         let mut front = Front {
             rows: empty_rows(alloc, blocks, lanes.count())?,
+            is_even: true,
             work: Vec::new(alloc),
         };
         if let Some(place) = place_of(blocks, 0) {
@@ -69,16 +74,55 @@ impl Front {
         Ok(front)
     }
 
+    /// Notes that a block takes in other statuses than its own: only the first ones that come there are even.
+    fn note_other(&mut self, block: u32)
+        requires { block < length self.old.rows.items }
+        ensures rows { self.new.rows ≡ self.old.rows }
+        ensures work { self.new.work ≡ self.old.work }
+        ensures even { self.new.is_even ≡ true → (self.old.is_even ≡ true) × ((lane : ℕ) → IsEmpty (set_at (row_at self.old.rows.items block) lane)) }
+    {
+        if !self.rows[block as usize].all().is_empty() {
+            self.is_even = false;
+        }
+    }
+
     /// Takes statuses in at a block, lane by lane; it waits where some set has grown.
     fn take_in(&mut self, block: u32, row: &Row) -> Result<(), NoMemory>
         requires block { block < length self.old.rows.items }
         requires long { length (row_at self.old.rows.items block) ≡ length row.now }
-        ensures { OnOk result (HasTakenIn block row.now self.old.rows.items self.new.rows.items self.old.work.items self.new.work.items) }
+        ensures taken { OnOk result (HasTakenIn block row.now self.old.rows.items self.new.rows.items self.old.work.items self.new.work.items) }
+        ensures even { OnOk result (StaysEven (row_at self.old.rows.items block) row.now self.old.is_even self.new.is_even) }
     {
+        if self.rows[block as usize].is_same(row) {
+            return Ok(());
+        }
+        self.note_other(block);
         if self.rows[block as usize].take_in(row) {
             self.work.push(block)?;
         }
         Ok(())
+    }
+
+    /// Takes in along an exit of a block what its last point makes of the statuses there, which are these where it leaves them as they are.
+    fn follow<L: Lanes>(
+        &mut self,
+        lanes: &L,
+        block: &Block,
+        exit: Exit,
+        last: &Row,
+    ) -> Result<(), NoMemory>
+        requires wide { AreWide (L.count lanes.now) self.old.rows.items }
+        requires last { length last.now ≡ L.count lanes.now }
+        requires long { length block.now.points.items ≡ length block.now.inner.items + 1 }
+        requires inside { exit.to < length self.old.rows.items }
+        ensures { OnOk result (HasFollowed (L.count lanes.now) (L.points lanes.now) (L.cases lanes.now) block.now exit.outcome exit.to last.now
+            self.old.rows.items self.new.rows.items self.old.work.items self.new.work.items self.old.is_even self.new.is_even) }
+    {
+        if last_stays(lanes, block, last) {
+            return self.take_in(exit.to, last);
+        }
+        let out = leave(lanes, block, exit.outcome, last)?;
+        self.take_in(exit.to, &out)
     }
 
     /// Takes in along the exits of a block what its last point makes of the statuses there.
@@ -87,12 +131,14 @@ impl Front {
         requires last { length last.now ≡ L.count lanes.now }
         requires long { length block.now.points.items ≡ length block.now.inner.items + 1 }
         requires exits { All (λ x. x.to < length self.old.rows.items) block.now.exits.items }
-        ensures { OnOk result (AreSpread (L.count lanes.now) (L.points lanes.now) (L.cases lanes.now) block.now block.now.exits.items
+        ensures spread { OnOk result (AreSpread (L.count lanes.now) (L.points lanes.now) (L.cases lanes.now) block.now block.now.exits.items
             last.now self.old.rows.items self.new.rows.items self.old.work.items self.new.work.items) }
+        ensures even { OnOk result ((lane : ℕ) → ArePoints (L.points lanes.now) block.now → lane < L.count lanes.now
+            → IsSpreadEvenly (leaving (L.cases lanes.now lane) block.now) (set_at last.now lane) block.now.exits.items
+            (lane_of self.old.rows.items lane) (lane_of self.new.rows.items lane) self.old.is_even self.new.is_even) }
     {
         'exits: for exit in &block.exits {
-            let out = leave(lanes, block, exit.outcome, last)?;
-            self.take_in(exit.to, &out)?;
+            self.follow(lanes, block, *exit, last)?;
         }
         Ok(())
     }
@@ -102,8 +148,11 @@ impl Front {
         requires long { length self.old.rows.items ≡ length blocks.now.blocks.items }
         requires wide { AreWide (L.count lanes.now) self.old.rows.items }
         requires number { number < length blocks.now.blocks.items }
-        ensures { OnOk result (AreTurned (L.count lanes.now) (L.points lanes.now) (L.cases lanes.now) blocks.now.blocks.items number
+        ensures turned { OnOk result (AreTurned (L.count lanes.now) (L.points lanes.now) (L.cases lanes.now) blocks.now.blocks.items number
             self.old.rows.items self.new.rows.items self.old.work.items self.new.work.items) }
+        ensures even { OnOk result ((lane : ℕ) → All (ArePoints (L.points lanes.now)) blocks.now.blocks.items → lane < L.count lanes.now
+            → IsTurnedEvenly (L.cases lanes.now lane) blocks.now.blocks.items number (lane_of self.old.rows.items lane)
+            (lane_of self.new.rows.items lane) self.old.is_even self.new.is_even) }
     {
         let block = &blocks.blocks[number as usize];
         let mut last = self.rows[number as usize].copy()?;
@@ -125,6 +174,8 @@ impl Front {
             (lane_of self.new.rows.items lane)) }
         ensures closed { OnOk result ((es : List Edge) (lane : ℕ) → AreBlocksOf (L.points lanes.now) es blocks.now
             → lane < L.count lanes.now → AreClosed (L.cases lanes.now lane) blocks.now.blocks.items (lane_of self.new.rows.items lane)) }
+        ensures even { OnOk result ((es : List Edge) (lane : ℕ) → AreBlocksOf (L.points lanes.now) es blocks.now → lane < L.count lanes.now
+            → self.new.is_even ≡ true → AreEven (L.enters lanes.now lane) (L.cases lanes.now lane) blocks.now (lane_of self.new.rows.items lane)) }
     {
         'waiting: while let Some(number) = self.work.pop() {
             self.turn(lanes, blocks, number)?;

@@ -43,6 +43,12 @@ pub fn join<L: Lanes>(alloc: Global, blocks: &Blocks, lanes: &L) -> Result<Joins
 {
     let mut front = Front::new(alloc, blocks, lanes)?;
     front.settle(lanes, blocks)?;
+    if front.is_even {
+        return Ok(Joins {
+            rows: front.rows,
+            agreeing: Vec::new(alloc),
+        });
+    }
     let agreeing = all_agreeing(alloc, blocks, lanes.count())?;
     let mut joins = Joins {
         rows: front.rows,

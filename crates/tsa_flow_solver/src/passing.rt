@@ -2,6 +2,7 @@
 ghost use Rattle.std.specs.Prelude.{◌≡◌, ◌+◌, ◌<◌, ◌↔◌, ℕ, nat_eq, length, IfOk, IsFalse, IsTrue};
 ghost use Rattle.std.specs.List.{list_any};
 ghost use Rattle.tsa_graph.specs.Rows.{last_in, outcome_in, point_in};
+ghost use Rattle.tsa_graph_edges.specs.declared.link.Outcome.{Outcome};
 ghost use Rattle.tsa_graph_edges.specs.Links.{outcome_of};
 ghost use Rattle.tsa_flow_solver.specs.Passing.{ArePoints, IsCarried, IsClaimPassed, IsLeft, IsPassed, IsPending, IsStep, IsUnseen, Passes};
 ghost use Rattle.tsa_flow_solver.specs.Rows.{AreRising, set_at};
@@ -163,6 +164,26 @@ pub(crate) fn leave<L: Lanes>(
     let point = block.points[block.inner.len()];
     pass_row(lanes, Pass { point, outcome }, &mut row);
     Ok(row)
+}
+
+/// Whether a point leaves the statuses of all lanes as they are: it claims no path, and tests no variable whose answer one may hold unseen.
+fn stays<L: Lanes>(lanes: &L, point: u32, row: &Row) -> bool
+    ensures { IsTrue result → (lane : ℕ) (outcome : Outcome) → point < L.points lanes.now → lane < L.count lanes.now
+        → Passes (L.cases lanes.now lane point) outcome (set_at row.now lane) (set_at row.now lane) }
+{
+    if !lanes.claims(point).is_empty() {
+        return false;
+    }
+    !may_be_pending(lanes.role(point), row)
+}
+
+/// Whether the last point of a block leaves the statuses of all lanes as they are.
+pub(crate) fn last_stays<L: Lanes>(lanes: &L, block: &Block, last: &Row) -> bool
+    requires { length block.now.points.items ≡ length block.now.inner.items + 1 }
+    ensures { IsTrue result → (lane : ℕ) (outcome : Outcome) → ArePoints (L.points lanes.now) block.now → lane < L.count lanes.now
+        → IsLeft (L.cases lanes.now lane) block.now outcome (set_at last.now lane) (set_at last.now lane) }
+{
+    stays(lanes, block.points[block.inner.len()], last)
 }
 
 /// What the statuses of a lane at a point are behind it.

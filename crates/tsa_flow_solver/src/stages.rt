@@ -84,6 +84,9 @@ fn block_stages<L: Lanes>(
         → AreStages (L.cases lanes.now lane) block.now (set_at from.now lane) lane stages.items) }
 {
     let mut stages = Vec::new(alloc);
+    if block.inner.is_empty() {
+        return Ok(stages);
+    }
     let mut row = from.copy()?;
     'places: for index in 0..block.inner.len() {
         note(&mut stages, &row, index)?;

@@ -14,7 +14,7 @@ returns-clause-begun g c lane less =
     elim c.match-place_of.branch [
       | in-Some+in_ok-entry+in_ok-take_in w ↦ (
           let at = w.in-Some.place in
-          let h = w.in_ok-take_in.ensures in
+          let h = w.in_ok-take_in.ensures.taken in
           let inside : at.block < length grid = subst (λ n. at.block < n) (sym long) w.in-Some.ensures.inside in
           subst (λ f. HaveBegun (g.L.Lanes.enters c.args.lanes.now lane) c.args.blocks.now (lane_of f.rows.items lane) f.work.items) (sym w.front-is)
           (begun_some (g.L.Lanes.enters c.args.lanes.now lane) c.args.blocks.now grid lane none at (sym w.in-Some.ensures.is) (subst (λ n. at.block < n) (sym (lane_long grid lane)) inside) w.in_ok-entry.entry h.taken

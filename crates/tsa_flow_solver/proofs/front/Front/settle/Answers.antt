@@ -2,7 +2,7 @@ use Rattle.std.proofs.Common.{◌<◌, ◌∙◌, Some, length, All, arith, inl,
 use Rattle.std.proofs.lemmas.List.Elements.{All-pop}
 use Rattle.tsa_flow_solver.specs.Rows.{lane_of}
 use Rattle.tsa_flow_solver.proofs.Paid.{falls}
-use Rattle.tsa_flow_solver.proofs.Settling.{settling_first, settling_on}
+use Rattle.tsa_flow_solver.proofs.Settling.{evenly_first, evenly_on, settling_first, settling_on}
 use Rattle.tsa_flow_solver.proofs.front.Front.settle.Goals as goal
 
 pub waiting-init : goal.waiting-init
@@ -10,12 +10,14 @@ waiting-init g c = record {
   ready = c.requires.ready;
   lanes = λ lane less. settling_first (g.L.Lanes.enters c.args.lanes.now lane) (g.L.Lanes.cases c.args.lanes.now lane) (g.L.Lanes.points c.args.lanes.now) c.args.blocks.now
       (lane_of c.args.self.now.rows.items lane) c.args.self.now.work.items (c.requires.begun lane less);
+  even = λ lane less. evenly_first (g.L.Lanes.enters c.args.lanes.now lane) (g.L.Lanes.cases c.args.lanes.now lane) (g.L.Lanes.points c.args.lanes.now) c.args.blocks.now
+      (lane_of c.args.self.now.rows.items lane) c.args.self.now.work.items c.args.self.now.is_even (c.requires.begun lane less);
 }
 
 pub waiting-preserved : goal.waiting-preserved
 waiting-preserved g c =
     let before = c.waiting.invariant.ready in
-    let turned = c.in_ok-turn.ensures in
+    let turned = c.in_ok-turn.ensures.turned in
     let within = (All-pop (λ x. x < length c.args.blocks.now.blocks.items) c.waiting.self.work.items c.pop.new.self.items (Some c.in-Some.number) c.in-Some.ensures.items before.within).0 in
     record {
       ready = record {
@@ -28,11 +30,16 @@ waiting-preserved g c =
           settling_on (g.L.Lanes.enters c.args.lanes.now lane) (g.L.Lanes.cases c.args.lanes.now lane) (g.L.Lanes.points c.args.lanes.now) c.args.blocks.now (lane_of c.args.self.now.rows.items lane)
           (lane_of c.waiting.self.rows.items lane) (lane_of c.turn.new.self.rows.items lane) c.in-Some.number c.waiting.self.work.items c.pop.new.self.items c.turn.new.self.work.items c.in-Some.ensures.items
           turned.paid.keeps (c.waiting.invariant.lanes lane less) (λ are. turned.lanes lane are less);
+      even = λ lane less.
+          evenly_on (g.L.Lanes.enters c.args.lanes.now lane) (g.L.Lanes.cases c.args.lanes.now lane) (g.L.Lanes.points c.args.lanes.now) c.args.blocks.now (lane_of c.args.self.now.rows.items lane)
+          (lane_of c.waiting.self.rows.items lane) (lane_of c.turn.new.self.rows.items lane) c.in-Some.number c.waiting.self.work.items c.pop.new.self.items c.turn.new.self.work.items
+          c.waiting.self.is_even c.turn.new.self.is_even c.in-Some.ensures.items
+          turned.paid.keeps (c.waiting.invariant.lanes lane less) (c.waiting.invariant.even lane less) (λ are. turned.lanes lane are less) (λ are. c.in_ok-turn.ensures.even lane are less);
     }
 
 pub waiting-smaller : goal.waiting-smaller
 waiting-smaller g c =
-    let turned = c.in_ok-turn.ensures in
+    let turned = c.in_ok-turn.ensures.turned in
     falls (g.L.Lanes.count c.args.lanes.now) c.waiting.self.rows.items c.turn.new.self.rows.items c.in-Some.number c.waiting.self.work.items c.pop.new.self.items c.turn.new.self.work.items
     (turned.paid.small c.waiting.invariant.ready.small) turned.paid c.in-Some.ensures.items
 
@@ -48,3 +55,12 @@ returns-clause-closed g c es lane are less k b at =
       | inl waits ↦ absurd (let none = c.in_default.ensures.cases.0 in let size = c.waiting.self.work.ok.0 in omega (arith, waits.1, none, size))
       | inr closed ↦ closed
     ]
+
+pub returns-clause-even : goal.returns-clause-even
+returns-clause-even g c es lane are less e = record {
+  entered = (c.waiting.invariant.even lane less).entered es are e;
+  all = λ k b at. elim ((c.waiting.invariant.even lane less).waits es are e k b at) [
+    | inl waits ↦ absurd (let none = c.in_default.ensures.cases.0 in let size = c.waiting.self.work.ok.0 in omega (arith, waits.1, none, size))
+    | inr even ↦ even
+  ];
+}
