@@ -1,11 +1,12 @@
 //! The sets of statuses that are worked out so far, and the blocks whose sets have grown since they were worked out.
-ghost use Rattle.std.specs.Prelude.{◌≡◌, ◌+◌, ◌<◌, ◌↔◌, ℕ, All, length, List, true, IfOk, OnOk};
+ghost use Rattle.std.specs.Prelude.{◌≡◌, ◌+◌, ◌<◌, ◌↔◌, ℕ, All, length, List, true, IfOk, IsTrue, OnOk};
 ghost use Rattle.tsa_graph.specs.Rows.{AreBlocksOf};
 ghost use Rattle.tsa_core.specs.Control.{Edge};
+ghost use Rattle.tsa_graph_edges.specs.declared.link.Outcome.{Outcome};
 ghost use Rattle.tsa_flow_solver.specs.Courses.{course_by, leaving};
 ghost use Rattle.tsa_flow_solver.specs.Evenness.{AreEven, HasFollowed, IsSpreadEvenly, IsTurnedEvenly, StaysEven};
 ghost use Rattle.tsa_flow_solver.specs.Fronts.{AreSpread, HasMore, HasTakenIn};
-ghost use Rattle.tsa_flow_solver.specs.Passing.{ArePoints};
+ghost use Rattle.tsa_flow_solver.specs.Passing.{ArePoints, IsLeft};
 ghost use Rattle.tsa_flow_solver.specs.Rows.{AreWide, lane_of, no_statuses, row_at, set_at};
 ghost use Rattle.tsa_flow_solver.specs.Turns.{AreClosed, AreSound, AreTurned, HaveBegun, IsReady};
 ghost use Rattle.tsa_rules.specs.Sets.{Has, IsEmpty};
@@ -26,6 +27,13 @@ pub struct Front {
     pub rows: Vec<Row>,
     pub is_even: bool,
     work: Vec<u32>,
+}
+
+/// The statuses at the last point of a block, and whether that leaves them as they are.
+#[derive(Clone, Copy)]
+struct LastRow<'r> {
+    row: &'r Row,
+    stays: bool,
 }
 
 /// As many rows without statuses as there are blocks.
@@ -109,19 +117,21 @@ impl Front {
         lanes: &L,
         block: &Block,
         exit: Exit,
-        last: &Row,
+        last: LastRow<'_>,
     ) -> Result<(), NoMemory>
         requires wide { AreWide (L.count lanes.now) self.old.rows.items }
-        requires last { length last.now ≡ L.count lanes.now }
+        requires last { length last.row.now ≡ L.count lanes.now }
         requires long { length block.now.points.items ≡ length block.now.inner.items + 1 }
+        requires stays { IsTrue last.stays → (lane : ℕ) (outcome : Outcome) → ArePoints (L.points lanes.now) block.now → lane < L.count lanes.now
+            → IsLeft (L.cases lanes.now lane) block.now outcome (set_at last.row.now lane) (set_at last.row.now lane) }
         requires inside { exit.to < length self.old.rows.items }
-        ensures { OnOk result (HasFollowed (L.count lanes.now) (L.points lanes.now) (L.cases lanes.now) block.now exit.outcome exit.to last.now
+        ensures { OnOk result (HasFollowed (L.count lanes.now) (L.points lanes.now) (L.cases lanes.now) block.now exit.outcome exit.to last.entry.row.now
             self.old.rows.items self.new.rows.items self.old.work.items self.new.work.items self.old.is_even self.new.is_even) }
     {
-        if last_stays(lanes, block, last) {
-            return self.take_in(exit.to, last);
+        if last.stays {
+            return self.take_in(exit.to, last.row);
         }
-        let out = leave(lanes, block, exit.outcome, last)?;
+        let out = leave(lanes, block, exit.outcome, last.row)?;
         self.take_in(exit.to, &out)
     }
 
@@ -137,8 +147,9 @@ impl Front {
             → IsSpreadEvenly (leaving (L.cases lanes.now lane) block.now) (set_at last.now lane) block.now.exits.items
             (lane_of self.old.rows.items lane) (lane_of self.new.rows.items lane) self.old.is_even self.new.is_even) }
     {
+        let stays = last_stays(lanes, block, last);
         'exits: for exit in &block.exits {
-            self.follow(lanes, block, *exit, last)?;
+            self.follow(lanes, block, *exit, LastRow { row: last, stays })?;
         }
         Ok(())
     }
