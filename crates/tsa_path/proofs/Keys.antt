@@ -15,7 +15,7 @@ use Rattle.tsa_path.proofs.PathsApart.{root_test_is, steps_test_are}
 abbrev pub paths : List Key → List Way
 paths keys = map (λ key. key.path) keys
 
-key_test_is : (a b : Key) → test.ghosts.eq a b ≡ same_way a.path b.path
+pub key_test_is : (a b : Key) → test.ghosts.eq a b ≡ same_way a.path b.path
 key_test_is a b = (λ i. root_test_is a.path.root b.path.root i && steps_test_are a.path.steps b.path.steps i)
 
 pub known_is : (key : Key) (keys : List Key) → list_any (test.ghosts.eq key) keys ≡ is_known (paths keys) key.path

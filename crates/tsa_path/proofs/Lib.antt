@@ -1,4 +1,5 @@
 pub mod StepLists
+pub mod KeyCopies
 pub mod Keys
 pub mod Elements
 pub mod Keeping

@@ -1,8 +1,10 @@
 //! Paths as the keys of a table: told apart by root and steps alone.
-ghost use Rattle.std.specs.Prelude.{◌≡◌};
+ghost use Rattle.std.specs.Prelude.{◌≡◌, IfOk};
 ghost use Rattle.tsa_path.specs.Sameness.{same_root as spec_same_root, same_steps as spec_same_steps, same_way};
 
+use std::alloc::Global;
 use std::hash::{Hash, Hasher};
+use tsa_base::NoMemory;
 use tsa_place_model::{Path, PathStep, Root};
 
 /// Whether two roots are the same.
@@ -32,6 +34,16 @@ pub fn is_same(left: &Path, right: &Path) -> bool
 #[derive(Drop)]
 pub struct Key {
     pub path: Path,
+}
+
+impl Key {
+    /// The same key once more.
+    pub fn copy(&self, alloc: Global) -> Result<Key, NoMemory>
+        ensures { IfOk result (λ copy. copy ≡ self.now) }
+    {
+        let path = self.path.copy(alloc)?;
+        Ok(Key { path })
+    }
 }
 
 impl PartialEq for Key {

@@ -7,6 +7,7 @@ use crate::refusal::InternRefusal;
 use indexmap::IndexSet;
 use std::alloc::Global;
 use std::marker::Model;
+use tsa_base::NoMemory;
 use tsa_place_model::Path;
 
 /// Different paths, numbered from 0 in the order in which they came. Contracts see the list of them.
@@ -31,6 +32,18 @@ impl Model for PathTable {
     ghost view = { λ table. map (λ key. key.path) table.keys.keys };
 
     ghost invariant = { λ table. length table.keys.keys ≤ path_limit };
+}
+
+/// The same keys once more.
+fn copy_keys(alloc: Global, keys: &IndexSet<Key>) -> Result<IndexSet<Key>, NoMemory>
+    ensures { IfOk result (λ copy. copy.keys ≡ keys.now.keys) }
+{
+    let mut copy = IndexSet::new(alloc);
+    'each: for key in keys.as_slice() {
+        let same = key.copy(alloc)?;
+        copy.insert(same)?;
+    }
+    Ok(copy)
 }
 
 impl PathTable {
@@ -87,5 +100,12 @@ impl PathTable {
             Ok((id, _)) => Ok(id as u32),
             Err(refused) => Err(InternRefusal::NoMemory(refused.value.path)),
         }
+    }
+    /// The same table once more.
+    pub fn copy(&self, alloc: Global) -> Result<PathTable, NoMemory>
+        ensures { IfOk result (λ copy. copy ≡ self.now) }
+    {
+        let keys = copy_keys(alloc, &self.keys)?;
+        Ok(PathTable { keys })
     }
 }
