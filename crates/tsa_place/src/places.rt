@@ -1,5 +1,5 @@
 //! The places of a unit, with all that is asked of them (C11 6.2.4).
-ghost use Rattle.std.specs.Prelude.{◌≡◌, ◌<◌, length, Some, None, slice_get, option_map, IfOk};
+ghost use Rattle.std.specs.Prelude.{◌≡◌, ◌<◌, ◌++◌, length, Some, None, slice_get, option_map, IfOk, OnOk};
 ghost use Rattle.tsa_place.specs.Answers.{Gives};
 ghost use Rattle.tsa_place_model.specs.Calls.{declarator_of, element_place, evaluated, global_place, guards_of};
 ghost use Rattle.tsa_place_model.specs.Calls.{is_addressable as spec_is_addressable, is_lock_kind, member_place, place_kind, text_of};
@@ -150,6 +150,13 @@ impl Places {
         ensures { option_map (declarator_of self.now) (slice_get self.now.places place) ≡ Some result }
     {
         self.globals.layout().declarator(self.at(place))
+    }
+
+    /// Appends the text of a place in C, and takes no memory but the text's.
+    pub fn put_text(&self, text: &mut Vec<u8>, place: u32) -> Result<(), NoMemory>
+        ensures { OnOk result (text.new.items ≡ text.old.items ++ text_of self.now place) }
+    {
+        self.globals.layout().put_text(text, place)
     }
 
     /// The text of a place in C.

@@ -1,8 +1,8 @@
 -- The places that a place lies in, one by one.
-use Rattle.std.proofs.Common.{◌≡◌, ◌∙◌, ℕ, zero, suc, ◌+◌, ◌-◌, ◌<◌, ◌≤◌, arith, List, [], ◌∷◌, ◌++◌, drop, length, get_or, Option, Some}
+use Rattle.std.proofs.Common.{◌≡◌, ◌∙◌, ℕ, zero, suc, ◌+◌, ◌-◌, ◌<◌, ◌≤◌, arith, List, [], ◌∷◌, ◌++◌, drop, length, reverse, get_or, Option, Some}
 use Rattle.std.proofs.Common.{None, refl, sym, ap}
 use Rattle.std.proofs.Math.Seq.{drop-cons}
-use Rattle.std.proofs.lemmas.List.{append-nil, append_assoc, drop_all}
+use Rattle.std.proofs.lemmas.List.{append-nil, append_assoc, drop_all, reverse-append}
 use Rattle.tsa_place_model.specs.Ways.{Way}
 use Rattle.tsa_place_model.specs.declared.place.Placed.{Placed}
 use Rattle.tsa_place_model.specs.Calls.{Layout, owner_at, around, own_text, text_along, own_guards, guards_along, guard_by, guards_by}
@@ -64,12 +64,29 @@ module _ (l : Layout) where
   unfolding text_along
   more_text p outer = refl
 
-  pub texts_first : (way : List Placed) (made : List ℕ) (n : ℕ) → made ≡ [] → length way ≤ n → made ≡ text_along l (drop n way)
-  texts_first = inward_first (text_along l) (own_text l) no_text more_text
+  -- the texts of what a place lies in, the last byte first
+  abbrev pub turned : List Placed → List ℕ
+  turned way = reverse (text_along l way)
 
-  pub texts_next : (way : List Placed) (left next : ℕ) (made after : List ℕ) (d : Placed) → next ≡ left - 1 → 0 < left → left ≤ length way → made ≡ text_along l (drop left way)
-      → after ≡ made ++ own_text l (get_or way next d) → after ≡ text_along l (drop next way)
-  texts_next = inward_next (text_along l) (own_text l) no_text more_text
+  turned_more : (p : Placed) (outer : List Placed) → turned (p ∷ outer) ≡ reverse (own_text l p) ++ turned outer
+  turned_more p outer = ap reverse (more_text p outer) ∙ reverse-append (text_along l outer) (own_text l p)
+
+  module _ (text : List ℕ) (goal : List ℕ) (left : ℕ) where
+    pub turned_next : (p : Placed) (longer : List ℕ) (there : Option Placed) (at : Option Placed) → at ≡ Some p → 0 < left → longer ≡ text ++ reverse (own_text l p) → there ≡ owner_at l p.holder
+        → text ++ turned (around l left at) ≡ goal → longer ++ turned (around l (left - 1) there) ≡ goal
+    turned_next p longer there at is h more owner told =
+        ap (λ w. w ++ turned (around l (left - 1) there)) more ∙ ap (λ o. (text ++ reverse (own_text l p)) ++ turned (around l (left - 1) o)) owner
+        ∙ append_assoc text (reverse (own_text l p)) (turned (around l (left - 1) (owner_at l p.holder))) ∙ ap (λ w. text ++ w) (sym (turned_more p (around l (left - 1) (owner_at l p.holder))))
+        ∙ ap (λ way. text ++ turned way) (sym (one_around l left p h)) ∙ ap (λ o. text ++ turned (around l left o)) (sym is) ∙ told
+
+    pub turned_end : (at : Option Placed) → around l left at ≡ [] → text ++ turned (around l left at) ≡ goal → text ≡ goal
+    turned_end at ends told = sym (append-nil text) ∙ ap (λ w. text ++ w) (sym (ap reverse no_text)) ∙ ap (λ way. text ++ turned way) (sym ends) ∙ told
+
+    pub turned_none : (at : Option Placed) → at ≡ None → text ++ turned (around l left at) ≡ goal → text ≡ goal
+    turned_none at is told = turned_end at (ap (around l left) is ∙ none_around l left) told
+
+    pub turned_out : (at : Option Placed) → left ≤ 0 → text ++ turned (around l left at) ≡ goal → text ≡ goal
+    turned_out at h told = turned_end at (out_of_room l left at h) told
 
   no_guards : guards_along l [] ≡ []
   unfolding guards_along

@@ -1,5 +1,5 @@
 //! What a place lies in, up to its global, and what is told along that: its text (C11 6.5.2.1, 6.5.2.3) and its guards.
-ghost use Rattle.std.specs.Prelude.{◌≡◌, ◌++◌, IfOk, OnOk};
+ghost use Rattle.std.specs.Prelude.{◌≡◌, ◌≤◌, ◌++◌, length, take, drop, reverse, IfOk, OnOk};
 ghost use Rattle.tsa_place_model.specs.Calls.{owner_at, way_to as spec_way_to, index_text, dot, part_name, part_of, own_text, text_of};
 ghost use Rattle.tsa_place_model.specs.Calls.{guard_by, guards_by, own_guards, guards_of};
 
@@ -33,6 +33,14 @@ fn add_dot(text: &mut Vec<u8>, holder: Holder) -> Result<(), NoMemory>
             Ok(())
         }
     }
+}
+
+/// Turns the bytes of a text round from one on.
+fn turn(text: &mut Vec<u8>, from: usize)
+    requires { from ≤ length text.now.items }
+    ensures { text.new.items ≡ take from text.old.items ++ reverse (drop from text.old.items) }
+{
+    text[from..].reverse();
 }
 
 impl<'t> Layout<'t> {
@@ -82,17 +90,52 @@ impl<'t> Layout<'t> {
         add_index(text, placed.index)
     }
 
-    /// The text of a place in C: its global's name, then `.f` for each member and `[k]` for each index.
+    /// Appends what a place adds to the text of the one that it lies in, the last byte first.
+    fn add_turned(&self, text: &mut Vec<u8>, placed: Placed) -> Result<(), NoMemory>
+        ensures { OnOk result (text.new.items ≡ text.old.items ++ reverse (own_text self.now placed)) }
+    {
+        let from = text.len();
+        self.add_text(text, placed)?;
+        turn(text, from);
+        Ok(())
+    }
+
+    /// Appends the text of a place in C, the last byte first.
+    fn add_way(&self, text: &mut Vec<u8>, place: u32) -> Result<(), NoMemory>
+        ensures { OnOk result (text.new.items ≡ text.old.items ++ reverse (text_of self.now place)) }
+    {
+        let mut at = self.placed(place);
+        let mut left = u64::from(place) + 1;
+        'outward: while left > 0 {
+            match at {
+                Some(placed) => {
+                    self.add_turned(text, placed)?;
+                    at = self.owner(placed.holder);
+                }
+                None => return Ok(()),
+            }
+            left -= 1;
+        }
+        Ok(())
+    }
+
+    /// Appends the text of a place in C: its global's name, then `.f` for each member and `[k]` for each index. It takes no memory but
+    /// the text's.
+    pub fn put_text(&self, text: &mut Vec<u8>, place: u32) -> Result<(), NoMemory>
+        ensures { OnOk result (text.new.items ≡ text.old.items ++ text_of self.now place) }
+    {
+        let from = text.len();
+        self.add_way(text, place)?;
+        turn(text, from);
+        Ok(())
+    }
+
+    /// The text of a place in C.
     pub fn text(&self, alloc: Global, place: u32) -> Result<Vec<u8>, NoMemory>
         ensures { IfOk result (λ text. text.items ≡ text_of self.now place) }
     {
-        let way = self.way_to(alloc, place)?;
         let mut text = Vec::new(alloc);
-        let mut left = way.len();
-        'inward: while left > 0 {
-            left -= 1;
-            self.add_text(&mut text, way[left])?;
-        }
+        self.put_text(&mut text, place)?;
         Ok(text)
     }
 
