@@ -101,6 +101,7 @@ impl PathTable {
             Err(refused) => Err(InternRefusal::NoMemory(refused.value.path)),
         }
     }
+
     /// The same table once more.
     pub fn copy(&self, alloc: Global) -> Result<PathTable, NoMemory>
         ensures { IfOk result (λ copy. copy ≡ self.now) }
