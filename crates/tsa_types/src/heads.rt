@@ -1,10 +1,10 @@
 //! Heads of functions (C11 6.7.6.3, 6.9.1): their parameters are known one after the other, and then in the attributes and the body.
 ghost use Rattle.std.specs.Prelude.{◌≡◌, ◌++◌, length, option_map, is_some, IfOk, OnOk};
-ghost use Rattle.tsa_types_expressions.specs.Judgements.{Judges};
+ghost use Rattle.tsa_types_expressions.specs.Judgements.{Judges, forget};
 ghost use Rattle.tsa_tree.specs.declarations.Shapes.{param_shape, param_shapes, head_shape};
 ghost use Rattle.tsa_tree.specs.expressions.Shapes.{name_shape};
 ghost use Rattle.tsa_tree.specs.types.DeclaredTypes.{declared_premises};
-ghost use Rattle.tsa_tree.specs.types.Heads.{with_param, params_premises, inside_params, inside, head_premises};
+ghost use Rattle.tsa_tree.specs.types.Heads.{with_param, params_premises, inside_params, behind_head, inside, head_premises};
 ghost use Rattle.tsa_tree.specs.types.Premises.{first};
 ghost use Rattle.tsa_tree.specs.types.Scopes.{is_named_taken};
 ghost use Rattle.tsa_tree.specs.types.Symbols.{param_name, names_in_param, names_in_params, names_in_head};
@@ -97,22 +97,26 @@ fn declare_params<'a>(
     Ok(())
 }
 
-/// The head of a function by its number, inside which its name and its parameters are known.
+/// The head of a function by its number, inside which its name and its parameters are known: how many names are known after the
+/// function's own, which stay behind its body.
 pub fn declare_head<'a>(
     scope: &mut Scope<'a>,
     symbols: &mut Symbols,
     function: u32,
     head: &FnTree<'a>,
-) -> Result<(), TypeRefusal>
-    ensures judged { Judges (first (head_premises scope.old (head_shape head.now) (is_some head.now.body))) result }
+) -> Result<usize, TypeRefusal>
+    ensures judged { Judges (first (head_premises scope.old (head_shape head.now) (is_some head.now.body))) (forget result) }
+    ensures known { IfOk result (λ n. n ≡ length (behind_head scope.old (head_shape head.now) (is_some head.now.body)).names) }
     ensures behind { OnOk result (scope.new ≡ inside scope.old (head_shape head.now) (is_some head.now.body)) }
     ensures names { OnOk result (symbols.new ≡ symbols.old
         ++ names_in_head scope.old function (head_shape head.now) (is_some head.now.body)) }
 {
     declare_function(scope, head)?;
+    let known = scope.names_len();
     symbols.note(head.name.span, Symbol::Function(function))?;
     declare_params(scope, symbols, function, head.params)?;
     scope.set_locals(params_count(head.params)?);
     let view = View { scope, function };
-    judged(view.attributes(symbols, Bearer::Function, head.attrs)?)
+    judged(view.attributes(symbols, Bearer::Function, head.attrs)?)?;
+    Ok(known)
 }

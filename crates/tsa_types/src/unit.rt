@@ -1,10 +1,9 @@
 //! Functions with their bodies, and the items of a unit one by one (C11 6.9).
-ghost use Rattle.std.specs.Prelude.{◌≡◌, ◌++◌, [], OnOk, IfOk, length, is_some};
+ghost use Rattle.std.specs.Prelude.{◌≡◌, ◌++◌, OnOk, IfOk};
 ghost use Rattle.tsa_types_expressions.specs.Judgements.{Judges, forget};
 ghost use Rattle.tsa_tree.specs.declarations.Shapes.{head_shape};
 ghost use Rattle.tsa_tree.specs.statements.Shapes.{stmt_shapes};
 ghost use Rattle.tsa_tree.specs.types.DeclaredTypes.{thing_type};
-ghost use Rattle.tsa_tree.specs.types.Heads.{behind_head};
 ghost use Rattle.tsa_tree.specs.types.Premises.{first};
 ghost use Rattle.tsa_tree.specs.types.Statements.{statements_premises, behind_all};
 ghost use Rattle.tsa_tree.specs.types.Symbols.{names_in_statements, names_in_item};
@@ -62,18 +61,6 @@ fn result_type(scope: &Scope<'_>, function: &FnTree<'_>) -> Result<ThingType, No
     Ok(written.thing)
 }
 
-/// How many names are known after a function's name.
-fn names_after(scope: &Scope<'_>, function: &FnTree<'_>) -> Result<usize, NoMemory>
-    ensures { IfOk result (λ n. n ≡ length (behind_head scope.now (head_shape function.now) (is_some function.now.body)).names) }
-{
-    let known = scope.names_len();
-    if scope.is_taken(function.name.text) {
-        Ok(known)
-    } else {
-        known.checked_add(1).ok_or(NoMemory)
-    }
-}
-
 /// A function, whose parameters and locals end with it.
 fn function_item<'a>(walk: &mut Walk<'a>, function: &FnTree<'a>) -> Result<(), TypeRefusal>
     ensures judged { Judges (first (item_premises walk.old.scope (function_shape function.now))) result }
@@ -82,11 +69,11 @@ fn function_item<'a>(walk: &mut Walk<'a>, function: &FnTree<'a>) -> Result<(), T
 {
     let gives = result_type(&walk.scope, function)?;
     let number = function_number(&walk.scope, function)?;
-    let names = names_after(&walk.scope, function)?;
     let locals = walk.scope.next_local();
-    if let Err(refusal) = declare_head(&mut walk.scope, &mut walk.symbols, number, function) {
-        return Err(refusal);
-    }
+    let names = match declare_head(&mut walk.scope, &mut walk.symbols, number, function) {
+        Ok(names) => names,
+        Err(refusal) => return Err(refusal),
+    };
     if let Some(body) = function.body {
         if let Err(refusal) = body_statements(walk, number, gives, body) {
             return Err(refusal);
