@@ -8,7 +8,7 @@ use Rattle.tsa_place.specs.declared.filling.Left.TheVariants as left
 use Rattle.tsa_place_model.specs.Layouts.{Part, Structures, kind_size, size_of, members_size}
 use Rattle.tsa_place_model.specs.Places.{Values, elements_places, members_places, places_inside}
 use Rattle.tsa_place_model.specs.declared.place.Placed.{Placed}
-use Rattle.tsa_place.specs.Filling.{given, members_left, size_left, sizes_left, one_left, all_left, things_left, IsDefined, IsLeft, AreLeft}
+use Rattle.tsa_place.specs.Filling.{given, members_left, size_left, sizes_left, one_left, all_left, things_left, IsPlaceable, IsLeft, AreLeft}
 use Rattle.tsa_place.specs.Filling.{Leaves}
 
 module _ (structs : Structures) where
@@ -56,7 +56,7 @@ module _ (structs : Structures) where
   none n h = grind (arith, nat_tests, h)
 
   -- something is left ..
-  pub leaves_some : (old new : List Left) (l : Left) (b : Bool) → b ≡ nat_lt 0 (things_left structs l) → b ≡ true → IsDefined structs l → new ≡ old ++ l ∷ [] → Leaves structs old new l
+  pub leaves_some : (old new : List Left) (l : Left) (b : Bool) → b ≡ nat_lt 0 (things_left structs l) → b ≡ true → IsPlaceable structs l → new ≡ old ++ l ∷ [] → Leaves structs old new l
   leaves_some old new l b is so defined e = record {
     told = λ values o. ap (λ ls. all_left structs values ls o) e ∙ behind values old l o;
     left = λ h. subst (AreLeft structs) (sym e) (left_behind old l h (defined, some (things_left structs l) (sym is ∙ so)));

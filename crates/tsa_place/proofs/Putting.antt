@@ -19,8 +19,9 @@ use Rattle.tsa_place_model.specs.Places.{Given, Values, a_place, element_of, mem
 use Rattle.tsa_place_model.specs.Places.{thing_places, places_inside}
 use Rattle.tsa_place_model.specs.declared.place.Placed.{Placed}
 use Rattle.tsa_place_model.specs.Standing.{IsWithin, AllBelow, IsOrdered}
-use Rattle.tsa_place.specs.Filling.{given, size_left, one_left, all_left, AreLeft, Leaves, values_by, with_one, with_left, with_thing}
-use Rattle.tsa_place.specs.Filling.{IsReady, Puts}
+use Rattle.tsa_place.specs.Filling.{given, all_left, AreLeft, Leaves, values_by, with_one, with_left, with_thing}
+use Rattle.tsa_place.specs.Filling.{IsReady, Fits, Puts}
+use Rattle.tsa_place_model.specs.Parts.{place_limit}
 use Rattle.tsa_place_model.proofs.Sizes.{inside_sized, members_sized}
 use Rattle.tsa_place_model.proofs.Standing.{members_below, object_is}
 
@@ -44,7 +45,7 @@ drop_some (x ∷ ms) zero m e = let same : x ≡ m = cc in ap (λ y. y ∷ ms) s
 drop_some (x ∷ ms) (suc k) m e = drop_some ms k m e
 
 -- an object takes one place more than its members
-object_size : (all : Structures) (values : Values) (g : Given) (n o : ℕ) → IsOrdered all → n < length all → size_of all n ≡ 1 + members_size (size_of all) (structure_at all n).members
+pub object_size : (all : Structures) (values : Values) (g : Given) (n o : ℕ) → IsOrdered all → n < length all → size_of all n ≡ 1 + members_size (size_of all) (structure_at all n).members
 object_size all values g n o ordered h =
     let one = inside_sized all values n o g in
     let whole = ap length (object_is all values n o g ordered h) in
@@ -65,7 +66,11 @@ module _ (k : Known) (old mid new : Rows) (same : mid.places.items ≡ old.place
 
   -- what is ready stays so
   pub ready_still : IsReady k old → AreLeft k.structs.now mid.left.items → IsReady k mid
-  ready_still r left = record { few = r.few; ordered = r.ordered; earlier = subst (λ ps. k.count ≤ length ps) (sym same) r.earlier; left = left }
+  ready_still r left = record { ordered = r.ordered; earlier = subst (λ ps. k.count ≤ length ps) (sym same) r.earlier; left = left }
+
+pub fits_behind : (old mid : Rows) → mid.places.items ≡ old.places.items → (goal_mid goal_old : List Placed) → goal_mid ≡ goal_old → Fits old goal_old → Fits mid goal_mid
+fits_behind old mid same goal_mid goal_old is h =
+    subst (λ n. n ≤ place_limit) (sym (ap length (ap (λ ps. ps ++ goal_mid) same ∙ ap (λ g. old.places.items ++ g) is))) h
 
 -- what follows from two facts that hold where there is no refusal
 pub on_both : {E : Type 0} {P Q R : Type 0} (r : Result ⊤ E) → OnOk r P → OnOk r Q → (P → Q → R) → OnOk r R
@@ -129,7 +134,7 @@ module _ (k : Known) (old new : Rows) (ready : IsReady k old) (one : One) (n : �
       }
 
 -- the first of some elements, and the others
-module _ (k : Known) (old mid new : Rows) (same : mid.places.items ≡ old.places.items) (e : Elements) where
+module _ (k : Known) (old mid : Rows) (same : mid.places.items ≡ old.places.items) (e : Elements) where
   abbrev space : Structures
   space = k.structs.now
 
@@ -167,24 +172,32 @@ module _ (k : Known) (old mid new : Rows) (same : mid.places.items ≡ old.place
       ap (λ m. kind_places (places_inside space values) (size_of space) values (element_of (given e.from) i) (Some i) o e.kind ++ each values m (suc i) (o + size)) less
       ∙ ap (λ j. kind_places (places_inside space values) (size_of space) values (element_of (given e.from) i) (Some i) o e.kind ++ each values (suc n - 1) j (o + size)) next
 
-  pub element_put : (others : Elements) (f : Origin) (index count : ℕ) → 0 < e.count → others ≡ record { from = e.from; index = index; count = count; kind = e.kind } → index ≡ e.index + 1
-      → count ≡ e.count - 1 → given f ≡ element_of (given e.from) e.index → Leaves space old.left.items mid.left.items (left.Elements others)
-      → Puts k mid new (with_one k mid (record { from = f; index = Some e.index; kind = e.kind })) → Puts k old new (with_left k old (left.Elements e))
-  element_put others f index count some is i_is n_is f_is leaves p =
-      puts_behind k old mid new same (with_one k mid (record { from = f; index = Some e.index; kind = e.kind })) (with_left k old (left.Elements e))
-      (ap (λ ps. first (values_by k ps) (given f) (length ps) ++ all_left space (values_by k ps) mid.left.items (length ps + size)) same
-      ∙ ap (λ g. first worth g from_here ++ all_left space worth mid.left.items (from_here + size)) f_is
-      ∙ ap (λ ps. first worth own from_here ++ ps) (leaves.told worth (from_here + size))
-      ∙ ap (λ l. first worth own from_here ++ (one_left space worth (left.Elements l) (from_here + size) ++ behind_all ((from_here + size) + size_left space (left.Elements l)))) is
-      ∙ ap (λ i. first worth own from_here ++ (each worth count i (from_here + size) ++ behind_all ((from_here + size) + count * size))) i_is
-      ∙ ap (λ n. first worth own from_here ++ (each worth n (e.index + 1) (from_here + size) ++ behind_all ((from_here + size) + n * size))) n_is
-      ∙ sym (append_assoc (first worth own from_here) (each worth (e.count - 1) (e.index + 1) (from_here + size)) (behind_all ((from_here + size) + (e.count - 1) * size)))
-      ∙ ap (λ ps. ps ++ behind_all ((from_here + size) + (e.count - 1) * size)) (sym (one_more worth e.count e.index from_here some))
-      ∙ ap (λ m. each worth e.count e.index from_here ++ behind_all m) (whole from_here e.count size some))
-      p
+  -- what is put and what is left then are all of them
+  module _ (f : Origin) (some : 0 < e.end - e.index) (f_is : given f ≡ element_of (given e.from) e.index)
+      (leaves : Leaves space old.left.items mid.left.items (left.Elements (record { from = e.from; index = e.index + 1; end = e.end; kind = e.kind })))
+    where
+      abbrev first_one : One
+      first_one = record { from = f; index = Some e.index; kind = e.kind }
+
+      element_goal : with_one k mid first_one ≡ with_left k old (left.Elements e)
+      element_goal =
+          let less : e.end - (e.index + 1) ≡ (e.end - e.index) - 1 = omega arith in
+          ap (λ ps. first (values_by k ps) (given f) (length ps) ++ all_left space (values_by k ps) mid.left.items (length ps + size)) same
+          ∙ ap (λ g. first worth g from_here ++ all_left space worth mid.left.items (from_here + size)) f_is
+          ∙ ap (λ ps. first worth own from_here ++ ps) (leaves.told worth (from_here + size))
+          ∙ ap (λ n. first worth own from_here ++ (each worth n (e.index + 1) (from_here + size) ++ behind_all ((from_here + size) + n * size))) less
+          ∙ sym (append_assoc (first worth own from_here) (each worth ((e.end - e.index) - 1) (e.index + 1) (from_here + size)) (behind_all ((from_here + size) + ((e.end - e.index) - 1) * size)))
+          ∙ ap (λ ps. ps ++ behind_all ((from_here + size) + ((e.end - e.index) - 1) * size)) (sym (one_more worth (e.end - e.index) e.index from_here some))
+          ∙ ap (λ m. each worth (e.end - e.index) e.index from_here ++ behind_all m) (whole from_here (e.end - e.index) size some)
+
+      pub element_fits : Fits old (with_left k old (left.Elements e)) → Fits mid (with_one k mid first_one)
+      element_fits = fits_behind old mid same (with_one k mid first_one) (with_left k old (left.Elements e)) element_goal
+
+      pub element_put : (new : Rows) → Puts k mid new (with_one k mid first_one) → Puts k old new (with_left k old (left.Elements e))
+      element_put new p = puts_behind k old mid new same (with_one k mid first_one) (with_left k old (left.Elements e)) element_goal p
 
 -- the first of some members, and the others
-module _ (k : Known) (old mid new : Rows) (same : mid.places.items ≡ old.places.items) (m : Members) where
+module _ (k : Known) (old mid : Rows) (same : mid.places.items ≡ old.places.items) (m : Members) where
   abbrev room : Structures
   room = k.structs.now
 
@@ -209,24 +222,28 @@ module _ (k : Known) (old mid new : Rows) (same : mid.places.items ≡ old.place
   abbrev of_thing : Part → ℕ
   of_thing part = thing_size (size_of room) part.thing
 
-  pub member_put : (others : Members) (f : Origin) (number : ℕ) (part : Part) (thing : ThingType) → thing ≡ part.thing → slice_get (structure_at room m.structure).members m.number ≡ Some part
-      → others ≡ record { from = m.from; owner = m.owner; number = number; structure = m.structure } → number ≡ m.number + 1
-      → given f ≡ member_of (given m.from) m.owner m.number part → Leaves room old.left.items mid.left.items (left.Members others)
-      → Puts k mid new (with_thing k mid f thing) → Puts k old new (with_left k old (left.Members m))
-  member_put others f number part thing t_is at is n_is f_is leaves q =
-      let p = subst (λ t. Puts k mid new (with_thing k mid f t)) t_is q in
-      let own = member_of (given m.from) m.owner m.number part in
-      let next : suc m.number ≡ m.number + 1 = omega arith in
-      let whole : (at_here + of_thing part) + members_size (size_of room) (parts (suc m.number)) ≡ at_here + members_size (size_of room) (part ∷ parts (suc m.number)) = omega arith in
-      puts_behind k old mid new same (with_thing k mid f part.thing) (with_left k old (left.Members m))
-      (ap (λ ps. thing_places (places_inside room (values_by k ps)) (size_of room) (values_by k ps) (given f) (length ps) part.thing
-      ++ all_left room (values_by k ps) mid.left.items (length ps + of_thing part)) same
-      ∙ ap (λ g. thing_of g part ++ all_left room worths mid.left.items (at_here + of_thing part)) f_is
-      ∙ ap (λ ps. thing_of own part ++ ps) (leaves.told worths (at_here + of_thing part))
-      ∙ ap (λ l. thing_of own part ++ (one_left room worths (left.Members l) (at_here + of_thing part) ++ all_behind ((at_here + of_thing part) + size_left room (left.Members l)))) is
-      ∙ ap (λ n. thing_of own part ++ (inside n (at_here + of_thing part) (parts n) ++ all_behind ((at_here + of_thing part) + members_size (size_of room) (parts n)))) (n_is ∙ sym next)
-      ∙ sym (append_assoc (thing_of own part) (inside (suc m.number) (at_here + of_thing part) (parts (suc m.number)))
-      (all_behind ((at_here + of_thing part) + members_size (size_of room) (parts (suc m.number)))))
-      ∙ ap (λ o. inside m.number at_here (part ∷ parts (suc m.number)) ++ all_behind o) whole
-      ∙ ap (λ ms. inside m.number at_here ms ++ all_behind (at_here + members_size (size_of room) ms)) (sym (drop_some (structure_at room m.structure).members m.number part at)))
-      p
+  module _ (f : Origin) (part : Part) (thing : ThingType) (t_is : thing ≡ part.thing) (at : slice_get (structure_at room m.structure).members m.number ≡ Some part)
+      (f_is : given f ≡ member_of (given m.from) m.owner m.number part)
+      (leaves : Leaves room old.left.items mid.left.items (left.Members (record { from = m.from; owner = m.owner; number = m.number + 1; structure = m.structure })))
+    where
+      member_goal : with_thing k mid f thing ≡ with_left k old (left.Members m)
+      member_goal =
+          let own = member_of (given m.from) m.owner m.number part in
+          let next : suc m.number ≡ m.number + 1 = omega arith in
+          let whole : (at_here + of_thing part) + members_size (size_of room) (parts (suc m.number)) ≡ at_here + members_size (size_of room) (part ∷ parts (suc m.number)) = omega arith in
+          ap (with_thing k mid f) t_is
+          ∙ ap (λ ps. thing_places (places_inside room (values_by k ps)) (size_of room) (values_by k ps) (given f) (length ps) part.thing
+          ++ all_left room (values_by k ps) mid.left.items (length ps + of_thing part)) same
+          ∙ ap (λ g. thing_of g part ++ all_left room worths mid.left.items (at_here + of_thing part)) f_is
+          ∙ ap (λ ps. thing_of own part ++ ps) (leaves.told worths (at_here + of_thing part))
+          ∙ ap (λ n. thing_of own part ++ (inside n (at_here + of_thing part) (parts n) ++ all_behind ((at_here + of_thing part) + members_size (size_of room) (parts n)))) (sym next)
+          ∙ sym (append_assoc (thing_of own part) (inside (suc m.number) (at_here + of_thing part) (parts (suc m.number)))
+          (all_behind ((at_here + of_thing part) + members_size (size_of room) (parts (suc m.number)))))
+          ∙ ap (λ o. inside m.number at_here (part ∷ parts (suc m.number)) ++ all_behind o) whole
+          ∙ ap (λ ms. inside m.number at_here ms ++ all_behind (at_here + members_size (size_of room) ms)) (sym (drop_some (structure_at room m.structure).members m.number part at))
+
+      pub member_fits : Fits old (with_left k old (left.Members m)) → Fits mid (with_thing k mid f thing)
+      member_fits = fits_behind old mid same (with_thing k mid f thing) (with_left k old (left.Members m)) member_goal
+
+      pub member_put : (new : Rows) → Puts k mid new (with_thing k mid f thing) → Puts k old new (with_left k old (left.Members m))
+      member_put new p = puts_behind k old mid new same (with_thing k mid f thing) (with_left k old (left.Members m)) member_goal p

@@ -1,22 +1,15 @@
 -- The items of a unit one by one.
-use Rattle.std.proofs.Common.{◌≡◌, ◌∙◌, ℕ, suc, ◌+◌, arith, ℤ, Bool, true, false, List, [], ◌∷◌, drop, length, Option, Some, None, Result}
-use Rattle.std.proofs.Common.{Ok, Err, refl, sym, ap}
-use Rattle.std.proofs.lemmas.List.{length-append}
+use Rattle.std.proofs.Common.{◌≡◌, ◌∙◌, ℕ, suc, ◌+◌, arith, List, [], ◌∷◌, drop, length, Some, None, Result}
+use Rattle.std.proofs.Common.{Ok, Err, sym, ap}
 use Rattle.tsa_base.specs.declared.token.Span.{Span}
-use Rattle.tsa_tree.specs.declarations.Syntax.{EnumConstant}
 use Rattle.tsa_tree.specs.declared.item.Item.{Item}
-use Rattle.tsa_tree.specs.declared.meaning.Entry.{Entry}
-use Rattle.tsa_tree.specs.expressions.Syntax.{Identifier}
-use Rattle.tsa_tree.specs.types.Enums.{enumerator_entry}
-use Rattle.tsa_tree.specs.types.Scopes.{Scope, Members, is_taken, is_named_taken, with_name, with_named, with_struct}
+use Rattle.tsa_tree.specs.types.Scopes.{Scope}
 use Rattle.tsa_tree.specs.units.Shapes.{item_shape, item_shapes}
-use Rattle.tsa_tree.specs.units.Syntax.{UnitItem, structure_item, alias_item, enumeration_item, global_item, function_item, body_item}
 use Rattle.tsa_place.specs.declared.refusal.PlaceRefusal.{PlaceRefusal}
 use Rattle.tsa_place.specs.declared.refusal.PlaceRefusal.TheVariants.{TooMany, NoMemory}
 use Rattle.tsa_place.specs.Answers.{Places, GivesAll}
 use Rattle.tsa_place_model.specs.Calls.{Layout}
-use Rattle.tsa_place_model.specs.Parts.{unless, unless_taken, members_after}
-use Rattle.tsa_place_model.specs.Items.{worth, enumerators_behind, behind_data}
+use Rattle.tsa_place_model.specs.Items.{behind_data}
 use Rattle.tsa_place_model.proofs.StructCounts.{same_structs}
 use Rattle.tsa_place_model.specs.Units.{data_placed, too_many_at, or_behind, placed_behind}
 

@@ -1,5 +1,5 @@
 -- What of a thing has no place yet, and which places are put one after another.
-use Rattle.std.specs.Prelude.{◌≡◌, ℕ, ◌+◌, ◌*◌, ◌<◌, ◌≤◌, List, [], ◌∷◌, ◌++◌, drop, take, length, option_map}
+use Rattle.std.specs.Prelude.{◌≡◌, ℕ, ◌+◌, ◌-◌, ◌*◌, ◌<◌, ◌≤◌, List, [], ◌∷◌, ◌++◌, drop, take, length, option_map}
 use Rattle.tsa_tree.specs.declarations.Shapes.{init_shape}
 use Rattle.tsa_place.specs.declared.filling.Origin.{Origin}
 use Rattle.tsa_place.specs.declared.filling.One.{One}
@@ -27,7 +27,7 @@ module _ (structs : Structures) where
 
   -- how many places they take ..
   abbrev pub size_left : Left → ℕ
-  size_left (left.Elements e) = e.count * kind_size (size_of structs) e.kind
+  size_left (left.Elements e) = (e.end - e.index) * kind_size (size_of structs) e.kind
   size_left (left.Members m) = members_size (size_of structs) (members_left m)
 
   abbrev pub sizes_left : List Left → ℕ
@@ -36,7 +36,7 @@ module _ (structs : Structures) where
 
   -- .. and which, from a place on: what lies above comes first
   abbrev pub one_left : Values → Left → ℕ → List Placed
-  one_left values (left.Elements e) o = elements_places (places_inside structs values) (size_of structs) values (given e.from) e.count e.index o e.kind
+  one_left values (left.Elements e) o = elements_places (places_inside structs values) (size_of structs) values (given e.from) (e.end - e.index) e.index o e.kind
   one_left values (left.Members m) o = members_places (places_inside structs values) (size_of structs) values (given m.from) m.owner m.number o (members_left m)
 
   abbrev pub all_left : Values → List Left → ℕ → List Placed
@@ -45,16 +45,17 @@ module _ (structs : Structures) where
 
   -- how many elements or members these are
   abbrev pub things_left : Left → ℕ
-  things_left (left.Elements e) = e.count
+  things_left (left.Elements e) = e.end - e.index
   things_left (left.Members m) = length (members_left m)
 
-  -- its structs are defined, and something of it has no place
-  abbrev pub IsDefined : Left → Type 0
-  IsDefined (left.Elements e) = IsBelow (length structs) e.kind
-  IsDefined (left.Members m) = m.structure < length structs
+  -- its structs are defined, and an object takes no more places than a unit may have
+  abbrev pub IsPlaceable : Left → Type 0
+  IsPlaceable (left.Elements e) = IsBelow (length structs) e.kind
+  IsPlaceable (left.Members m) = (m.structure < length structs) × (size_of structs m.structure ≤ place_limit)
 
+  -- .. and something of it has no place
   abbrev pub IsLeft : Left → Type 0
-  IsLeft l = IsDefined l × (0 < things_left l)
+  IsLeft l = IsPlaceable l × (0 < things_left l)
 
   abbrev pub AreLeft : List Left → Type 0
   AreLeft [] = Unit {0}
@@ -98,10 +99,13 @@ module _ (k : Known) (rows : Rows) where
 -- structs hold by value what is defined before them, the places of earlier globals are among those that are there, and something of all
 -- that is left has no place
 pub record IsReady (k : Known) (rows : Rows) : Type 0 where
-  pub few : k.count ≤ place_limit
   pub ordered : IsOrdered k.structs.now
   pub earlier : k.count ≤ length rows.places.items
   pub left : AreLeft k.structs.now rows.left.items
+
+-- with all that is to come, there are no more places than a unit may have
+abbrev pub Fits : Rows → List Placed → Type 0
+Fits rows goal = length (rows.places.items ++ goal) ≤ place_limit
 
 -- some places are put after others, and the rest of what is to come is left
 pub record Puts (k : Known) (old new : Rows) (goal : List Placed) : Type 0 where

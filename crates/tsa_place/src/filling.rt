@@ -1,7 +1,7 @@
 //! The places of a thing are put one after another (C11 6.2.5p20, 6.7.2.1p15), with a list of what has none yet in place of a recursion.
 ghost use Rattle.std.specs.Prelude.{Some, ◌≡◌, ◌++◌, ◌+◌, ◌≤◌, ◌∷◌, [], nat_lt, length, option_map, slice_get, IfOk, OnOk};
-ghost use Rattle.tsa_place.specs.Filling.{given, things_left, IsDefined, IsLeft, Leaves, values_by, with_one, with_left, with_thing};
-ghost use Rattle.tsa_place.specs.Filling.{IsReady, Puts};
+ghost use Rattle.tsa_place.specs.Filling.{given, things_left, IsPlaceable, IsLeft, Leaves, values_by, with_one, with_left, with_thing};
+ghost use Rattle.tsa_place.specs.Filling.{IsReady, Fits, Puts};
 ghost use Rattle.tsa_place_model.specs.Layouts.{size_of, thing_size};
 ghost use Rattle.tsa_place_model.specs.Places.{a_place, item_of as spec_item_of, element_of as spec_element_of};
 ghost use Rattle.tsa_place_model.specs.Places.{member_of as spec_member_of, places_of};
@@ -33,12 +33,12 @@ pub struct One<'t> {
     pub kind: Kind,
 }
 
-/// So many elements of an array, from an index on.
+/// Elements of an array, from an index on, before an end.
 #[derive(Clone, Copy)]
 pub struct Elements<'t> {
     pub from: Origin<'t>,
     pub index: u32,
-    pub count: u32,
+    pub end: u32,
     pub kind: Kind,
 }
 
@@ -118,17 +118,11 @@ fn member_of<'t>(from: Origin<'t>, owner: u32, number: u32, part: &Part) -> Orig
 }
 
 /// The number of the place that is put next.
-pub fn next_place(places: &[Placed]) -> Result<u32, NoMemory>
-    ensures { IfOk result (λ n. n ≡ length places.now) }
+fn next_place(places: &[Placed]) -> u32
+    requires { length places.now ≤ place_limit }
+    ensures { result ≡ length places.now }
 {
-    u32::try_from(places.len()).ok().ok_or(NoMemory)
-}
-
-/// The number after one.
-fn after(number: u32) -> Result<u32, NoMemory>
-    ensures { IfOk result (λ n. n ≡ number + 1) }
-{
-    number.checked_add(1).ok_or(NoMemory)
+    places.len() as u32
 }
 
 /// Whether there is anything among it.
@@ -136,7 +130,7 @@ fn is_any(structs: &Structures, left: Left<'_>) -> bool
     ensures { result ≡ nat_lt 0 (things_left structs.now left.entry) }
 {
     match left {
-        Left::Elements(elements) => elements.count > 0,
+        Left::Elements(elements) => elements.index < elements.end,
         Left::Members(members) => structs.member(members.structure, members.number).is_some(),
     }
 }
@@ -145,7 +139,7 @@ impl<'t> Rows<'t> {
     /// Leaves elements or members for later, where there are any.
     #[tactic(auto, using(crate::proofs::Leaving::leaving))]
     fn leave(&mut self, structs: &Structures, left: Left<'t>) -> Result<(), NoMemory>
-        requires { IsDefined structs.now left }
+        requires { IsPlaceable structs.now left }
         ensures left { OnOk result (Leaves structs.now self.old.left.items self.new.left.items left.entry) }
         ensures same { OnOk result (self.new.places.items ≡ self.old.places.items) }
     {
@@ -180,9 +174,10 @@ impl<'t, 'a> Known<'t, 'a> {
     fn enter(self, rows: &mut Rows<'t>, one: One<'t>) -> Result<(), NoMemory>
         requires ready { IsReady self rows.old }
         requires defined { IsBelow (length self.structs.now) one.kind }
+        requires fits { Fits rows.old (with_one self rows.old one) }
         ensures { OnOk result (Puts self.entry rows.old rows.new (with_one self.entry rows.old one.entry)) }
     {
-        let owner = next_place(&rows.places)?;
+        let owner = next_place(&rows.places);
         self.put(rows, one)?;
         match one.kind {
             Kind::Structure(structure) => {
@@ -202,12 +197,13 @@ impl<'t, 'a> Known<'t, 'a> {
     fn element(self, rows: &mut Rows<'t>, elements: Elements<'t>) -> Result<(), NoMemory>
         requires ready { IsReady self rows.old }
         requires some { IsLeft self.structs.now (Left.Elements elements) }
+        requires fits { Fits rows.old (with_left self rows.old (Left.Elements elements)) }
         ensures { OnOk result (Puts self.entry rows.old rows.new (with_left self.entry rows.old (Left.Elements elements.entry))) }
     {
         let others = Elements {
             from: elements.from,
-            index: after(elements.index)?,
-            count: elements.count - 1,
+            index: elements.index + 1,
+            end: elements.end,
             kind: elements.kind,
         };
         rows.leave(self.structs, Left::Elements(others))?;
@@ -223,15 +219,16 @@ impl<'t, 'a> Known<'t, 'a> {
     fn thing(self, rows: &mut Rows<'t>, from: Origin<'t>, thing: ThingType) -> Result<(), NoMemory>
         requires ready { IsReady self rows.old }
         requires within { IsWithin (length self.structs.now) thing }
+        requires fits { Fits rows.old (with_thing self rows.old from thing) }
         ensures { OnOk result (Puts self.entry rows.old rows.new (with_thing self.entry rows.old from.entry thing)) }
     {
         let kind = thing.kind;
         match thing.length {
-            Some(count) => {
+            Some(end) => {
                 let elements = Elements {
                     from,
                     index: 0,
-                    count,
+                    end,
                     kind,
                 };
                 self.element(rows, elements)
@@ -251,6 +248,7 @@ impl<'t, 'a> Known<'t, 'a> {
     fn member(self, rows: &mut Rows<'t>, members: Members<'t>) -> Result<(), NoMemory>
         requires ready { IsReady self rows.old }
         requires some { IsLeft self.structs.now (Left.Members members) }
+        requires fits { Fits rows.old (with_left self rows.old (Left.Members members)) }
         ensures { OnOk result (Puts self.entry rows.old rows.new (with_left self.entry rows.old (Left.Members members.entry))) }
     {
         let Some(part) = self.structs.member(members.structure, members.number) else {
@@ -259,7 +257,7 @@ impl<'t, 'a> Known<'t, 'a> {
         let others = Members {
             from: members.from,
             owner: members.owner,
-            number: after(members.number)?,
+            number: members.number + 1,
             structure: members.structure,
         };
         rows.leave(self.structs, Left::Members(others))?;
@@ -271,6 +269,7 @@ impl<'t, 'a> Known<'t, 'a> {
     fn first(self, rows: &mut Rows<'t>, left: Left<'t>) -> Result<(), NoMemory>
         requires ready { IsReady self rows.old }
         requires some { IsLeft self.structs.now left }
+        requires fits { Fits rows.old (with_left self rows.old left) }
         ensures { OnOk result (Puts self.entry rows.old rows.new (with_left self.entry rows.old left.entry)) }
     {
         match left {
@@ -289,6 +288,7 @@ impl<'t, 'a> Known<'t, 'a> {
         requires ready { IsReady self rows.old }
         requires within { IsWithin (length self.structs.now) thing }
         requires alone { rows.old.left.items ≡ [] }
+        requires fits { length rows.old.places.items + thing_size (size_of self.structs.now) thing ≤ place_limit }
         ensures all { OnOk result (rows.new.places.items ≡ rows.old.places.items
             ++ places_of self.entry.structs.now (values_by self.entry rows.old.places.items) (given from.entry)
             (length rows.old.places.items) thing) }
@@ -310,9 +310,9 @@ impl<'t, 'a> Known<'t, 'a> {
         thing: ThingType,
     ) -> Result<Vec<Placed>, NoMemory>
         requires earlier { self.count ≡ length places.items }
-        requires few { self.count ≤ place_limit }
         requires ordered { IsOrdered self.structs.now }
         requires within { IsWithin (length self.structs.now) thing }
+        requires fits { length places.items + thing_size (size_of self.structs.now) thing ≤ place_limit }
         ensures many { IfOk result (λ all. length all.items ≡ length places.items + thing_size (size_of self.entry.structs.now) thing) }
         ensures all { IfOk result (λ all. all.items ≡ places.items ++ places_of self.entry.structs.now (values_by self.entry places.items)
             (given from.entry) (length places.items) thing) }

@@ -11,7 +11,7 @@ ghost use Rattle.tsa_tree.specs.declarations.Shapes.{decl_shapes, init_shape};
 ghost use Rattle.tsa_tree.specs.expressions.Shapes.{name_shape};
 
 use crate::environment::Known;
-use crate::filling::{Origin, next_place};
+use crate::filling::Origin;
 use crate::refusal::PlaceRefusal;
 use std::alloc::Global;
 use std::marker::Model;
@@ -161,7 +161,7 @@ impl Globals {
         requires { IsWithin (length self.old.structs) part.thing }
         ensures { Adds scope.now part (option_map (λ x. init_shape x.now) init.entry) self.old self.new result }
     {
-        let start = next_place(&self.places)?;
+        let start = self.count();
         if u64::from(start) + u64::from(self.structs.thing_size(part.thing)) > PLACE_LIMIT as u64 {
             return Err(PlaceRefusal::TooMany { span: part.span });
         }
