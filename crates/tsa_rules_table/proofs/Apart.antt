@@ -1,6 +1,6 @@
 -- No two marks are noted under one row and one path.
-use Rattle.std.proofs.Common.{◌≡◌, ◌∙◌, ℕ, ◌+◌, ◌*◌, ◌/◌, ◌%◌, ◌^◌, ◌<◌, nat_eq, Bool, true, false, List, map, length, get_or, Option, Some}
-use Rattle.std.proofs.Common.{None, option_map, slice_get, refl, sym, ap, subst, arith, true≢false}
+use Rattle.std.proofs.Common.{◌≡◌, ◌∙◌, ℕ, ◌/◌, ◌%◌, ◌^◌, ◌<◌, nat_eq, false, List, map, length, get_or, Option, Some}
+use Rattle.std.proofs.Common.{None, option_map, slice_get, refl, sym, ap, subst, arith}
 use Rattle.std.proofs.Math.Decide.{dec_lt, ℕ_discrete}
 use Rattle.std.proofs.lemmas.Bool.Decides.{nat_tests}
 use Rattle.std.proofs.lemmas.Map.Entries.{length-keys_of}

@@ -1,6 +1,5 @@
 //! The numbers of the paths of a function.
-ghost use Rattle.std.specs.Prelude.{◌≡◌, length, option_map, slice_get, Some, IfOk, OnOk};
-ghost use Rattle.tsa_path.specs.PathTables.{with_path, AreDifferent};
+ghost use Rattle.std.specs.Prelude.{◌≡◌, length, option_map, slice_get, IfOk};
 ghost use Rattle.tsa_rules_table.specs.Numbers.{below_count, known_number};
 
 use std::alloc::Global;
@@ -28,39 +27,6 @@ impl Model for Numbers {
     ghost invariant = { λ numbers. numbers.known ≤ length numbers.table };
 }
 
-/// Puts a path into a table.
-fn put(table: &mut PathTable, path: Path) -> Result<(), NoMemory>
-    ensures { OnOk result (table.new ≡ with_path table.old path) }
-{
-    match table.intern(path) {
-        Ok(_) => Ok(()),
-        Err(_) => Err(NoMemory),
-    }
-}
-
-/// A copy of the path of a number; an error where there is none.
-fn copy_at(alloc: Global, paths: &PathTable, number: u32) -> Result<Path, NoMemory>
-    ensures { IfOk result (λ path. slice_get paths.now number ≡ Some path) }
-{
-    match paths.path(number) {
-        Some(path) => path.copy(alloc),
-        None => Err(NoMemory),
-    }
-}
-
-/// The same table once more.
-#[tactic(auto, using(crate::proofs::Tables::next_taken))]
-fn copy_table(alloc: Global, paths: &PathTable) -> Result<PathTable, NoMemory>
-    ensures { IfOk result (λ copy. AreDifferent paths.now → copy ≡ paths.now) }
-{
-    let mut copy = PathTable::new(alloc);
-    'each: for number in 0..paths.len() {
-        let path = copy_at(alloc, paths, number)?;
-        put(&mut copy, path)?;
-    }
-    Ok(copy)
-}
-
 /// A number, where it is below the count of those that are known.
 fn below(number: u32, known: u32) -> Option<u32>
     ensures { result ≡ below_count number known }
@@ -71,9 +37,9 @@ fn below(number: u32, known: u32) -> Option<u32>
 impl Numbers {
     /// The numbers of the paths of a table.
     pub fn copy_of(alloc: Global, paths: &PathTable) -> Result<Numbers, NoMemory>
-        ensures { IfOk result (λ numbers. AreDifferent paths.now → numbers ≡ paths.now) }
+        ensures { IfOk result (λ numbers. numbers ≡ paths.now) }
     {
-        let table = copy_table(alloc, paths)?;
+        let table = paths.copy(alloc)?;
         let known = table.len();
         Ok(Numbers { table, known })
     }
