@@ -10,7 +10,7 @@ use Rattle.tsa_path.proofs.PathsApart.{way_equal, way_itself}
 use Rattle.tsa_rules.specs.declared.mark.Mark.{Mark}
 use Rattle.tsa_rules_table.specs.declared.note.Note.{Note}
 use Rattle.tsa_rules_table.specs.Numbers.{known_number}
-use Rattle.tsa_rules_table.specs.Rows.{Rows, is_place, last_row, mark_in, KeepsRows}
+use Rattle.tsa_rules_table.specs.Rows.{Rows, is_place, last_row, mark_in, IsBegun, KeepsRows}
 use Rattle.tsa_rules_table.specs.Saying.{noted, with_note, Adds, Says}
 use Rattle.tsa_rules_table.proofs.Standing.{below_stands, stands_below}
 use Rattle.tsa_base.proofs.Numbers.{itself}
@@ -90,3 +90,7 @@ kept_on old now new one two = record {
   count = two.count ∙ one.count;
   marks = λ row number before. two.marks row number (omega (arith, one.count, before)) ∙ one.marks row number before;
 }
+
+-- and a row stays begun
+pub begun_on : (old new : Rows) → KeepsRows old new → IsBegun old → IsBegun new
+begun_on old new kept begun = subst (λ n. 0 < n) (sym kept.count) begun

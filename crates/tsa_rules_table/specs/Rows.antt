@@ -35,6 +35,10 @@ rows_of count marks = record { count = count; marks = map (λ e. (place_of e.0, 
 abbrev pub OnlyBegunRowsSay : Rows → Type 0
 OnlyBegunRowsSay m = (row number : ℕ) → rows_in m ≤ row → mark_in m row number ≡ no_mark
 
+-- a row is begun
+abbrev pub IsBegun : Rows → Type 0
+IsBegun m = 0 < rows_in m
+
 -- the row that was begun last
 abbrev pub last_row : Rows → ℕ
 last_row m = rows_in m - 1

@@ -4,7 +4,7 @@ ghost use Rattle.tsa_path.specs.Substitution.{substituted};
 ghost use Rattle.tsa_rules.specs.Attributes.{all_as_called, as_called};
 ghost use Rattle.tsa_rules.specs.Marks.{claim_in};
 ghost use Rattle.tsa_rules_table.specs.Notes.{NotesAttributes};
-ghost use Rattle.tsa_rules_table.specs.Rows.{KeepsRows};
+ghost use Rattle.tsa_rules_table.specs.Rows.{IsBegun, KeepsRows};
 ghost use Rattle.tsa_rules_table.specs.Saying.{named_by, noted_attribute, Says};
 
 use crate::marks::Marks;
@@ -57,6 +57,7 @@ impl Marks {
         lock: &NamedLock,
         ways: &[Option<Path>],
     ) -> Result<(), NoMemory>
+        requires begun { IsBegun self.old }
         ensures row { OnOk result (Says numbers.old (noted_attribute (as_called ways.now lock.now)) self.old self.new) }
         ensures kept { OnOk result (KeepsRows self.old self.new) }
         ensures numbers { numbers.new ≡ numbers.old }
@@ -67,6 +68,7 @@ impl Marks {
 
     /// Notes an attribute of the function itself.
     fn note_lock(&mut self, numbers: &mut Numbers, lock: &NamedLock) -> Result<(), NoMemory>
+        requires begun { IsBegun self.old }
         ensures row { OnOk result (Says numbers.old (noted_attribute lock.now) self.old self.new) }
         ensures kept { OnOk result (KeepsRows self.old self.new) }
         ensures numbers { numbers.new ≡ numbers.old }
@@ -76,12 +78,14 @@ impl Marks {
     }
 
     /// Notes the attributes of a called function, as its caller has them.
+    #[tactic(auto, using(crate::proofs::Saying::begun_on))]
     pub fn note_attributes(
         &mut self,
         numbers: &mut Numbers,
         locks: &[NamedLock],
         ways: &[Option<Path>],
     ) -> Result<(), NoMemory>
+        requires begun { IsBegun self.old }
         ensures row { OnOk result (NotesAttributes numbers.old self.old self.new (all_as_called ways.now locks.now)) }
         ensures kept { OnOk result (KeepsRows self.old self.new) }
         ensures numbers { numbers.new ≡ numbers.old }
@@ -93,7 +97,9 @@ impl Marks {
     }
 
     /// Notes the attributes of the function itself.
+    #[tactic(auto, using(crate::proofs::Saying::begun_on))]
     pub fn note_own(&mut self, numbers: &mut Numbers, locks: &[NamedLock]) -> Result<(), NoMemory>
+        requires begun { IsBegun self.old }
         ensures row { OnOk result (NotesAttributes numbers.old self.old self.new locks.now) }
         ensures kept { OnOk result (KeepsRows self.old self.new) }
         ensures numbers { numbers.new ≡ numbers.old }

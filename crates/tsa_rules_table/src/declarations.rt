@@ -3,7 +3,7 @@ ghost use Rattle.std.specs.Prelude.{◌≡◌, option_map, slice_get, OnOk};
 ghost use Rattle.std.specs.List.{list_any};
 ghost use Rattle.tsa_rules.specs.Points.{is_index as spec_is_index, is_rooted_at as spec_is_rooted_at, mentions as spec_mentions};
 ghost use Rattle.tsa_rules_table.specs.Notes.{NotesDeclaration};
-ghost use Rattle.tsa_rules_table.specs.Rows.{KeepsRows};
+ghost use Rattle.tsa_rules_table.specs.Rows.{IsBegun, KeepsRows};
 ghost use Rattle.tsa_rules_table.specs.Saying.{is_mentioning, AddsMention};
 
 use crate::marks::Marks;
@@ -61,6 +61,7 @@ impl Numbers {
 impl Marks {
     /// Notes the declaration of a local of the path of a number, where that mentions it.
     fn note_mention(&mut self, numbers: &Numbers, number: u32, local: u32) -> Result<(), NoMemory>
+        requires begun { IsBegun self.old }
         ensures { OnOk result (AddsMention numbers.now local self.old self.new number) }
     {
         if numbers.is_mentioning(number, local) {
@@ -71,7 +72,9 @@ impl Marks {
     }
 
     /// Notes the declaration of a local.
+    #[tactic(auto, using(crate::proofs::Saying::begun_on))]
     pub fn note_declaration(&mut self, numbers: &Numbers, local: u32) -> Result<(), NoMemory>
+        requires begun { IsBegun self.old }
         ensures row { OnOk result (NotesDeclaration numbers.now self.old self.new local) }
         ensures kept { OnOk result (KeepsRows self.old self.new) }
     {

@@ -1,7 +1,7 @@
 //! What points say of paths, by the numbers of the paths.
-ghost use Rattle.std.specs.Prelude.{◌≡◌, ◌+◌, ◌*◌, ◌^◌, ◌<◌, ℕ, List, [], None, IfOk, OnOk, OnErr};
+ghost use Rattle.std.specs.Prelude.{◌≡◌, ◌+◌, ◌*◌, ◌^◌, ℕ, List, [], None, OnOk};
 ghost use Rattle.tsa_rules_table.specs.Notes.{IsLastRow};
-ghost use Rattle.tsa_rules_table.specs.Rows.{last_row, mark_in, rows_in, Puts};
+ghost use Rattle.tsa_rules_table.specs.Rows.{last_row, mark_in, rows_in, IsBegun, Puts};
 ghost use Rattle.tsa_rules_table.specs.Saying.{Adds};
 ghost use Rattle.tsa_rules.specs.Marks.{no_mark};
 ghost use Rattle.tsa_place_model.specs.Ways.{Way};
@@ -76,33 +76,33 @@ impl Marks {
         self.marks.get(&key).copied().unwrap_or(Mark::none())
     }
 
-    /// Begins a row, which says nothing.
-    pub fn begin_row(&mut self) -> Result<(), NoMemory>
-        ensures begun { OnOk result (rows_in self.new ≡ rows_in self.old + 1) }
-        ensures row { OnOk result ((paths : List Way) → IsLastRow paths self.new [] [] [] None) }
+    /// Begins a row behind the others, which says nothing, so that there are so many.
+    pub fn begin_row(&mut self, count: u32)
+        requires next { count ≡ rows_in self.old + 1 }
+        ensures begun { rows_in self.new ≡ rows_in self.old + 1 }
+        ensures row { (paths : List Way) → IsLastRow paths self.new [] [] [] None }
 
         // of paths that have no number the row says nothing, either
-        ensures nothing { OnOk result ((number : ℕ) → mark_in self.new (rows_in self.old) number ≡ no_mark) }
+        ensures nothing { (number : ℕ) → mark_in self.new (rows_in self.old) number ≡ no_mark }
         ensures kept { (row number : ℕ) → mark_in self.new row number ≡ mark_in self.old row number }
-        ensures refused { OnErr result (self.new ≡ self.old) }
     {
-        self.rows = self.rows.checked_add(1).ok_or(NoMemory)?;
-        Ok(())
+        self.rows = count;
     }
 
-    /// The row that was begun last; an error where none is begun.
-    fn last(&self) -> Result<u32, NoMemory>
-        ensures last { IfOk result (λ row. row ≡ last_row self.now) }
-        ensures begun { OnOk result (0 < rows_in self.now) }
+    /// The row that was begun last.
+    fn last(&self) -> u32
+        requires begun { IsBegun self.now }
+        ensures { result ≡ last_row self.now }
     {
-        self.rows.checked_sub(1).ok_or(NoMemory)
+        self.rows - 1
     }
 
     /// Puts a mark into the last row.
     fn set(&mut self, number: u32, mark: Mark) -> Result<(), NoMemory>
+        requires begun { IsBegun self.old }
         ensures { OnOk result (Puts self.old self.new number mark) }
     {
-        let row = self.last()?;
+        let row = self.last();
         let key = key_of(row, number);
         self.marks.insert(key, mark)?;
         Ok(())
@@ -110,9 +110,10 @@ impl Marks {
 
     /// Notes what the last row says more of the path of a number.
     pub(crate) fn add(&mut self, number: u32, note: Note) -> Result<(), NoMemory>
+        requires begun { IsBegun self.old }
         ensures { OnOk result (Adds self.old self.new number note) }
     {
-        let row = self.last()?;
+        let row = self.last();
         let mark = self.mark(row, number);
         self.set(number, note.on(mark))
     }

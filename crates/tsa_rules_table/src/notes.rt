@@ -1,6 +1,6 @@
 //! Notes of what the last row says of paths.
 ghost use Rattle.std.specs.Prelude.{◌≡◌, IfOk, OnOk};
-ghost use Rattle.tsa_rules_table.specs.Rows.{KeepsRows};
+ghost use Rattle.tsa_rules_table.specs.Rows.{IsBegun, KeepsRows};
 ghost use Rattle.tsa_rules_table.specs.Saying.{noted, Says};
 
 use crate::marks::Marks;
@@ -28,6 +28,7 @@ impl Marks {
         path: Option<Path>,
         note: Note,
     ) -> Result<(), NoMemory>
+        requires begun { IsBegun self.old }
         ensures row { OnOk result (Says numbers.old (noted path note) self.old self.new) }
         ensures kept { OnOk result (KeepsRows self.old self.new) }
         ensures numbers { numbers.new ≡ numbers.old }
