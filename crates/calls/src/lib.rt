@@ -1,7 +1,7 @@
 //! Calls that no command makes, each once with ample memory, and ends that fail in mid-stream: the tokens of a text, expressions and
-//! attributes alone, the places of a unit, paths with their texts, names, the control of bodies, what a unit in the profile tells, what
-//! walks bring to the points of its functions, the rules that fail there, and what the lines of warnings and of held sets say. What
-//! commands show stands in the data of the program `rows`.
+//! attributes alone, the places of a unit, paths with their texts, names, the control of bodies, a table of locks, what a unit in the
+//! profile tells, what walks bring to the points of its functions, the rules that fail there, and what the lines of warnings and of held
+//! sets say. What commands show stands in the data of the program `cases`.
 #![tactic(auto)]
 
 #[cfg(test)]
@@ -12,6 +12,8 @@ mod flows;
 mod graphs;
 #[cfg(test)]
 mod lines;
+#[cfg(test)]
+mod locks;
 #[cfg(test)]
 mod nodes;
 #[cfg(test)]
