@@ -1,7 +1,8 @@
-//! The machine of threads, in definitions and laws alone.
+//! The machine of threads, in definitions and laws, and how its threads begin.
 #![tactic(auto)]
 
 mod laws;
+mod start;
 mod worked_runs;
 
 pub use laws::{
@@ -13,4 +14,5 @@ pub use laws::{
     transfers_lock_their_accounts, turns_are_atomic, turns_tell_their_acts,
     unlocked_writes_are_unsound, unlocked_writes_are_violations, violations_are_unsafe,
 };
+pub use start::ThreadStart;
 pub use worked_runs::{accepted_units_run_safely, transfers_can_start};
