@@ -62,6 +62,7 @@ fn note_level(opened: &mut Vec<Mark>, token: Mark) -> Result<(), NoMemory>
     Ok(())
 }
 
+/// What stands behind a token: a line's start, nothing, or a blank where one is wanted.
 fn kind_behind(token: Mark) -> Behind
     ensures { result ≡ behind_of (mark token) }
 {

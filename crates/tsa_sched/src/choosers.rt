@@ -27,6 +27,7 @@ impl Chooser for RoundRobin {
 
     ghost after = { λ _ s able. robin_after s able };
 
+    /// Picks the threads in turn.
     fn pick(&mut self, able: &[u32]) -> Pick {
         let place = self.turns as usize % able.len();
         self.turns = self.turns.wrapping_add(1);
@@ -55,6 +56,7 @@ impl Chooser for Steady {
 
     ghost after = { λ _ s able. steady_after s able };
 
+    /// Picks the first thread.
     fn pick(&mut self, able: &[u32]) -> Pick {
         Pick {
             thread: able[0],
@@ -85,6 +87,7 @@ impl Chooser for Scatter {
 
     ghost after = { λ _ s able. scatter_after s able };
 
+    /// Picks a thread by the next of its numbers.
     fn pick(&mut self, able: &[u32]) -> Pick {
         let next = (1_664_525 * u64::from(self.seed) + 1_013_904_223) % (1 << 32);
         self.seed = next as u32;

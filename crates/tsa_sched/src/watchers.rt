@@ -59,6 +59,7 @@ impl Watcher for EventCounts {
 
     ghost text = { λ _ s. counts_text s };
 
+    /// Counts an event by what it is.
     fn see(&mut self, event: &Event) {
         self.reads = counted(matches!(event.kind, EventKind::Read { .. }), self.reads);
         self.writes = counted(matches!(event.kind, EventKind::Write { .. }), self.writes);
@@ -66,6 +67,7 @@ impl Watcher for EventCounts {
         self.violations = counted(event.violation, self.violations);
     }
 
+    /// Tells the counts, in one line.
     fn report(&self, alloc: Global) -> Result<Vec<u8>, NoMemory> {
         let mut text = Vec::new(alloc);
         text.extend_from_slice(b"reads ")?;
@@ -123,10 +125,12 @@ impl Watcher for LastEvents {
 
     ghost text = { λ _ s. last_text s };
 
+    /// Keeps the thread of an event.
     fn see(&mut self, event: &Event) {
         self.keep(event.thread);
     }
 
+    /// Tells the threads, in one line.
     fn report(&self, alloc: Global) -> Result<Vec<u8>, NoMemory> {
         let mut text = Vec::new(alloc);
         text.extend_from_slice(b"last threads")?;
