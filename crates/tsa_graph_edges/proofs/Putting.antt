@@ -25,7 +25,7 @@ use Rattle.tsa_core.specs.Control.{step_edges, switch_edges, edges, edges_all, b
 use Rattle.tsa_graph_edges.proofs.SameControl.{Kept, kept_same, kept_further, kept_behind, kept_init, edges_alike, all_edges_alike}
 use Rattle.tsa_graph_edges.proofs.SameControl.{for_alike, jumps}
 use Rattle.tsa_graph_edges.specs.Successors.{Ahead, ahead, with_edges, with_cases, with_labels, set_edges, set_cases, with_statement}
-use Rattle.tsa_graph_edges.specs.Successors.{with_statements}
+use Rattle.tsa_graph_edges.specs.Successors.{with_statements, whole_body}
 use Rattle.tsa_graph_edges.specs.declared.walk.Spot.{Spot}
 use Rattle.tsa_graph_edges.specs.declared.walk.Start.{Start}
 use Rattle.tsa_graph_edges.specs.Spots.{targets_at, IsPut, ArePut}
@@ -320,11 +320,6 @@ module _ (p : Spot) where
   leaf x (Ok s) to old new f a b c = f s a b c
   leaf x (Err e) to old new f a b c = tt
 
-  pub last_leaf : (x : Statement) (r : Result Start NoMemory) (old : Ahead) → ((s : Start) → s.at + 1 ≡ p.end → s.first ≡ s.at → IsPut p x s old old)
-      → IfOk r (λ s. s.at + 1 ≡ p.end) → IfOk r (λ s. s.first ≡ s.at) → IfOk r (λ s. IsPut p x s old old)
-  last_leaf x (Ok s) old f a b = f s a b
-  last_leaf x (Err e) old f a b = tt
-
   pub whole_block : (items : Statements) (span : Span) (r : Result Start NoMemory) (old new : Ahead) → IfOk r (λ s. ArePut p items s old new) → IfOk r (λ s. IsPut p (block items span) s old new)
   whole_block items span (Ok s) old new h = put_block old new s items span h
   whole_block items span (Err e) old new h = tt
@@ -333,12 +328,14 @@ module _ (p : Spot) where
   whole_for x y (Ok s) old new e h = subst (λ z. IsPut p z s old new) (sym e) h
   whole_for x y (Err e) old new is h = tt
 
-  pub end_points : (ss : Statements) (s : Start) (old new : Ahead) → ArePut p ss s old new → s.at ≡ 0 → p.end ≡ count_all ss
-  end_points ss s old new h e = omega (arith, h.ends, e)
-
-  pub end_put : (ss : Statements) (s : Start) (old new : Ahead) → ArePut p ss s old new → s.at ≡ 0 → old ≡ ahead [] [] []
-      → new ≡ with_statements here ss 0 p.follow t (ahead [] [] [])
-  end_put ss s old new h e is = h.put ∙ ap₂ (λ k a. with_statements here ss k p.follow t a) e is
+  pub end_put : (ss : Statements) (s : Start) (old new : Ahead) → ArePut p ss s old new → p.end ≡ count_all ss → p.follow ≡ count_all ss → p.break_to ≡ count_all ss
+      → p.continue_to ≡ count_all ss → old ≡ ahead [] [] [] → new ≡ whole_body here p.labels.now ss
+  end_put ss s old new h e f b c is =
+      let none : s.at ≡ 0 = omega (arith, h.ends, e) in
+      let u : ℕ → ℕ → Targets = λ b c. record { break_to = b; continue_to = c; labels = p.labels.now } in
+      h.put ∙ ap₂ (λ k a. with_statements here ss k p.follow t a) none is
+      ∙ ap (λ f. with_statements here ss 0 f t (ahead [] [] [])) f
+      ∙ ap₂ (λ b c. with_statements here ss 0 (count_all ss) (u b c) (ahead [] [] [])) b c
 
 -- Statements in the arena, from the last one on.
 pub tall_item : (items : List Stmt) (k : ℕ) (d : Stmt) → k < length items → tall (shape_of (get_or items k d)) ≤ talls (stmt_shapes items)
@@ -355,20 +352,21 @@ item_before items n d some within =
     drop-cons items (n - 1) d (omega (arith, some, within)) ∙ ap (λ k. get_or items (n - 1) d ∷ drop k items) e
 
 -- The whole body.
-pub body_is : (s : Scope) (body : Statements) (points : ℕ) (none_yet names ls : Labels) (one two : Ahead) (es : List Edge) → points ≡ count_all body
-    → one ≡ with_statements s body 0 points (jumps s points points none_yet) (ahead [] [] []) → ((name : List ℕ) → found names name ≡ found ls name) → ls ≡ one.labels
-    → two ≡ with_statements s body 0 points (jumps s points points names) (ahead [] [] []) → es ≡ two.edges → es ≡ body_edges s body
-body_is s body points none_yet names ls one two es n is1 same listed is2 out =
+pub body_is : (s : Scope) (body : Statements) (none_yet names ls : Labels) (one two : Ahead) (es : List Edge)
+    → one ≡ whole_body s none_yet body → ((name : List ℕ) → found names name ≡ found ls name) → ls ≡ one.labels
+    → two ≡ whole_body s names body → es ≡ two.edges → es ≡ body_edges s body
+body_is s body none_yet names ls one two es is1 same listed is2 out =
     let c = count_all body in
     let L = labels_all body 0 c in
-    let all : ls ≡ L = listed ∙ ap (λ a. a.labels) is1 ∙ append-nil (labels_all body 0 points) ∙ ap (labels_all body 0) n in
-    out ∙ ap (λ a. a.edges) is2 ∙ append-nil (edges_all s body 0 points (jumps s points points names)) ∙ ap (λ k. edges_all s body 0 k (jumps s k k names)) n
+    let all : ls ≡ L = listed ∙ ap (λ a. a.labels) is1 ∙ append-nil L in
+    out ∙ ap (λ a. a.edges) is2 ∙ append-nil (edges_all s body 0 c (jumps s c c names))
     ∙ all_edges_alike s names L (λ name. same name ∙ ap (λ xs. found xs name) all) s s (kept_same s) (kept_same s) body 0 c c c
 
 -- The whole body, where it has no labels.
-pub body_at_once : (s : Scope) (body : Statements) (points : ℕ) (none_yet : Labels) (one : Ahead) (es : List Edge) → points ≡ count_all body → none_yet ≡ []
-    → one ≡ with_statements s body 0 points (jumps s points points none_yet) (ahead [] [] []) → one.labels ≡ [] → es ≡ one.edges → es ≡ body_edges s body
-body_at_once s body points none_yet one es n unknown is bare out =
-    let same : none_yet ≡ labels_all body 0 points = unknown ∙ sym (sym (append-nil (labels_all body 0 points)) ∙ sym (ap (λ a. a.labels) is) ∙ bare) in
-    out ∙ ap (λ a. a.edges) is ∙ append-nil (edges_all s body 0 points (jumps s points points none_yet)) ∙ ap (λ ls. edges_all s body 0 points (jumps s points points ls)) same
-    ∙ ap (λ k. edges_all s body 0 k (jumps s k k (labels_all body 0 k))) n
+pub body_at_once : (s : Scope) (body : Statements) (none_yet : Labels) (one : Ahead) (es : List Edge) → none_yet ≡ []
+    → one ≡ whole_body s none_yet body → one.labels ≡ [] → es ≡ one.edges → es ≡ body_edges s body
+body_at_once s body none_yet one es unknown is bare out =
+    let c = count_all body in
+    let L = labels_all body 0 c in
+    let same : none_yet ≡ L = unknown ∙ sym (sym (append-nil L) ∙ sym (ap (λ a. a.labels) is) ∙ bare) in
+    out ∙ ap (λ a. a.edges) is ∙ append-nil (edges_all s body 0 c (jumps s c c none_yet)) ∙ ap (λ ls. edges_all s body 0 c (jumps s c c ls)) same

@@ -1,10 +1,10 @@
 -- What a walk through a body from its end on has come by, in order of the text: the edges, the cases of the switch that it is in, and the
 -- labels.
-use Rattle.std.specs.Prelude.{ℕ, List, ◌++◌}
+use Rattle.std.specs.Prelude.{ℕ, List, [], ◌++◌}
 use Rattle.tsa_tree.specs.statements.Syntax.{Statement, Statements}
 use Rattle.tsa_tree.specs.types.Scopes.{Scope}
 use Rattle.tsa_tree.specs.types.Targets.{Labels}
-use Rattle.tsa_core.specs.Control.{Edge, labels, labels_all, Cases, cases, cases_all, Targets, edges, edges_all}
+use Rattle.tsa_core.specs.Control.{Edge, count_all, labels, labels_all, Cases, cases, cases_all, Targets, edges, edges_all}
 
 pub record Ahead : Type 0 where
   pub edges : List Edge
@@ -38,3 +38,8 @@ with_statement here s at follow t a = ahead (edges here s at follow t ++ a.edges
 abbrev pub with_statements : Scope → Statements → (at follow : ℕ) → Targets → Ahead → Ahead
 with_statements here ss at follow t a =
     ahead (edges_all here ss at follow t ++ a.edges) (cases_all here ss at follow ++ a.cases) (labels_all ss at follow ++ a.labels)
+
+-- a whole body, where these labels are known
+abbrev pub whole_body : Scope → Labels → Statements → Ahead
+whole_body here known body =
+    with_statements here body 0 (count_all body) (record { break_to = count_all body; continue_to = count_all body; labels = known }) (ahead [] [] [])

@@ -1,5 +1,5 @@
 //! What a statement puts in front besides the statements in it: the edges of points and tests, and cases (C11 6.8).
-ghost use Rattle.std.specs.Prelude.{◌≡◌, ◌+◌, ◌∷◌, [], length, option_map, IfOk, OnOk};
+ghost use Rattle.std.specs.Prelude.{◌≡◌, ◌+◌, ◌<◌, ◌≤◌, ◌∷◌, [], length, option_map, IfOk, OnOk};
 ghost use Rattle.tsa_core.specs.Control.{edge, label_at, a_case, test_edges, tested_edges, for_edges, step_edges, Next};
 ghost use Rattle.tsa_graph_edges.specs.Successors.{with_edges, with_cases};
 ghost use Rattle.tsa_graph_edges.specs.Spots.{targets_at};
@@ -10,7 +10,7 @@ ghost use Rattle.tsa_tree.specs.types.DeclaredTypes.{value_in};
 ghost use Rattle.tsa_tree.specs.types.Scopes.{context_of};
 
 use crate::link::Outcome;
-use crate::numbers::{ahead_of, before, behind, init_points, int_of, step_points};
+use crate::numbers::{init_points, int_of, step_points};
 use crate::successors::Ahead;
 use crate::walk::{Spot, Start};
 use tsa_base::NoMemory;
@@ -156,21 +156,23 @@ impl<'t, 'a> Spot<'t, 'a> {
     }
 
     /// The only point of a statement.
-    pub fn one_point(self) -> Result<Start, NoMemory>
-        ensures at { IfOk result (λ start. start.at + 1 ≡ self.entry.end) }
-        ensures first { IfOk result (λ start. start.first ≡ start.at) }
+    pub fn one_point(self) -> Start
+        requires { 0 < self.end }
+        ensures at { result.at + 1 ≡ self.entry.end }
+        ensures first { result.first ≡ result.at }
     {
-        let at = before(self.end)?;
-        Ok(Start { at, first: at })
+        let at = self.end - 1;
+        Start { at, first: at }
     }
 
     /// A statement of one point that leads to a point.
     pub fn put_next(self, ahead: &mut Ahead<'a>, to: u32) -> Result<Start, NoMemory>
+        requires { 0 < self.end }
         ensures at { IfOk result (λ start. start.at + 1 ≡ self.entry.end) }
         ensures first { IfOk result (λ start. start.first ≡ start.at) }
         ensures put { IfOk result (λ start. ahead.new ≡ with_edges (edge start.at Next to ∷ []) ahead.old) }
     {
-        let start = self.one_point()?;
+        let start = self.one_point();
         ahead.put(start.at, Outcome::Next, to)?;
         Ok(start)
     }
@@ -227,6 +229,8 @@ impl<'t, 'a> Spot<'t, 'a> {
         head: ForHead<'_, 'a>,
         fork: Fork,
     ) -> Result<u32, NoMemory>
+        requires init { length (points_of_init (init_given head.init)) ≤ fork.at }
+        requires test { fork.at < self.end }
         ensures at { IfOk result (λ at. at + length (points_of_init (init_given head.entry.init)) ≡ fork.at) }
         ensures put { IfOk result (λ at. ahead.new
             ≡ with_edges (step_edges (length (points_of_init (init_given head.entry.init))) at fork.at)
@@ -234,10 +238,10 @@ impl<'t, 'a> Spot<'t, 'a> {
             (with_edges (step_edges (length (points_of_step (step_given head.entry.step))) (fork.at + 1) fork.at) ahead.old))) }
     {
         let test_at = fork.at;
-        put_part(ahead, step_points(head.step), behind(test_at, 1)?, test_at)?;
+        put_part(ahead, step_points(head.step), test_at + 1, test_at)?;
         self.put_for_test(ahead, head.test, fork)?;
         let points = init_points(head.init);
-        let at = ahead_of(test_at, points)?;
+        let at = test_at - points;
         put_part(ahead, points, at, test_at)?;
         Ok(at)
     }

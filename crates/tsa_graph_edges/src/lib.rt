@@ -5,8 +5,10 @@ mod forks;
 mod link;
 mod links;
 mod numbers;
+mod points;
 mod successors;
 mod walk;
 
 pub use link::{Link, Outcome};
 pub use links::body_links;
+pub use points::BodyPoints;

@@ -1,45 +1,12 @@
 //! Numbers of points.
-ghost use Rattle.std.specs.Prelude.{◌≡◌, ◌+◌, length, IfOk, OnOk};
+ghost use Rattle.std.specs.Prelude.{◌≡◌, length};
 ghost use Rattle.tsa_core.specs.Control.{or_follow as spec_or_follow};
 ghost use Rattle.tsa_tree.specs.points.Syntax.{points_of_init, points_of_step};
 ghost use Rattle.tsa_tree.specs.statements.Shapes.{init_given, step_given};
 ghost use Rattle.tsa_tree.specs.types.Arithmetic.{int_of as spec_int_of};
 
-use tsa_base::NoMemory;
 use tsa_tree::number::Number;
 use tsa_tree::stmt::{Stmt, StmtKind};
-
-/// The number before another.
-pub fn before(number: u32) -> Result<u32, NoMemory>
-    ensures { IfOk result (λ n. n + 1 ≡ number) }
-{
-    number.checked_sub(1).ok_or(NoMemory)
-}
-
-/// The number so many behind another.
-pub fn behind(number: u32, by: u32) -> Result<u32, NoMemory>
-    ensures { IfOk result (λ n. n ≡ number + by) }
-{
-    number.checked_add(by).ok_or(NoMemory)
-}
-
-/// The number so many before another.
-pub fn ahead_of(number: u32, by: u32) -> Result<u32, NoMemory>
-    ensures { IfOk result (λ n. n + by ≡ number) }
-{
-    number.checked_sub(by).ok_or(NoMemory)
-}
-
-/// Two ways to number a point agree, as they do in every tree that was read.
-pub fn agree(number: u32, other: u32) -> Result<(), NoMemory>
-    ensures { OnOk result (number ≡ other) }
-{
-    if number == other {
-        Ok(())
-    } else {
-        Err(NoMemory)
-    }
-}
 
 /// The first of so many points, or what follows where there is none.
 pub fn or_follow(points: u32, at: u32, follow: u32) -> u32

@@ -1,14 +1,16 @@
 //! A walk through a body from its end on, so that at each statement it is known what follows it (C11 6.8).
-ghost use Rattle.std.specs.Prelude.{◌≡◌, option_map, IfOk};
+ghost use Rattle.std.specs.Prelude.{◌≡◌, ◌+◌, length, option_map, IfOk};
 ghost use Rattle.tsa_base.specs.declared.token.Span.{Span as Place};
+ghost use Rattle.tsa_graph_edges.specs.PointNumbers.{IsPartTo, IsNumberedTo, IsTestTo, AreNumberedTo};
 ghost use Rattle.tsa_graph_edges.specs.Spots.{IsPut, ArePut};
 ghost use Rattle.tsa_tree.specs.expressions.Shapes.{shape};
 ghost use Rattle.tsa_tree.specs.expressions.Syntax.{Expression};
-ghost use Rattle.tsa_tree.specs.statements.Shapes.{stmt_shape, stmt_shapes, init_given, step_given};
+ghost use Rattle.tsa_tree.specs.points.Syntax.{points_of_init, points_of_step};
+ghost use Rattle.tsa_tree.specs.statements.Shapes.{stmt_shape, stmt_shapes, init_given, step_given, counted};
 ghost use Rattle.tsa_tree.specs.statements.Syntax.{if_alone, if_else, while_loop, do_loop, for_loop, switch, case};
 
 use crate::forks::{ForHead, Fork};
-use crate::numbers::{agree, before, behind, or_follow, step_points};
+use crate::numbers::{or_follow, step_points};
 use crate::successors::Ahead;
 use tsa_base::NoMemory;
 use tsa_tree::expr::Expr;
@@ -50,11 +52,12 @@ impl<'t, 'a> Spot<'t, 'a> {
         test: &Expr<'a>,
         arm: &Stmt<'a>,
     ) -> Result<Start, NoMemory>
+        requires { IsPartTo 1 arm.now 0 self.end }
         ensures { IfOk result (λ start. (span : Place)
             → IsPut self.entry (if_alone (shape test.now) (stmt_shape arm.now.kind arm.now.span) span) start ahead.old ahead.new) }
     {
         let inner = self.put(ahead, arm)?;
-        let at = before(inner.at)?;
+        let at = inner.at - 1;
         let yes_to = inner.first;
         let no_to = self.follow;
         self.put_test(ahead, test, Fork { at, yes_to, no_to })?;
@@ -69,6 +72,8 @@ impl<'t, 'a> Spot<'t, 'a> {
         test: &Expr<'a>,
         arms: (&Stmt<'a>, &Stmt<'a>),
     ) -> Result<Start, NoMemory>
+        requires yes { IsPartTo 1 arms.0.now (counted arms.1.now.kind arms.1.now.span) self.end }
+        requires no { IsPartTo (1 + counted arms.0.now.kind arms.0.now.span) arms.1.now 0 self.end }
         ensures { IfOk result (λ start. (span : Place)
             → IsPut self.entry (if_else (shape test.now) (stmt_shape arms.entry.0.now.kind arms.entry.0.now.span)
             (stmt_shape arms.entry.1.now.kind arms.entry.1.now.span) span) start ahead.old ahead.new) }
@@ -76,7 +81,7 @@ impl<'t, 'a> Spot<'t, 'a> {
         let (yes, no) = arms;
         let other = self.put(ahead, no)?;
         let inner = self.ending(other.at).put(ahead, yes)?;
-        let at = before(inner.at)?;
+        let at = inner.at - 1;
         let yes_to = inner.first;
         let no_to = other.first;
         self.put_test(ahead, test, Fork { at, yes_to, no_to })?;
@@ -91,13 +96,14 @@ impl<'t, 'a> Spot<'t, 'a> {
         head: WhileHead<'_, 'a>,
         body: &Stmt<'a>,
     ) -> Result<Start, NoMemory>
+        requires test { IsTestTo 0 head.point (counted body.now.kind body.now.span) self.end }
+        requires body { IsNumberedTo body.now self.end }
         ensures { IfOk result (λ start. (span : Place)
             → IsPut self.entry (while_loop (shape head.entry.test.now) (stmt_shape body.now.kind body.now.span) span) start ahead.old
             ahead.new) }
     {
-        let at = head.point.ok_or(NoMemory)?;
+        let at = head.point.unwrap();
         let inner = self.in_loop(at).put(ahead, body)?;
-        agree(inner.at, behind(at, 1)?)?;
         let yes_to = inner.first;
         let no_to = self.follow;
         self.put_test(ahead, head.test, Fork { at, yes_to, no_to })?;
@@ -112,10 +118,11 @@ impl<'t, 'a> Spot<'t, 'a> {
         body: &Stmt<'a>,
         test: &Expr<'a>,
     ) -> Result<Start, NoMemory>
+        requires { IsPartTo 0 body.now 1 self.end }
         ensures { IfOk result (λ start. (span : Place)
             → IsPut self.entry (do_loop (stmt_shape body.now.kind body.now.span) (shape test.now) span) start ahead.old ahead.new) }
     {
-        let at = before(self.end)?;
+        let at = self.end - 1;
         let mut links = Vec::new(self.scope.allocator());
         ahead.swap_links(&mut links);
         let inner = self.ending(at).in_loop(at).put(ahead, body)?;
@@ -136,16 +143,17 @@ impl<'t, 'a> Spot<'t, 'a> {
         head: ForHead<'_, 'a>,
         body: &Stmt<'a>,
     ) -> Result<Start, NoMemory>
+        requires test { IsTestTo (length (points_of_init (init_given head.init))) head.point
+            (length (points_of_step (step_given head.step)) + counted body.now.kind body.now.span) self.end }
+        requires body { IsNumberedTo body.now self.end }
         ensures { IfOk result (λ start. (span : Place)
             → IsPut self.entry (for_loop (init_given head.entry.init) (option_map (λ x. shape x.now) head.entry.test)
             (step_given head.entry.step) (stmt_shape body.now.kind body.now.span) span) start ahead.old ahead.new) }
     {
-        let test_at = head.point.ok_or(NoMemory)?;
-        let step_at = behind(test_at, 1)?;
+        let test_at = head.point.unwrap();
         let steps = step_points(head.step);
-        let back = or_follow(steps, step_at, test_at);
+        let back = or_follow(steps, test_at + 1, test_at);
         let inner = self.in_loop(back).put(ahead, body)?;
-        agree(inner.at, behind(step_at, steps)?)?;
         let yes_to = inner.first;
         let no_to = self.follow;
         let at = self.put_head(
@@ -163,13 +171,14 @@ impl<'t, 'a> Spot<'t, 'a> {
     /// A `switch`, whose cases are those of its body but for those of a switch inside.
     #[cycle(putting)]
     fn put_switch(self, ahead: &mut Ahead<'a>, body: &Stmt<'a>) -> Result<Start, NoMemory>
+        requires { IsPartTo 1 body.now 0 self.end }
         ensures { IfOk result (λ start. (key : Expression) (span : Place)
             → IsPut self.entry (switch key (stmt_shape body.now.kind body.now.span) span) start ahead.old ahead.new) }
     {
         let mut cases = Vec::new(self.scope.allocator());
         ahead.swap_cases(&mut cases);
         let inner = self.in_switch().put(ahead, body)?;
-        let at = before(inner.at)?;
+        let at = inner.at - 1;
         ahead.put_switch(at, self.follow)?;
         ahead.swap_cases(&mut cases);
         Ok(Start { at, first: at })
@@ -178,6 +187,7 @@ impl<'t, 'a> Spot<'t, 'a> {
     /// A statement, in front of which nothing is known yet.
     #[cycle(putting)]
     fn put(self, ahead: &mut Ahead<'a>, stmt: &Stmt<'a>) -> Result<Start, NoMemory>
+        requires { IsNumberedTo stmt.now self.end }
         ensures { IfOk result (λ start. IsPut self.entry (stmt_shape stmt.now.kind stmt.now.span) start ahead.old ahead.new) }
     {
         let point = stmt.point;
@@ -231,13 +241,14 @@ impl<'t, 'a> Spot<'t, 'a> {
             StmtKind::Break => self.put_next(ahead, self.break_to),
             StmtKind::Continue => self.put_next(ahead, self.continue_to),
             StmtKind::Goto(name) => self.put_next(ahead, self.label(name.text)),
-            StmtKind::Return(_) => self.one_point(),
+            StmtKind::Return(_) => Ok(self.one_point()),
         }
     }
 
     /// Statements one behind the other, from the last one on.
     #[cycle(putting)]
     pub fn put_all(self, ahead: &mut Ahead<'a>, items: &[Stmt<'a>]) -> Result<Start, NoMemory>
+        requires { AreNumberedTo items.now self.end }
         ensures { IfOk result (λ start. ArePut self.entry (stmt_shapes items.now) start ahead.old ahead.new) }
     {
         let mut start = Start {
