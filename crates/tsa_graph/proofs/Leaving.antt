@@ -1,28 +1,16 @@
 -- Exits that are noted, by the edges into the first points of blocks.
-use Rattle.std.proofs.Common.{◌≡◌, ◌∙◌, ℕ, suc, ◌+◌, ◌<◌, ◌≤◌, arith, ◌⊎◌, inl, inr, List, [], ◌∷◌, ◌++◌, map, take, take-suc, length}
-use Rattle.std.proofs.Common.{length-set, get_or, get_or-set_same, get_or-set_other, set, All, Contains, Some, slice_get, refl, sym, ap}
+use Rattle.std.proofs.Common.{◌≡◌, ◌∙◌, ℕ, suc, ◌+◌, ◌<◌, ◌≤◌, arith, ◌⊎◌, inl, inr, List, [], ◌∷◌, ◌++◌, take, take-suc, length}
+use Rattle.std.proofs.Common.{length-set, get_or, get_or-set_same, get_or-set_other, set, All, Contains, Some, slice_get, sym, ap}
 use Rattle.std.proofs.Common.{subst}
 use Rattle.std.proofs.lemmas.List.Elements.{All-get_or, Contains-append_left, Contains-push, Contains-push_cases}
 use Rattle.std.proofs.lemmas.Option.{same_Some}
 use Rattle.tsa_graph.specs.declared.blocks.GraphBlock.{GraphBlock}
 use Rattle.tsa_graph.specs.declared.entries.Edge.{Edge}
-use Rattle.tsa_graph.proofs.EntryLists.{put_in}
 use Rattle.tsa_graph.proofs.Paths.{either}
 use Rattle.tsa_graph.specs.declared.sequence.Exit.{Exit}
 use Rattle.tsa_graph.specs.declared.sequence.Place.{Place}
 use Rattle.tsa_graph.specs.Noting.{block_at, exit_by, ComesFrom, AreNoted, IsExit, AreExits}
 use Rattle.tsa_graph.proofs.Counts.{side}
-
-length_map : {A B : Type 0} (f : A → B) (xs : List A) → length (map f xs) ≡ length xs
-length_map f [] = refl
-length_map f (x ∷ xs) = let r = length_map f xs in omega (arith, r)
-
--- a further exit in the list of a block
-pub note_in : {A B : Type 0} (f : A → List B) (xs : List A) (now : List (List B)) (i : ℕ) (x y : A) (e : B) → map f xs ≡ now → i < length now → x ≡ get_or xs i x
-    → f y ≡ f x ++ e ∷ [] → map f (set xs i y) ≡ set now i (get_or now i [] ++ e ∷ [])
-note_in f xs now i x y e is within at made =
-    let s = ap length is in
-    let l = length_map f xs in put_in f xs now i x y e is (omega (arith, s, l, within)) at made
 
 -- one exit more
 module _ (exits : List (List Exit)) (q : ℕ) (y : Exit) (inside : q < length exits) where

@@ -14,3 +14,4 @@ mod InARow
 mod RunLists
 pub mod FurtherRuns
 pub mod FurtherEdges
+pub mod Within

@@ -1,6 +1,7 @@
 //! The edges of each point: whether one leaves it alone, and which lead to it.
 ghost use Rattle.std.specs.Prelude.{◌≡◌, ◌<◌, length, map, slice_set, slice_index_or, IfOk, OnOk};
 ghost use Rattle.tsa_graph.specs.Arcs.{more as spec_more, AreArcs};
+ghost use Rattle.tsa_graph.specs.InnerEdges.{AreBetween};
 ghost use Rattle.tsa_graph.specs.declared.arcs.Exit.TheVariants.{Nowhere};
 ghost use Rattle.tsa_graph_edges.specs.Links.{edge_of};
 
@@ -40,28 +41,24 @@ fn more(exit: Exit, to: u32) -> Exit
     }
 }
 
-/// A further edge from a point that is there.
-fn note_exit(outs: &mut Vec<Exit>, from: u32, to: u32) -> Result<(), NoMemory>
-    ensures inside { OnOk result (from < length outs.old.items) }
-    ensures put { OnOk result (outs.new.items ≡ slice_set outs.old.items from (spec_more (slice_index_or outs.old.items from Nowhere) to)) }
+/// A further edge from a point.
+fn note_exit(outs: &mut Vec<Exit>, from: u32, to: u32)
+    requires { from < length outs.old.items }
+    ensures { outs.new.items ≡ slice_set outs.old.items from (spec_more (slice_index_or outs.old.items from Nowhere) to) }
 {
     let number = from as usize;
-    if number < outs.len() {
-        outs[number] = more(outs[number], to);
-        Ok(())
-    } else {
-        Err(NoMemory)
-    }
+    outs[number] = more(outs[number], to);
 }
 
 /// The edges of so many points.
 pub fn arcs_of(alloc: Global, links: &[Link], points: u32) -> Result<Arcs, NoMemory>
+    requires { AreBetween points (map edge_of links.now) }
     ensures { IfOk result (λ arcs. AreArcs points (map edge_of links.now) arcs.outs.items arcs.ins) }
 {
     let mut outs = vec![in alloc; Exit::Nowhere; points as usize]?;
     let mut ins = Entries::new(alloc, points)?;
     'each: for link in links {
-        note_exit(&mut outs, link.from, link.to)?;
+        note_exit(&mut outs, link.from, link.to);
         let edge = Edge {
             from: link.from,
             outcome: link.outcome,

@@ -66,15 +66,12 @@ impl Entries {
         Ok(entries)
     }
 
-    /// A further edge into a point that is there.
+    /// A further edge into a point.
     pub fn note(&mut self, to: u32, edge: Edge) -> Result<(), NoMemory>
-        ensures inside { OnOk result (to < length self.old) }
-        ensures put { OnOk result (self.new ≡ slice_set self.old to (slice_index_or self.old to [] ++ edge ∷ [])) }
+        requires { to < length self.old }
+        ensures { OnOk result (self.new ≡ slice_set self.old to (slice_index_or self.old to [] ++ edge ∷ [])) }
     {
-        let Some(list) = self.lists.get_mut(to as usize) else {
-            return Err(NoMemory);
-        };
-        put(list, edge)?;
+        put(&mut self.lists[to as usize], edge)?;
         Ok(())
     }
 

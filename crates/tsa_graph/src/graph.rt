@@ -3,6 +3,7 @@ ghost use Rattle.std.specs.Prelude.{◌≡◌, ◌+◌, map, IfOk};
 ghost use Rattle.tsa_core.specs.Control.{body_edges, count_all};
 ghost use Rattle.tsa_graph.specs.Graphs.{IsGraph};
 ghost use Rattle.tsa_graph.specs.BlocksOfRuns.{AreMade};
+ghost use Rattle.tsa_graph.specs.InnerEdges.{AreBetween};
 ghost use Rattle.tsa_graph_edges.specs.Links.{edge_of};
 ghost use Rattle.tsa_tree.specs.statements.Shapes.{stmt_shapes};
 
@@ -13,8 +14,7 @@ use crate::ways::{backs, nexts};
 use crate::{Runs, Ways, longest_runs};
 use std::alloc::Global;
 use tsa_base::NoMemory;
-use tsa_graph_edges::{Link, body_links};
-use tsa_tree::stmt::Stmt;
+use tsa_graph_edges::{BodyPoints, Link, body_links};
 use tsa_types_scope::Scope;
 
 /// A block of each run.
@@ -30,6 +30,7 @@ fn blocks_in(alloc: Global, ins: &Entries, runs: &Runs) -> Result<Vec<GraphBlock
 
 /// The graph of edges between so many points, of which the first is where the body is entered: its blocks are longest runs.
 pub fn graph_of_links(alloc: Global, links: &[Link], points: u32) -> Result<Graph, NoMemory>
+    requires { AreBetween points (map edge_of links.now) }
     ensures { IfOk result (λ graph. IsGraph points (map edge_of links.now) graph) }
 {
     let arcs = arcs_of(alloc, links, points)?;
@@ -44,22 +45,11 @@ pub fn graph_of_links(alloc: Global, links: &[Link], points: u32) -> Result<Grap
     Ok(Graph { blocks })
 }
 
-/// The number before another.
-fn before(number: u32) -> Result<u32, NoMemory>
-    ensures { IfOk result (λ n. n + 1 ≡ number) }
+/// The graph of a body: its edges are those of its control.
+pub fn graph_of_body<'a>(scope: &Scope<'a>, body: BodyPoints<'_, 'a>) -> Result<Graph, NoMemory>
+    ensures { IfOk result (λ graph. IsGraph (count_all (stmt_shapes body.entry.statements.now) + 1)
+        (body_edges scope.now (stmt_shapes body.entry.statements.now)) graph) }
 {
-    number.checked_sub(1).ok_or(NoMemory)
-}
-
-/// The graph of a body of so many points with its end, where this is known: its edges are those of its control.
-pub fn graph_of_body<'a>(
-    scope: &Scope<'a>,
-    body: &[Stmt<'a>],
-    points: u32,
-) -> Result<Graph, NoMemory>
-    ensures { IfOk result (λ graph. IsGraph (count_all (stmt_shapes body.now) + 1) (body_edges scope.now (stmt_shapes body.now)) graph) }
-{
-    let end = before(points)?;
-    let links = body_links(scope, body, end)?;
-    graph_of_links(scope.allocator(), &links, points)
+    let links = body_links(scope, body)?;
+    graph_of_links(scope.allocator(), &links, body.points)
 }

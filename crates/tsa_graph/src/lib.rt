@@ -19,3 +19,4 @@ pub use graph::{graph_of_body, graph_of_links};
 pub use rows::blocks_of;
 pub use runs::{Runs, Ways, longest_runs};
 pub use sequence::{Block, Blocks, Exit, Place};
+pub use tsa_graph_edges::BodyPoints;

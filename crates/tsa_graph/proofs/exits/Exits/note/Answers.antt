@@ -1,4 +1,4 @@
-use Rattle.tsa_graph.proofs.Leaving.{note_in}
+use Rattle.tsa_graph.proofs.EntryLists.{note_in}
 use Rattle.tsa_graph.proofs.exits.Exits.note.Goals as goal
 
 pub returns : goal.returns
