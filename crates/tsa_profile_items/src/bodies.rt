@@ -141,11 +141,7 @@ pub fn judge_body<'a>(
     let steps = body_steps(known.scope.allocator(), body, inner.close)?;
     let found = along(ground, known, inner, &steps)?;
     answer_of(found.failure)?;
-    let passes_tries = limit(
-        found.tries as usize > TRY_LIMIT,
-        ProfileCode::LM7,
-        inner.name,
-    );
+    let passes_tries = limit(found.tries > TRY_LIMIT, ProfileCode::LM7, inner.name);
     let passes_paths = limit(found.paths.is_none(), ProfileCode::LM4, inner.name);
     known.tries = or_else(known.tries, passes_tries);
     known.paths = or_else(known.paths, passes_paths);

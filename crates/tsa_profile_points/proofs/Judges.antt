@@ -1,12 +1,13 @@
 -- What is found of some points and then of others is what is found of all.
-use Rattle.std.proofs.Common.{◌≡◌, ◌∙◌, ℕ, ◌+◌, suc, arith, cond, Bool, true, false, List, [], ◌∷◌, ◌++◌, drop, length, filter, map, Option}
-use Rattle.std.proofs.Common.{refl, sym, ap, if◌then◌else◌}
+use Rattle.std.proofs.Common.{◌≡◌, ◌∙◌, ℕ, ◌+◌, ◌≤◌, suc, arith, cond, Bool, true, false, List, [], ◌∷◌, ◌++◌, drop, length, filter, map, Option}
+use Rattle.std.proofs.Common.{refl, sym, ap, subst, if◌then◌else◌}
 use Rattle.std.proofs.lemmas.List.{append_assoc, length-append}
 use Rattle.std.proofs.lemmas.List.Elements.{filter-append}
+use Rattle.tsa_tree.specs.types.Scopes.{Scope}
 use Rattle.tsa_place_model.specs.Ways.{Way}
 use Rattle.tsa_core_points.specs.CoreLaws.{known_of}
-use Rattle.tsa_core_points.specs.Points.{PlacedPoint}
-use Rattle.tsa_core_points.specs.Steps.{BodyStep, step_shape}
+use Rattle.tsa_core_points.specs.Points.{PlacedPoint, placed}
+use Rattle.tsa_core_points.specs.Steps.{BodyStep, does, opens, closes, step_shape}
 use Rattle.tsa_core_points.specs.declared.steps.Step.{Step}
 use Rattle.tsa_core_points.specs.Walks.{Walk, pass, points_along, points_at, walk_behind}
 use Rattle.tsa_profile_accesses.specs.declared.premise.Failure.{Failure}
@@ -79,6 +80,24 @@ module _ (a : Around) where
     tries = (tries ∙ ap (λ n. old.tries + n) (sym (one_counts p (is_try_variable a p) refl))) i;
     gathered = gathered i;
   }
+
+  -- a step begins one try at most
+  one_or_none : (b : Bool) → (if b then 1 else 0) ≤ 1
+  one_or_none true = omega arith
+  one_or_none false = omega arith
+
+  one_at_most : (here : Scope) (step : BodyStep) → length (filter (is_try_variable a) (points_at here step)) ≤ 1
+  one_at_most here (does deed span) =
+      let p = placed here deed span in subst (λ n. n ≤ 1) (sym (one_counts p (is_try_variable a p) refl)) (one_or_none (is_try_variable a p))
+  one_at_most here opens = omega arith
+  one_at_most here closes = omega arith
+
+  pub one_more_at_most : (found new : Found) (here : Scope) (step : BodyStep) → new ≡ behind_points a found (points_at here step) → new.tries ≤ found.tries + 1
+  unfolding behind_points
+  one_more_at_most found new here step is =
+      let tries : new.tries ≡ found.tries + length (filter (is_try_variable a) (points_at here step)) = ap (λ f. f.tries) is in
+      let one = one_at_most here step in
+      omega (arith, tries, one)
 
   -- one step more
   pub behind_step : (found new : Found) (w after : Walk) (step : BodyStep) (rest : List BodyStep) → new ≡ behind_points a found (points_at w.here step)

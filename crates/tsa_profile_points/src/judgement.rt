@@ -1,5 +1,5 @@
 //! A whole body: the first premise that fails at its points, how many of its locals begin with a try, and the paths of its function.
-ghost use Rattle.std.specs.Prelude.{◌≡◌, ◌+◌, [], ◌∷◌, filter, length, map, Some, if◌then◌else◌, IfOk, OnOk};
+ghost use Rattle.std.specs.Prelude.{◌≡◌, ◌+◌, ◌<◌, ◌^◌, [], ◌∷◌, filter, length, map, Some, if◌then◌else◌, IfOk, OnOk};
 ghost use Rattle.tsa_profile_points.specs.Bodies.{Around as SpecAround, is_try_variable, points_premises};
 ghost use Rattle.tsa_profile_points.specs.Gathering.{calls_ways, with_all, with_ways};
 ghost use Rattle.tsa_profile_points.specs.Judging.{behind_points};
@@ -29,7 +29,7 @@ use tsa_types_scope::Scope;
 #[derive(Drop)]
 pub struct Found {
     pub failure: Option<Failure>,
-    pub tries: u32,
+    pub tries: usize,
     pub gathered: Gathered,
 }
 
@@ -38,7 +38,7 @@ pub struct Found {
 #[derive(Drop)]
 pub struct Judged {
     pub failure: Option<Failure>,
-    pub tries: u32,
+    pub tries: usize,
     pub paths: Option<PathTable>,
 }
 
@@ -53,15 +53,11 @@ pub fn attribute_paths(alloc: Global, own: &[NamedLock]) -> Result<Option<PathTa
 }
 
 /// One more, where something is so.
-fn count(number: u32, is_one: bool) -> Result<u32, NoMemory>
-    ensures { IfOk result (λ n. n ≡ number + (if is_one then 1 else 0)) }
+fn count(number: usize, is_one: bool) -> usize
+    requires { number + 1 < 2 ^ 64 }
+    ensures { result ≡ number + (if is_one then 1 else 0) }
 {
-    if is_one {
-        let more = number.checked_add(1).ok_or(NoMemory)?;
-        Ok(more)
-    } else {
-        Ok(number)
-    }
+    if is_one { number + 1 } else { number }
 }
 
 impl<'w, 'a> Spot<'w, 'a> {
@@ -116,12 +112,13 @@ impl<'w, 'a> Spot<'w, 'a> {
 
     /// Notes a point behind the others.
     fn note_point(self, found: &mut Found, point: &Point<'_>) -> Result<(), NoMemory>
+        requires { found.old.tries + 1 < 2 ^ 64 }
         ensures { OnOk result (found.new ≡ behind_points (around_of self.entry.around) found.old
             (placed self.entry.scope.now (action_shape point.now.action) point.now.span ∷ [])) }
     {
         let failure = self.put_point(&mut found.gathered, point)?;
         found.failure = earlier(found.failure, failure);
-        found.tries = count(found.tries, self.is_begun_by_a_try(&point.action))?;
+        found.tries = count(found.tries, self.is_begun_by_a_try(&point.action));
         Ok(())
     }
 }
@@ -135,6 +132,7 @@ impl<'w> Around<'w> {
         scope: &Scope<'_>,
         step: &Step<'_>,
     ) -> Result<(), NoMemory>
+        requires { found.old.tries + 1 < 2 ^ 64 }
         ensures { OnOk result (found.new ≡ behind_points (around_of self.entry) found.old (points_at scope.now (step_shape step.now))) }
     {
         match step {
@@ -154,6 +152,7 @@ impl<'w> Around<'w> {
         walk: &mut Walk<'a>,
         steps: &[Step<'a>],
     ) -> Result<(), NoMemory>
+        requires { found.old.tries + length steps.now < 2 ^ 64 }
         ensures found { OnOk result (found.new
             ≡ behind_points (around_of self.entry) found.old (points_along walk.old (map step_shape steps.now))) }
         ensures behind { OnOk result (walk.new ≡ walk_behind walk.old (map step_shape steps.now)) }

@@ -8,7 +8,7 @@ use Rattle.tsa_profile_points.proofs.points.Spot.note_point.Goals as goal
 pub returns : goal.returns
 returns c =
     behind_one (around_of c.args.self.around) c.args.found.now
-    (record { failure = c.earlier-found.result; tries = c.in_ok-found.field-0; gathered = c.put_point.new.gathered })
+    (record { failure = c.earlier-found.result; tries = c.count-found.result; gathered = c.put_point.new.gathered })
     (placed c.args.self.scope.now (action_shape c.args.point.now.action) c.args.point.now.span) c.in_ok-failure.failure c.in_ok-failure.ensures.failure
     c.in_ok-failure.ensures.paths c.earlier-found.ensures
-    (c.in_ok-found.ensures ∙ ap (λ b. c.args.found.now.tries + (if b then 1 else 0)) c.is_begun_by_a_try.ensures)
+    (c.count-found.ensures ∙ ap (λ b. c.args.found.now.tries + (if b then 1 else 0)) c.is_begun_by_a_try.ensures)
