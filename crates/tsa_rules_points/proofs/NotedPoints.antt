@@ -75,7 +75,7 @@ variable_by next idles b = none_if b
 variable_by next (returns e) b = none_if b
 variable_by next ends b = none_if b
 
-is_variable : (u : Program) (a : Around) (kind : Kind) (q : PlacedPoint) → Agrees u a kind q → is_some (try_variable_at u (core_at kind q)) ≡ begins_a_try a (known_of q)
+pub is_variable : (u : Program) (a : Around) (kind : Kind) (q : PlacedPoint) → Agrees u a kind q → is_some (try_variable_at u (core_at kind q)) ≡ begins_a_try a (known_of q)
 is_variable u a kind q agrees =
     ap₂ (λ b o. is_some (if b then o else None))
     (ap (list_any (λ x. rules.is_try x.kind)) (sym agrees) ∙ same_tries (called_attributes a.attributes (called_at (known_of q))))
@@ -133,6 +133,10 @@ module _ (a : Around) (kind : Kind) (paths : List Way) (qs : List PlacedPoint) (
     marks = rows_there h added;
     roles = roles_there h tells grows;
   }
+
+-- one role more is noted, and one row more
+pub one_more_row : (old new : List Duty) (d : Duty) (rows : ℕ) → rows ≡ length old → new ≡ old ++ d ∷ [] → length new ≡ rows + 1
+one_more_row old new d rows as_many more = ap length more ∙ length-append old (d ∷ []) ∙ ap (λ n. n + 1) (sym as_many)
 
 -- nothing is noted yet
 pub none_noted : (a : Around) (kind : Kind) (paths : List Way) (n : Notes) → n.callees.items ≡ [] → n.kinds.items ≡ [] → rows_in n.marks ≡ 0

@@ -32,3 +32,7 @@ pub record AreNotes (a : Around) (kind : Kind) (paths : List Way) (qs : List Pla
 -- what is noted so far
 abbrev pub notes_in : Book → Notes
 notes_in b = record { roles = b.roles; callees = b.callees; kinds = b.kinds; marks = b.marking.marks }
+
+-- there are as many rows as points whose roles are noted
+abbrev pub HaveRows : Notes → Type 0
+HaveRows n = rows_in n.marks ≡ length n.roles

@@ -1,7 +1,7 @@
 //! A row of marks for each point of a body: what the point says of the paths of its function.
-ghost use Rattle.std.specs.Prelude.{◌≡◌, option_map, OnOk};
+ghost use Rattle.std.specs.Prelude.{◌≡◌, ◌+◌, option_map, OnOk};
 ghost use Rattle.tsa_rules_table.specs.Notes.{NotesAttributes, NotesLeft, NotesRight};
-ghost use Rattle.tsa_rules_table.specs.Rows.{KeepsRows};
+ghost use Rattle.tsa_rules_table.specs.Rows.{rows_in, IsBegun, KeepsRows};
 ghost use Rattle.tsa_rules_points.specs.Marking.{AddsRow, NotesBegun, value_in};
 ghost use Rattle.tsa_rules_points.specs.Points.{attrs_here, begun_here, uses_here};
 ghost use Rattle.tsa_rules_points.specs.Visits.{around_at, known_at};
@@ -39,6 +39,7 @@ impl Marking {
     /// Notes the locks that the called function names, as its caller has them.
     #[tactic(auto, using(crate::proofs::Uses::marks_are))]
     fn note_call(&mut self, visit: Visit<'_, '_>) -> Result<(), NoMemory>
+        requires begun { IsBegun self.old.marks }
         ensures row { OnOk result (NotesAttributes self.old.numbers self.old.marks self.new.marks
             (attrs_here (around_at visit.entry) (known_at visit.entry))) }
         ensures kept { OnOk result (KeepsRows self.old.marks self.new.marks) }
@@ -58,6 +59,7 @@ impl Marking {
     /// Notes what is read for the value that is worked out there.
     #[tactic(auto, using(crate::proofs::Uses::marks_are))]
     fn note_value(&mut self, visit: Visit<'_, '_>) -> Result<(), NoMemory>
+        requires begun { IsBegun self.old.marks }
         ensures row { OnOk result (NotesRight self.old.numbers self.old.marks self.new.marks
             (uses_here (around_at visit.entry) (known_at visit.entry)).right) }
         ensures kept { OnOk result (KeepsRows self.old.marks self.new.marks) }
@@ -75,6 +77,7 @@ impl Marking {
     /// Notes what an assignment reads and writes for its left side.
     #[tactic(auto, using(crate::proofs::Uses::marks_are))]
     fn note_left(&mut self, visit: Visit<'_, '_>) -> Result<(), NoMemory>
+        requires begun { IsBegun self.old.marks }
         ensures row { OnOk result (NotesLeft self.old.numbers self.old.marks self.new.marks
             (uses_here (around_at visit.entry) (known_at visit.entry)).left) }
         ensures kept { OnOk result (KeepsRows self.old.marks self.new.marks) }
@@ -91,6 +94,7 @@ impl Marking {
 
     /// Notes the local that begins there.
     fn note_begun(&mut self, visit: Visit<'_, '_>) -> Result<(), NoMemory>
+        requires begun { IsBegun self.old.marks }
         ensures row { OnOk result (NotesBegun self.old.numbers self.old.marks self.new.marks (begun_here (known_at visit.entry))) }
         ensures kept { OnOk result (KeepsRows self.old.marks self.new.marks) }
         ensures numbers { self.new.numbers ≡ self.old.numbers }
@@ -104,12 +108,14 @@ impl Marking {
         }
     }
 
-    /// A row of marks more: what a point says.
-    pub fn note(&mut self, visit: Visit<'_, '_>) -> Result<(), NoMemory>
+    /// A row of marks more, so that there are so many: what a point says.
+    #[tactic(auto, using(tsa_rules_table::proofs::Saying::begun_on))]
+    pub fn note(&mut self, visit: Visit<'_, '_>, count: u32) -> Result<(), NoMemory>
+        requires next { count ≡ rows_in self.old.marks + 1 }
         ensures row { OnOk result (AddsRow (around_at visit.entry) self.old.numbers (known_at visit.entry) self.old.marks self.new.marks) }
         ensures numbers { self.new.numbers ≡ self.old.numbers }
     {
-        self.marks.begin_row()?;
+        self.marks.begin_row(count);
         self.note_call(visit)?;
         self.note_value(visit)?;
         self.note_left(visit)?;

@@ -3,7 +3,7 @@ ghost use Rattle.std.specs.Prelude.{◌≡◌, ◌++◌, ◌∷◌, [], List, ma
 ghost use Rattle.tsa_base.specs.declared.token.Span.{Span};
 ghost use Rattle.tsa_profile_points.specs.PointAnswers.{around_of};
 ghost use Rattle.tsa_core.specs.Bodies.{kinds_by};
-ghost use Rattle.tsa_rules_points.specs.Notes.{AreNotes, notes_in};
+ghost use Rattle.tsa_rules_points.specs.Notes.{AreNotes, HaveRows, notes_in};
 ghost use Rattle.tsa_rules_points.specs.Points.{begins_a_try as spec_begins_a_try};
 ghost use Rattle.tsa_rules_points.specs.Visits.{around_at, known_at};
 ghost use Rattle.tsa_core_points.specs.Points.{PlacedPoint, placed};
@@ -75,10 +75,12 @@ impl<'w> Frame<'w> {
         scope: &Scope<'a>,
         action: &Action<'a>,
     ) -> Result<(), NoMemory>
+        requires rows { HaveRows (notes_in book.old) }
         ensures notes { OnOk result ((qs : List PlacedPoint) (span : Span)
             → AreNotes (around_of self.entry.around) self.entry.kind book.old.marking.numbers qs (notes_in book.old)
             → AreNotes (around_of self.entry.around) self.entry.kind book.old.marking.numbers
             (qs ++ placed scope.now (action_shape action.now) span ∷ []) (notes_in book.new)) }
+        ensures rows { OnOk result (HaveRows (notes_in book.new)) }
         ensures numbers { book.new.marking.numbers ≡ book.old.marking.numbers }
     {
         let spot = Spot {
@@ -86,11 +88,11 @@ impl<'w> Frame<'w> {
             scope,
         };
         let visit = Visit::new(spot, action);
-        book.marking.note(visit)?;
-        book.callees.push(visit.callee)?;
-        note_kind(&mut book.kinds, scope, action)?;
         let duty = duty_at(scope, self.kind, action);
-        book.roles.push(duty, visit.begins_a_try())
+        book.roles.push(duty, visit.begins_a_try())?;
+        book.marking.note(visit, book.roles.points())?;
+        book.callees.push(visit.callee)?;
+        note_kind(&mut book.kinds, scope, action)
     }
 
     /// Notes a step behind the others: only points are noted.
@@ -100,10 +102,12 @@ impl<'w> Frame<'w> {
         scope: &Scope<'a>,
         step: &Step<'a>,
     ) -> Result<(), NoMemory>
+        requires rows { HaveRows (notes_in book.old) }
         ensures notes { OnOk result ((qs : List PlacedPoint)
             → AreNotes (around_of self.entry.around) self.entry.kind book.old.marking.numbers qs (notes_in book.old)
             → AreNotes (around_of self.entry.around) self.entry.kind book.old.marking.numbers
             (qs ++ points_at scope.now (step_shape step.now)) (notes_in book.new)) }
+        ensures rows { OnOk result (HaveRows (notes_in book.new)) }
         ensures numbers { book.new.marking.numbers ≡ book.old.marking.numbers }
     {
         match step {
@@ -119,10 +123,12 @@ impl<'w> Frame<'w> {
         walk: &mut Walk<'a>,
         steps: &[Step<'a>],
     ) -> Result<(), NoMemory>
+        requires rows { HaveRows (notes_in book.old) }
         ensures notes { OnOk result ((qs : List PlacedPoint)
             → AreNotes (around_of self.entry.around) self.entry.kind book.old.marking.numbers qs (notes_in book.old)
             → AreNotes (around_of self.entry.around) self.entry.kind book.old.marking.numbers
             (qs ++ points_along walk.old (map step_shape steps.now)) (notes_in book.new)) }
+        ensures rows { OnOk result (HaveRows (notes_in book.new)) }
         ensures numbers { book.new.marking.numbers ≡ book.old.marking.numbers }
         ensures behind { OnOk result (walk.new ≡ walk_behind walk.old (map step_shape steps.now)) }
     {

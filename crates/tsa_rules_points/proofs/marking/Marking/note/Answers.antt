@@ -22,7 +22,7 @@ returns-clause-row c =
     let n3 = c.in_ok-note_left.ensures.numbers ∙ n2 in
     on_both c.note_begun.result c.note_begun.ensures.row c.note_begun.ensures.kept
     (λ starts kept.
-    row_added a paths k c.args.self.now.marks m one two three end c.in_ok-begin_row.ensures.begun c.in_ok-begin_row.ensures.nothing c.begin_row.ensures.kept
+    row_added a paths k c.args.self.now.marks m one two three end c.begin_row.ensures.begun c.begin_row.ensures.nothing c.begin_row.ensures.kept
     c.in_ok-note_call.ensures.row c.in_ok-note_call.ensures.kept
     (subst (λ ps. NotesRight ps one two (uses_here a k).right) n1 c.in_ok-note_value.ensures.row) c.in_ok-note_value.ensures.kept
     (subst (λ ps. NotesLeft ps two three (uses_here a k).left) n2 c.in_ok-note_left.ensures.row) c.in_ok-note_left.ensures.kept

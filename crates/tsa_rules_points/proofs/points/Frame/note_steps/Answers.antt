@@ -33,6 +33,7 @@ each-preserved c =
           subst (λ ps. AreNotes a kind ps (rs ++ here) (notes_in c.note_step.new.book)) c.each.invariant.numbers
           (subst (λ s. AreNotes a kind c.each.book.marking.numbers (rs ++ points_at s (step_shape x)) (notes_in c.note_step.new.book)) c.scope.ensures
           (c.in_ok-note_step.ensures.notes rs (subst (λ ps. AreNotes a kind ps rs (notes_in c.each.book)) (sym c.each.invariant.numbers) noted))));
+      rows = c.in_ok-note_step.ensures.rows;
       numbers = c.in_ok-note_step.ensures.numbers ∙ c.each.invariant.numbers;
       behind =
           ap (λ w. walk_behind w (map step_shape left)) passed
