@@ -3,3 +3,4 @@ pub mod Begun
 pub mod NotedPoints
 pub mod Along
 pub mod RowSteps
+pub mod WrittenTries
