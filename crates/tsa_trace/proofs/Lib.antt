@@ -1,0 +1,5 @@
+mod TableLists
+mod FunctionLists
+mod DeclaredNames
+mod SourcesTold
+mod Examples
