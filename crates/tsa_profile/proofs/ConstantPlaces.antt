@@ -1,7 +1,7 @@
 -- A constant place of an initialiser is a place of an earlier global, const and guarded as its expression is.
 use Rattle.std.proofs.Common.{◌≡◌, ◌∙◌, ℕ, zero, suc, ◌<◌, ◌≤◌, arith, pos, negsuc, nat_lt, nat_eq, Bool, true, false, not, ◌||◌, List, []}
 use Rattle.std.proofs.Common.{◌∷◌, ◌++◌, length, map, Option, Some, None, is_none, is_some, option_map, option_and_then, slice_get, refl, sym, ap}
-use Rattle.std.proofs.Common.{ap₂, subst, if◌then◌else◌, eqb-true}
+use Rattle.std.proofs.Common.{subst, if◌then◌else◌, eqb-true}
 use Rattle.std.proofs.lemmas.Bool.Decides.{nat_tests}
 use Rattle.tsa_tree.specs.declared.expr.UnaryOp.TheVariants as prefix
 use Rattle.tsa_tree.specs.declared.kind.ExpressionType.{ExpressionType}

@@ -35,7 +35,7 @@ use Rattle.tsa_core.proofs.TypedTerms.{some_same}
 use Rattle.tsa_core.proofs.UnitScopes.{global_told, item_alike, part_same}
 use Rattle.tsa_profile.specs.Arguments.{behind_items}
 use Rattle.tsa_profile.specs.ArgumentLaws.{DeclaredGlobalsHoldIt}
-use Rattle.tsa_profile.proofs.EndingScopes.{cell_is}
+use Rattle.tsa_profile.proofs.EndingScopes.{cell_is, data_behind}
 
 -- TAGS AND LOCKS ARE THOSE OF THE ITEMS
 
@@ -65,11 +65,6 @@ outset_same d items =
     (tags_same d [] 0 items) (locks_same d items)
 
 -- BEHIND ALL ITEMS
-
--- what is known of data behind them
-abbrev data_behind : Scope → List UnitItem → Scope
-data_behind there [] = there
-data_behind there (item ∷ rest) = data_behind (behind_data there item) rest
 
 alike_last : (here there : Scope) (items : List UnitItem) (last : UnitItem) → Alike here there → first (items_premises here (items ++ last ∷ [])) ≡ None
     → Alike (behind_items here items) (data_behind there items) × (first (item_premises (behind_items here items) last) ≡ None)

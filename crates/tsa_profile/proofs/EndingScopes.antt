@@ -24,14 +24,14 @@ use Rattle.tsa_tree.specs.types.Operands.{integer_kind}
 use Rattle.tsa_tree.specs.types.Premises.{first}
 use Rattle.tsa_tree.specs.types.Scopes.{Scope, Members, context_of, known_in, with_globals}
 use Rattle.tsa_tree.specs.types.Units.{behind_item}
-use Rattle.tsa_tree.specs.units.Syntax.{global_item}
+use Rattle.tsa_tree.specs.units.Syntax.{UnitItem, global_item}
 use Rattle.tsa_place_model.specs.Ways.{Way}
 use Rattle.tsa_place_model.specs.declared.path.PathStep.{PathStep}
 use Rattle.tsa_place_model.specs.declared.path.PathStep.TheVariants.{Variable}
 use Rattle.tsa_place_model.specs.LockPaths.{Led, member_step, element_step, name_way, or_variable, variable, to_element, in_range, leads}
 use Rattle.tsa_place_model.specs.Calls.{Layout, evaluated, no_locals}
 use Rattle.tsa_place_model.specs.Parts.{no_stable}
-use Rattle.tsa_place_model.specs.Items.{known_global, or_zero}
+use Rattle.tsa_place_model.specs.Items.{behind_data, known_global, or_zero}
 use Rattle.tsa_place_model.specs.GlobalPlaces.{address_in, cell_value}
 use Rattle.tsa_core.proofs.KindTests.{both_true}
 use Rattle.tsa_core.proofs.SameConstants.{SameConstants, same_value}
@@ -144,57 +144,22 @@ entry_before : (own : ℕ) (o : Option Entry) (b : Bool) (t : ThingType) → is_
 entry_before own (Some e) b t h = refl
 entry_before own None b t h = never (sym h)
 
--- THE INITIALISER OF A GLOBAL BEHIND ALL ITEMS
+-- THE SAME IN TWO SCOPES
 
--- what is known without functions, where the global is known too
-module _ (here there : Scope) (alike : Alike here there) (d : Declaration) (typed : first (global_premises here d) ≡ None) where
-  abbrev inner : Scope
-  inner = with_global here d
-
-  abbrev bare : Scope
-  bare = known_global there d
-
-  abbrev own : ℕ
-  own = here.globals
-
-  further : Alike (behind_item here (global_item d)) (with_globals (there.globals + 1) bare)
-  further = item_alike here there (global_item d) alike typed
-
-  abbrev it : List ℕ → Option Entry
-  it name = if bytes_eq name d.name.text then Some (global_entry here d) else None
-
-  known_inner : (name : List ℕ) → known_in inner name ≡ or_other (known_in here name) (it name)
-  known_inner name =
-      known_found inner name alike.owned ∙ found_append here.names ((d.name.text, global_entry here d) ∷ []) name ∙ ap (λ o. or_other o (it name)) (sym (known_found here name alike.owned))
-
-  known_bare : (name : List ℕ) → known_in bare name ≡ no_function (known_in inner name)
-  known_bare name = known_found bare name further.no_owned ∙ further.names name ∙ ap no_function (sym (known_found inner name alike.owned))
-
-  constants_here : SameConstants (context_of here) (context_of inner)
-  constants_here = record {
-    values = λ name. ap enumerator (known_inner name) ∙ enumerator_before own (known_in here name) (bytes_eq name d.name.text) (global_entry here d).thing;
-    entries = λ name h. known_inner name ∙ entry_before own (known_in here name) (bytes_eq name d.name.text) (global_entry here d).thing h;
-  }
-
-  value_is : (e : Expression) → value_in (context_of bare) e ≡ value_in (context_of here) e
-  value_is e = value_same (behind_item here (global_item d)) (with_globals (there.globals + 1) bare) further e ∙ same_value (context_of here) (context_of inner) constants_here e
-
+-- A constant is the same in two scopes where numbers are, and each earlier global: constant places are asked for in a third one.
+module _ (here bare inner : Scope) (own : ℕ) (structs : bare.structs ≡ here.structs) (values : (e : Expression) → value_in (context_of bare) e ≡ value_in (context_of here) e)
+    (globals : (name : List ℕ) → is_earlier own (known_in inner name) ≡ true
+    → option_and_then (name_way no_stable bare name) (known_in bare name) ≡ option_and_then (name_way no_stable here name) (known_in here name)) where
   place_is : (p : Bool) (e : Expression) → is_constant_place (context_of inner) own p e ≡ true → leads no_stable bare p e ≡ leads no_stable here p e
   unfolding leads
-  place_is false (named name span) h =
-      let known = known_inner name.text in
-      let outer : is_earlier own (or_other (known_in here name.text) (it name.text)) ≡ true = sym (ap (is_earlier own) known) ∙ h in
-      let same = known ∙ before_it own (known_in here name.text) (bytes_eq name.text d.name.text) (global_entry here d).thing outer in
-      let early : is_earlier own (known_in here name.text) ≡ true = sym (ap (is_earlier own) same) ∙ h in
-      ap (option_and_then (name_way no_stable bare name.text)) (known_bare name.text ∙ ap no_function same ∙ earlier_kept own (known_in here name.text) early)
-      ∙ name_same own here bare name.text (known_in here name.text) early
+  place_is false (named name span) h = globals name.text h
   place_is false (field base name arrow span) h =
       ap (option_and_then (member_step bare name.text)) (place_is arrow base h)
-      ∙ each (member_step bare name.text) (member_step here name.text) (λ x. member_same here bare name.text x further.structs) (leads no_stable here arrow base)
+      ∙ each (member_step bare name.text) (member_step here name.text) (λ x. member_same here bare name.text x structs) (leads no_stable here arrow base)
   place_is false (index base at span) h =
       ap (option_and_then (element_step no_stable bare at))
       (place_is false base (both_true (is_constant_place (context_of inner) own false base) (is_index (length_at (type_of (context_of inner) base)) (constant_of (context_of inner) at)) h).0)
-      ∙ each (element_step no_stable bare at) (element_step no_stable here at) (λ x. element_same here bare at x (value_is at)) (leads no_stable here false base)
+      ∙ each (element_step no_stable bare at) (element_step no_stable here at) (λ x. element_same here bare at x (values at)) (leads no_stable here false base)
   place_is false (unary prefix.Follow inside span) h = place_is true inside h
   place_is true (unary prefix.Address inside span) h = place_is false inside h
   place_is false (number n u span) h = never (sym h)
@@ -233,12 +198,80 @@ module _ (here there : Scope) (alike : Alike here there) (d : Declaration) (type
   address_is l (field base name arrow span) h = never (sym h)
   address_is l (index base at span) h = never (sym h)
 
+  constant_is : (l : Layout) (kind : Kind) (e : Expression) → is_constant_for (context_of inner) own kind e ≡ true → cell_value bare l kind e ≡ cell_value here l kind e
+  constant_is l (type.Pointer target to_const) e h = ap Pointer (address_is l e h)
+  constant_is l type.Int e h = ap (or_zero type.Int) (values e)
+  constant_is l type.Unsigned e h = ap (or_zero type.Unsigned) (values e)
+  constant_is l type.Void e h = ap (or_zero type.Void) (values e)
+  constant_is l (type.Structure n) e h = ap (or_zero (type.Structure n)) (values e)
+  constant_is l type.Null e h = ap (or_zero type.Null) (values e)
+  constant_is l type.Function e h = ap (or_zero type.Function) (values e)
+
+-- THE INITIALISER OF A GLOBAL BEHIND ALL ITEMS
+
+-- what is known without functions, where the global is known too
+module _ (here there : Scope) (alike : Alike here there) (d : Declaration) (typed : first (global_premises here d) ≡ None) where
+  abbrev inner : Scope
+  inner = with_global here d
+
+  abbrev bare : Scope
+  bare = known_global there d
+
+  abbrev own : ℕ
+  own = here.globals
+
+  further : Alike (behind_item here (global_item d)) (with_globals (there.globals + 1) bare)
+  further = item_alike here there (global_item d) alike typed
+
+  abbrev it : List ℕ → Option Entry
+  it name = if bytes_eq name d.name.text then Some (global_entry here d) else None
+
+  known_inner : (name : List ℕ) → known_in inner name ≡ or_other (known_in here name) (it name)
+  known_inner name =
+      known_found inner name alike.owned ∙ found_append here.names ((d.name.text, global_entry here d) ∷ []) name ∙ ap (λ o. or_other o (it name)) (sym (known_found here name alike.owned))
+
+  known_bare : (name : List ℕ) → known_in bare name ≡ no_function (known_in inner name)
+  known_bare name = known_found bare name further.no_owned ∙ further.names name ∙ ap no_function (sym (known_found inner name alike.owned))
+
+  constants_here : SameConstants (context_of here) (context_of inner)
+  constants_here = record {
+    values = λ name. ap enumerator (known_inner name) ∙ enumerator_before own (known_in here name) (bytes_eq name d.name.text) (global_entry here d).thing;
+    entries = λ name h. known_inner name ∙ entry_before own (known_in here name) (bytes_eq name d.name.text) (global_entry here d).thing h;
+  }
+
+  value_is : (e : Expression) → value_in (context_of bare) e ≡ value_in (context_of here) e
+  value_is e = value_same (behind_item here (global_item d)) (with_globals (there.globals + 1) bare) further e ∙ same_value (context_of here) (context_of inner) constants_here e
+
+  globals_are : (name : List ℕ) → is_earlier own (known_in inner name) ≡ true
+      → option_and_then (name_way no_stable bare name) (known_in bare name) ≡ option_and_then (name_way no_stable here name) (known_in here name)
+  globals_are name h =
+      let known = known_inner name in
+      let outer : is_earlier own (or_other (known_in here name) (it name)) ≡ true = sym (ap (is_earlier own) known) ∙ h in
+      let same = known ∙ before_it own (known_in here name) (bytes_eq name d.name.text) (global_entry here d).thing outer in
+      let early : is_earlier own (known_in here name) ≡ true = sym (ap (is_earlier own) same) ∙ h in
+      ap (option_and_then (name_way no_stable bare name)) (known_bare name ∙ ap no_function same ∙ earlier_kept own (known_in here name) early)
+      ∙ name_same own here bare name (known_in here name) early
+
   -- its cell holds what is seen behind the items
   pub cell_is : (l : Layout) (kind : Kind) (e : Expression) → is_constant_for (context_of inner) own kind e ≡ true → cell_value bare l kind e ≡ cell_value here l kind e
-  cell_is l (type.Pointer target to_const) e h = ap Pointer (address_is l e h)
-  cell_is l type.Int e h = ap (or_zero type.Int) (value_is e)
-  cell_is l type.Unsigned e h = ap (or_zero type.Unsigned) (value_is e)
-  cell_is l type.Void e h = ap (or_zero type.Void) (value_is e)
-  cell_is l (type.Structure n) e h = ap (or_zero (type.Structure n)) (value_is e)
-  cell_is l type.Null e h = ap (or_zero type.Null) (value_is e)
-  cell_is l type.Function e h = ap (or_zero type.Function) (value_is e)
+  cell_is l kind e h = constant_is here bare inner own further.structs value_is globals_are l kind e h
+
+-- AN EXPRESSION BEHIND ALL ITEMS
+
+-- what is known of data behind them
+abbrev pub data_behind : Scope → List UnitItem → Scope
+data_behind there [] = there
+data_behind there (item ∷ rest) = data_behind (behind_data there item) rest
+
+-- it is worth the same without functions
+module _ (here there : Scope) (alike : Alike here there) where
+  known_there : (name : List ℕ) → known_in there name ≡ no_function (known_in here name)
+  known_there name = known_found there name alike.no_owned ∙ alike.names name ∙ ap no_function (sym (known_found here name alike.owned))
+
+  pub constant_there : (l : Layout) (own : ℕ) (kind : Kind) (e : Expression) → is_constant_for (context_of here) own kind e ≡ true → cell_value there l kind e ≡ cell_value here l kind e
+  constant_there l own kind e h =
+      constant_is here there here own alike.structs (λ x. value_same here there alike x)
+      (λ name early.
+      ap (option_and_then (name_way no_stable there name)) (known_there name ∙ earlier_kept own (known_in here name) early)
+      ∙ name_same own here there name (known_in here name) early)
+      l kind e h

@@ -30,4 +30,5 @@ pub mod Parameters
 pub mod ArgumentsWorked
 pub mod Examples
 pub mod DeclaredGlobals
+pub mod SeenValues
 pub use Rattle.tsa_profile_items.proofs.ItemLists

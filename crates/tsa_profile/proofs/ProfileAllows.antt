@@ -131,7 +131,7 @@ module _ (u : Unit) where
     mutual
       unfolding init_premises profile.item_premises
 
-      allowed_initialiser : (i : Initialiser) → first (init_premises (view_in u known here) i) ≡ None → AllowedInitialiser (Allows is_addressable whole here) i
+      pub allowed_initialiser : (i : Initialiser) → first (init_premises (view_in u known here) i) ≡ None → AllowedInitialiser (Allows is_addressable whole here) i
       allowed_initialiser (value e) h =
           let both = none_of_both (own (view_in u known here) Inside false e) (parts (view_in u known here) Inside e) h in
           allows e both.0 both.1

@@ -35,7 +35,7 @@ use Rattle.tsa_profile.proofs.SmallNames.{none_plain}
 use Rattle.tsa_profile.proofs.StartsTyped.{AllowedItem, AllowedAll, State, no_structs_data, all_cells}
 
 module _ (free : Placed → Bool) (items : List UnitItem) (l : Layout) where
-  begins : State free l (outset items) (outset items) no_places
+  pub begins : State free l (outset items) (outset items) no_places
   begins = record {
     alike = record { tags = refl; structs = refl; owned = refl; no_owned = refl; globals = refl; names = λ other. refl };
     out = record { long = refl; count = refl; members = none_defined; names = λ locals. All-nil (Fits no_places locals) };
@@ -124,7 +124,7 @@ kind_same l type.Void v = refl
 kind_same l type.Null v = refl
 kind_same l type.Function v = refl
 
-value_same : (l : Layout) (kind : Kind) (v : Value) → is_value_of l kind v ≡ good is_addressable l.places kind v
+pub value_same : (l : Layout) (kind : Kind) (v : Value) → is_value_of l kind v ≡ good is_addressable l.places kind v
 value_same l type.Int (Int z) = refl
 value_same l type.Int (Unsigned n) = refl
 value_same l type.Int (Pointer p) = refl
@@ -145,7 +145,7 @@ start_values_have_their_kinds items l sound typed has place p at plain =
     kind_same l p.kind (start l place) ∙ cell_is_good any items l sound typed (any_all l (outset items) items) has place p at plain
 
 -- the layout of the core program is that of the places
-layout_is : (items : List UnitItem) (l : Layout) → HasPlaces items l → (program_of items).layout ≡ l
+pub layout_is : (items : List UnitItem) (l : Layout) → HasPlaces items l → (program_of items).layout ≡ l
 unfolding program_of
 layout_is items l has = has
 

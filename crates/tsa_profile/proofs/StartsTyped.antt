@@ -55,6 +55,8 @@ use Rattle.tsa_core.proofs.UnitScopes.{part_same, declared_told, struct_told, gl
 use Rattle.tsa_path.proofs.StandDeclared.{Heads, item_heads}
 use Rattle.tsa_profile.proofs.CellsFit.{Allows, init_good}
 use Rattle.tsa_profile.proofs.ConstantPlaces.{Around, Extends, has_member}
+use Rattle.tsa_profile.proofs.EndingScopes.{data_behind}
+use Rattle.tsa_profile.specs.Arguments.{behind_items}
 use Rattle.tsa_profile.proofs.EachPlace.{Every, Serves, every_append, every_more, places_every}
 use Rattle.tsa_profile.proofs.GoodValues.{is_data, GoodCell, good_more}
 use Rattle.tsa_profile.proofs.InitialisersFit.{AllowedInit, Fit, element_fits, member_fits}
@@ -122,7 +124,7 @@ unfolding structure_at
 no_structs_data n = no_data
 
 -- a unit goes on with what is declared so far
-extends_same : (l : Layout) → Extends l l
+pub extends_same : (l : Layout) → Extends l l
 extends_same l = record { globals = λ n part e. e; longer = omega arith; structs = λ n h. refl }
 
 extends_more : (l m o : Layout) → Extends l m → Extends m o → Extends l o
@@ -185,6 +187,36 @@ module _ (free : Placed → Bool) (whole : Layout) where
     number_of : (n m : ℕ) → meant.Global n ≡ meant.Global m → n ≡ m
     number_of n m e = cc
 
+    found_fits : (name : List ℕ) (e : Entry) → known_in here name ≡ Some e → FitsBy l no_kinds e.meaning e.thing
+    found_fits name e is =
+        by (found here.names name) (sym (known_found here name s.alike.owned) ∙ is) (All-lookup (λ x. FitsBy l no_kinds x.meaning x.thing) (bytes_eq name) here.names (s.out.names no_kinds))
+      where
+        by : (o : Option Entry) → o ≡ Some e → IfSome o (λ x. FitsBy l no_kinds x.meaning x.thing) → FitsBy l no_kinds e.meaning e.thing
+        by None is fits = absurd cc
+        by (Some x) is fits = subst (λ y. FitsBy l no_kinds y.meaning y.thing) (some_same is) fits
+
+    abbrev setting : Setting
+    setting = record { layout = l; locals = no_kinds; answer = None }
+
+    belongs : Belongs here setting
+    belongs = record {
+      global_is = λ name e n is means. subst (λ m. FitsBy l no_kinds m e.thing) means (found_fits name e is);
+      local_is = λ name e n is means. subst (λ m. FitsBy l no_kinds m e.thing) means (found_fits name e is);
+      members_are = s.out.members;
+      none_owned = λ name e is means. subst (λ m. FitsBy l no_kinds m e.thing) means (found_fits name e is);
+    }
+
+    -- what an expression behind it sees
+    pub ending : Extends l whole → Around here there l whole here.globals
+    ending extends = record {
+      alike = s.alike;
+      globals = λ name n t is less. found_fits name (record { meaning = meant.Global n; thing = t }) is;
+      members = λ struct name j t e. part_at here setting belongs struct name j t e;
+      laid = s.laid;
+      heads = s.heads;
+      extends = extends;
+    }
+
     own_earlier : (d : Declaration) → IsEarlier (global_entry here d)
     own_earlier d n is less = let same = number_of here.globals n is in absurd (omega (arith, same, less))
 
@@ -227,25 +259,6 @@ module _ (free : Placed → Bool) (whole : Layout) where
           by (Some x) e fits =
               let same = some_same e in
               fits n (ap (λ y. y.meaning) same) less ∙ ap (λ y. Some y.thing) same
-
-      found_fits : (name : List ℕ) (e : Entry) → known_in here name ≡ Some e → FitsBy l no_kinds e.meaning e.thing
-      found_fits name e is =
-          by (found here.names name) (sym (known_found here name s.alike.owned) ∙ is) (All-lookup (λ x. FitsBy l no_kinds x.meaning x.thing) (bytes_eq name) here.names (s.out.names no_kinds))
-        where
-          by : (o : Option Entry) → o ≡ Some e → IfSome o (λ x. FitsBy l no_kinds x.meaning x.thing) → FitsBy l no_kinds e.meaning e.thing
-          by None is fits = absurd cc
-          by (Some x) is fits = subst (λ y. FitsBy l no_kinds y.meaning y.thing) (some_same is) fits
-
-      abbrev setting : Setting
-      setting = record { layout = l; locals = no_kinds; answer = None }
-
-      belongs : Belongs here setting
-      belongs = record {
-        global_is = λ name e n is means. subst (λ m. FitsBy l no_kinds m e.thing) means (found_fits name e is);
-        local_is = λ name e n is means. subst (λ m. FitsBy l no_kinds m e.thing) means (found_fits name e is);
-        members_are = s.out.members;
-        none_owned = λ name e is means. subst (λ m. FitsBy l no_kinds m e.thing) means (found_fits name e is);
-      }
 
       around : Extends l whole → Around inner outer l whole here.globals
       around extends = record {
@@ -340,13 +353,17 @@ module _ (free : Placed → Bool) (whole : Layout) where
       good = item_good item h sound allowed extends;
     }
 
-  pub all_cells : (items : List UnitItem) (here there : Scope) (l : Layout) → State here there l → first (items_premises here items) ≡ None → SpellableItems items
-      → AllowedAll here items → laid_behind there l items ≡ whole → Every (GoodCell free whole.places) whole.places
-  unfolding items_premises laid_behind
-  all_cells [] here there l s h sound allowed e = subst (λ m. Every (GoodCell free m.places) m.places) e s.good
-  all_cells (item ∷ rest) here there l s h sound allowed e =
+  pub last_state : (items : List UnitItem) (here there : Scope) (l : Layout) → State here there l → first (items_premises here items) ≡ None → SpellableItems items
+      → AllowedAll here items → laid_behind there l items ≡ whole → State (behind_items here items) (data_behind there items) whole
+  unfolding items_premises laid_behind behind_items
+  last_state [] here there l s h sound allowed e = subst (λ m. State here there m) e s
+  last_state (item ∷ rest) here there l s h sound allowed e =
       let both = none_of_both (item_premises here item) (items_premises (behind_item here item) rest) h in
-      all_cells rest (behind_item here item) (behind_data there item) (data_placed there l item)
+      last_state rest (behind_item here item) (behind_data there item) (data_placed there l item)
       (goes_on here there l s item both.0 sound.0 allowed.0
       (extends_more l (data_placed there l item) whole (item_extends there l item) (items_extend rest (behind_data there item) (data_placed there l item) whole e)))
       both.1 sound.1 allowed.1 e
+
+  pub all_cells : (items : List UnitItem) (here there : Scope) (l : Layout) → State here there l → first (items_premises here items) ≡ None → SpellableItems items
+      → AllowedAll here items → laid_behind there l items ≡ whole → Every (GoodCell free whole.places) whole.places
+  all_cells items here there l s h sound allowed e = (last_state items here there l s h sound allowed e).good

@@ -1,5 +1,5 @@
 -- The store at the start: what the cells of a unit hold before anything runs (C11 6.7.9).
-use Rattle.std.specs.Prelude.{◌≡◌, ℕ, ◌^◌, nat_lt, Bool, true, false, not, ◌&&◌, ◌||◌, List, [], Option, Some, None, slice_get}
+use Rattle.std.specs.Prelude.{◌≡◌, ℕ, ◌^◌, nat_lt, Bool, true, false, not, ◌&&◌, ◌||◌, List, Option, Some, None, slice_get}
 use Rattle.tsa_base.specs.declared.value.Value.{Value}
 use Rattle.tsa_base.specs.declared.value.Value.TheVariants.{Int, Unsigned, Pointer}
 use Rattle.tsa_tree.specs.declared.kind.Kind.{Kind}

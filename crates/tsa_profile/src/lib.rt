@@ -12,6 +12,7 @@ mod unit_end;
 
 pub use argument_laws::{
     arguments_are_as_written, declared_globals_hold_it, parameters_are_those_of_the_core,
+    seen_values_are_of_their_types,
 };
 pub use items_end::{Parameter, Unit};
 pub use laws::{
@@ -19,5 +20,7 @@ pub use laws::{
     profiles_are_runnable, start_values_have_their_kinds, starts_are_well_typed,
 };
 pub use profile::{fit, fit_with};
+pub use scope_after::behind_unit;
 pub use tsa_profile_items::{Ground, named_locks};
 pub use unit::Fit;
+pub use unit_end::Ending;
