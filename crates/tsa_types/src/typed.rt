@@ -5,6 +5,7 @@ ghost use Rattle.tsa_types_expressions.specs.Judgements.{Judges, forget};
 ghost use Rattle.tsa_tree.specs.types.Symbols.{symbol_in};
 ghost use Rattle.tsa_tree.specs.types.FirstFailing.{first_failing};
 ghost use Rattle.tsa_tree.specs.types.Units.{names_in_unit};
+ghost use Rattle.tsa_tree.specs.units.WellRead.{IsWellRead};
 
 use crate::unit::judge;
 use std::alloc::Global;
@@ -15,11 +16,12 @@ use tsa_tree::meaning::Symbol;
 use tsa_types_expressions::TypeRefusal;
 use tsa_types_scope::Symbols;
 
-/// A unit of which no node fails a premise of types, and what its names mean.
+/// A unit that is well read and of which no node fails a premise of types, and what its names mean.
 #[derive(Drop)]
 pub struct Typed<'a> {
     pub(crate) unit: &'a UnitTree<'a>,
     symbols: Symbols,
+    pub ghost well_read: { ∥ IsWellRead unit.now.items.now ∥₁ },
     pub ghost typed: { first_failing (item_shapes unit.now.items.now) ≡ None },
     ghost names: { symbols ≡ names_in_unit (item_shapes unit.now.items.now) },
 }
