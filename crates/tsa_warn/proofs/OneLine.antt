@@ -2,7 +2,7 @@
 use Rattle.std.proofs.Common.{◌≡◌, ◌∙◌, ◌+◌, ◌≤◌, ◌<◌, arith, ℕ, suc, List, [], ◌∷◌, ◌++◌, length, drop, Option, Some, None, option_map}
 use Rattle.std.proofs.Common.{slice_index_or, sym, ap, append_assoc, append-nil}
 use Rattle.std.proofs.Math.Seq.{drop-cons}
-use Rattle.std.proofs.lemmas.List.{drop_all}
+use Rattle.std.proofs.lemmas.List.{drop_all, length-append}
 use Rattle.std.specs.List.{flat_map}
 use Rattle.std.specs.Option.{option_map_or, unwrap_or}
 use Rattle.tsa_place_model.specs.Ways.{Way}
@@ -20,6 +20,14 @@ together text place says end = append_assoc (text ++ place) says end ∙ append_
 pub line_behind : (place says old placed said new : List ℕ) → placed ≡ old ++ place → said ≡ placed ++ says → new ≡ said ++ 10 ∷ [] → new ≡ old ++ (place ++ (says ++ 10 ∷ []))
 line_behind place says old placed said new is_placed is_said is_new =
     is_new ∙ ap (λ t. t ++ 10 ∷ []) (is_said ∙ ap (λ t. t ++ says) is_placed) ∙ together old place says (10 ∷ [])
+
+-- .. is longer than nothing
+pub longer : (place says old placed said new : List ℕ) → placed ≡ old ++ place → said ≡ placed ++ says → new ≡ said ++ 10 ∷ [] → length old < length new
+longer place says old placed said new is_placed is_said is_new =
+    let whole = ap length (line_behind place says old placed said new is_placed is_said is_new) ∙ length-append old (place ++ (says ++ 10 ∷ [])) in
+    let parts = length-append place (says ++ 10 ∷ []) in
+    let end = length-append says (10 ∷ []) in
+    omega (arith, whole, parts, end)
 
 -- the text of a kind that may not be there
 pub kind_is : {R : Type 0} (now : R → List ℕ) (k : Option R) (o : Option Way) (text : Way → List ℕ) (e : R) → now e ≡ [] → option_map now k ≡ option_map text o

@@ -1,5 +1,5 @@
 //! The lines of the warnings of a unit.
-ghost use Rattle.std.specs.Prelude.{◌≡◌, ◌+◌, ◌∷◌, ◌++◌, [], List, Ok, IfOk, OnOk};
+ghost use Rattle.std.specs.Prelude.{◌≡◌, ◌+◌, ◌<◌, ◌≤◌, ◌∷◌, ◌++◌, [], List, length, Ok, IfOk, OnOk};
 ghost use Rattle.std.specs.List.{flat_map};
 ghost use Rattle.tsa_warn_bodies.specs.Bodies.{BodyText, IsToldBody, Tells, body_by, names_of};
 ghost use Rattle.tsa_warn_bodies.specs.BodyCourses.{course_of};
@@ -16,6 +16,7 @@ ghost use Rattle.tsa_tree.specs.units.Shapes.{HaveTheirPoints, item_shape, item_
 ghost use Rattle.tsa_tree.specs.units.Syntax.{UnitItem};
 
 use crate::body::push_place;
+use crate::line_count::UnitLines;
 use crate::unit::Ready;
 use std::alloc::Global;
 use tsa_base::{LineStarts, NoMemory};
@@ -25,13 +26,6 @@ use tsa_warn_bodies::{Course, Teller, ToldBody, UnitTables};
 use tsa_warn_function::{Fit, RuleFailure, warnings_of};
 use tsa_warn_text::{Subject, push_warning};
 
-/// The lines of warnings, and how many they are.
-#[derive(Drop)]
-pub struct UnitLines {
-    pub text: Vec<u8>,
-    pub count: usize,
-}
-
 /// Appends the line of a rule that fails in a body.
 fn push_line(
     text: &mut Vec<u8>,
@@ -39,7 +33,8 @@ fn push_line(
     body: &ToldBody<'_>,
     failure: RuleFailure,
 ) -> Result<(), NoMemory>
-    ensures { OnOk result ((items : List UnitItem) (b : BodyText) (h : IsToldBody items b body.now)
+    ensures longer { OnOk result (length text.old.items < length text.new.items) }
+    ensures line { OnOk result ((items : List UnitItem) (b : BodyText) (h : IsToldBody items b body.now)
         → text.new.items ≡ text.old.items ++ warning_line starts.now (program_of items) h.function (paths_of (program_of items) h.function) (texts_of (names_of items b.number) (paths_of (program_of items) h.function)) b failure) }
 {
     let head = body.head;
@@ -62,7 +57,8 @@ fn push_lines(
     body: &ToldBody<'_>,
     failures: &[RuleFailure],
 ) -> Result<(), NoMemory>
-    ensures { OnOk result ((items : List UnitItem) (b : BodyText) (h : IsToldBody items b body.now)
+    ensures longer { OnOk result (length text.old.items + length failures.now ≤ length text.new.items) }
+    ensures lines { OnOk result ((items : List UnitItem) (b : BodyText) (h : IsToldBody items b body.now)
         → text.new.items ≡ text.old.items ++ flat_map (warning_line starts.now (program_of items) h.function (paths_of (program_of items) h.function) (texts_of (names_of items b.number) (paths_of (program_of items) h.function)) b) failures.now) }
 {
     'each: for failure in failures {
@@ -71,15 +67,8 @@ fn push_lines(
     Ok(())
 }
 
-/// So many more.
-fn sum(count: usize, more: usize) -> Result<usize, NoMemory>
-    ensures { IfOk result (λ sum. sum ≡ count + more) }
-{
-    count.checked_add(more).ok_or(NoMemory)
-}
-
 impl UnitLines {
-    /// Adds the lines of a body's warnings.
+    /// Adds the lines of a body's warnings. A refused call leaves none counted.
     fn add_body(
         &mut self,
         alloc: Global,
@@ -90,8 +79,10 @@ impl UnitLines {
             → (w : Lines) × (IsBodyWarned starts.now items b w × (warned_of self.new ≡ both (warned_of self.old) w))) }
     {
         let failures = warnings_of(alloc, &body.flow, &body.texts)?;
+        let count = self.count;
+        self.count = 0;
         push_lines(&mut self.text, starts, body, &failures)?;
-        self.count = sum(self.count, failures.len())?;
+        self.count = count + failures.len();
         Ok(())
     }
 

@@ -8,11 +8,16 @@ use Rattle.tsa_warn_text.specs.Lines.{warning_text}
 use Rattle.tsa_warn_bodies.specs.Bodies.{names_of}
 use Rattle.tsa_warn_function.specs.Paths.{paths_of}
 use Rattle.tsa_warn.specs.Lines.{place_of}
-use Rattle.tsa_warn.proofs.OneLine.{kind_is, warned_is}
+use Rattle.tsa_warn.proofs.OneLine.{kind_is, longer, warned_is}
 use Rattle.tsa_warn.proofs.warning_lines.push_line.Goals as goal
 
-pub returns : goal.returns
-returns c items b h =
+pub returns-clause-longer : goal.returns-clause-longer
+returns-clause-longer c =
+    longer _ _ c.args.text.now.items c.push_place.new.text.items c.push_warning.new.text.items c.extend_from_slice.new.self.items c.in_ok-push_place.ensures
+    c.in_ok-push_warning.ensures c.in_ok-extend_from_slice.ensures.items
+
+pub returns-clause-line : goal.returns-clause-line
+returns-clause-line c items b h =
     let u = program_of items in
     let bytes = c.args.starts.now in
     let paths = paths_of u h.function in

@@ -2,7 +2,7 @@ use Rattle.std.proofs.Common.{◌∙◌, ap}
 use Rattle.tsa_warn_bodies.specs.Courses.{course_outset}
 use Rattle.tsa_warn_bodies.specs.Units.{unit_of}
 use Rattle.tsa_tree.specs.units.Shapes.{item_shapes}
-use Rattle.tsa_warn.proofs.warning_lines.UnitLines.add_all.Goals as goal
+use Rattle.tsa_warn.proofs.line_count.UnitLines.add_all.Goals as goal
 
 pub add_bodies-requires-clause-begun : goal.add_bodies-requires-clause-begun
 add_bodies-requires-clause-begun c =

@@ -6,7 +6,7 @@ use Rattle.tsa_warn_bodies.specs.Courses.{course_behind}
 use Rattle.tsa_warn_bodies.specs.Units.{unit_of}
 use Rattle.tsa_tree.specs.units.Shapes.{item_shape, item_shapes}
 use Rattle.tsa_warn.proofs.Lines.{always_well, where_well}
-use Rattle.tsa_warn.proofs.warning_lines.UnitLines.add_item.Goals as goal
+use Rattle.tsa_warn.proofs.line_count.UnitLines.add_item.Goals as goal
 
 pub returns-in-Ok-clause-behind : goal.returns-in-Ok-clause-behind
 returns-in-Ok-clause-behind c = always_well c.add_told.result _

@@ -7,7 +7,7 @@ use Rattle.tsa_warn_function.specs.Paths.{paths_of}
 use Rattle.tsa_warn.specs.Lines.{warning_line}
 use Rattle.tsa_warn.specs.WarningLines.{lines_of}
 use Rattle.tsa_warn.proofs.Lines.{added}
-use Rattle.tsa_warn.proofs.warning_lines.UnitLines.add_body.Goals as goal
+use Rattle.tsa_warn.proofs.line_count.UnitLines.add_body.Goals as goal
 
 pub returns : goal.returns
 returns c items b h =
@@ -17,11 +17,11 @@ returns c items b h =
     let failures = c.in_ok-failures.failures.items in
     let line = warning_line c.args.starts.now u h.function paths (texts_of names paths) b in
     let told = c.in_ok-failures.ensures u h.function paths names h.flow h.texts in
-    let text = c.in_ok-push_lines.ensures items b h ∙ ap (λ fs. c.args.self.now.text.items ++ flat_map line fs) c.deref.ensures.value in
-    let count = c.in_ok-self.ensures ∙ ap (λ n. c.args.self.now.count + n) (c.len.ensures ∙ sym c.deref.ensures.len ∙ ap length c.deref.ensures.value) in (
+    let text = c.in_ok-push_lines.ensures.lines items b h ∙ ap (λ fs. c.args.self.now.text.items ++ flat_map line fs) c.deref.ensures.value in
+    let count = ap (λ n. c.args.self.now.count + n) (c.len.ensures ∙ sym c.deref.ensures.len ∙ ap length c.deref.ensures.value) in (
       lines_of c.args.starts.now u h.function names b failures,
       (
         record { function = h.function; is_there = h.is_there; failures = failures; told = told; lines = refl },
-        added c.args.self.now.text.items (flat_map line failures) c.push_lines.new.text.items c.args.self.now.count (length failures) c.in_ok-self.field-0 text count,
+        added c.args.self.now.text.items (flat_map line failures) c.push_lines.new.text.items c.args.self.now.count (length failures) (c.args.self.now.count + c.len.result) text count,
       ),
     )

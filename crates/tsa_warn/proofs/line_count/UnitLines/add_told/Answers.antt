@@ -3,7 +3,7 @@ use Rattle.tsa_warn_bodies.specs.Bodies.{Tells}
 use Rattle.tsa_warn.specs.OneBody.{warned_of}
 use Rattle.tsa_warn.proofs.Lines.{body_added}
 use Rattle.tsa_warn.proofs.Progress.{the_body}
-use Rattle.tsa_warn.proofs.warning_lines.UnitLines.add_told.Goals as goal
+use Rattle.tsa_warn.proofs.line_count.UnitLines.add_told.Goals as goal
 
 pub returns-in_ok-add_body : goal.returns-in_ok-add_body
 returns-in_ok-add_body c = λ items done bodies tells h.

@@ -7,7 +7,7 @@ use Rattle.tsa_tree.specs.units.Shapes.{item_shape, item_shapes}
 use Rattle.tsa_warn.specs.OneBody.{warned_of}
 use Rattle.tsa_warn.specs.WarningLines.{AreWarned}
 use Rattle.tsa_warn.proofs.Progress.{all_told, one_told, outset_told}
-use Rattle.tsa_warn.proofs.warning_lines.UnitLines.add_bodies.Goals as goal
+use Rattle.tsa_warn.proofs.line_count.UnitLines.add_bodies.Goals as goal
 
 pub each-init : goal.each-init
 each-init c = record {

@@ -5,7 +5,7 @@ use Rattle.tsa_tree.specs.units.Shapes.{item_shapes}
 use Rattle.tsa_warn.specs.OneBody.{warned_of}
 use Rattle.tsa_warn.specs.WarningLines.{AreWarned}
 use Rattle.tsa_warn.proofs.Progress.{IsTold}
-use Rattle.tsa_warn.proofs.warning_lines.UnitLines.add_bodies.Given as goal
+use Rattle.tsa_warn.proofs.line_count.UnitLines.add_bodies.Given as goal
 
 -- the lines of the bodies that are told are there
 abbrev pub invariant-each : goal.invariant-each

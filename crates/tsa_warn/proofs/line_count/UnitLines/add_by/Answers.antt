@@ -3,7 +3,7 @@ use Rattle.std.specs.Prelude.{OnOk}
 use Rattle.tsa_tree.specs.units.Shapes.{HaveTheirPoints, item_shapes}
 use Rattle.tsa_warn.specs.OneBody.{warned_of}
 use Rattle.tsa_warn.specs.WarningLines.{IsWarned}
-use Rattle.tsa_warn.proofs.warning_lines.UnitLines.add_by.Goals as goal
+use Rattle.tsa_warn.proofs.line_count.UnitLines.add_by.Goals as goal
 
 pub add_all-requires : goal.add_all-requires
 add_all-requires c =
