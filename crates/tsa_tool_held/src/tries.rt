@@ -1,6 +1,7 @@
 //! The names of the try variables of a body.
-ghost use Rattle.std.specs.Prelude.{◌≡◌, ◌+◌, ◌++◌, List, map, IfOk, OnOk};
+ghost use Rattle.std.specs.Prelude.{◌≡◌, ◌++◌, List, length, map, option_map, slice_get, IfOk, OnOk};
 ghost use Rattle.tsa_core.specs.Programs.{Function, Program};
+ghost use Rattle.tsa_rules.specs.Points.{points_of};
 ghost use Rattle.tsa_tool_held.specs.Held.{name_if_try, try_names_from};
 ghost use Rattle.tsa_tree.specs.statements.Shapes.{point_shape};
 ghost use Rattle.tsa_warn.specs.Views.{IsViewOf};
@@ -26,24 +27,25 @@ fn note_try<'a>(names: &mut Vec<&'a [u8]>, point: &Point<'a>, role: Role) -> Res
     Ok(())
 }
 
-/// The number behind another.
-fn next(number: u32) -> Result<u32, NoMemory>
-    ensures { IfOk result (λ next. next ≡ number + 1) }
+/// The point of a number.
+fn point_at<'t, 'a>(points: &'t [Point<'a>], number: u32) -> Option<&'t Point<'a>>
+    ensures { option_map (λ point. point.now) result ≡ slice_get points.now number }
 {
-    number.checked_add(1).ok_or(NoMemory)
+    points.get(number as usize)
 }
 
-/// The names of the try variables of a body, in order of their declarations.
+/// The names of the try variables of a body, in order of their declarations. Its points are those of its function.
 pub fn try_names<'a>(alloc: Global, body: &ToldBody<'a>) -> Result<Vec<&'a [u8]>, NoMemory>
     ensures { IfOk result (λ names. (u : Program) (f : Function) (paths : List Way) → IsViewOf u f paths body.now.flow.view
+        → length (points_of f) ≡ length (map point_shape body.now.head.now.points.now)
         → map (λ name. name.now) names.items ≡ try_names_from u f 0 (map point_shape body.now.head.now.points.now)) }
 {
     let view = body.flow.view();
     let mut names = Vec::new(alloc);
-    let mut number: u32 = 0;
-    'each: for point in body.head.points {
-        note_try(&mut names, point, view.role(number))?;
-        number = next(number)?;
+    'each: for number in 0..view.marks().rows() {
+        if let Some(point) = point_at(body.head.points, number) {
+            note_try(&mut names, point, view.role(number))?;
+        }
     }
     Ok(names)
 }

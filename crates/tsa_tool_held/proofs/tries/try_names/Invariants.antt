@@ -9,4 +9,4 @@ use Rattle.tsa_tool_held.proofs.tries.try_names.Given as goal
 -- the names so far with those at the points that are left are all of them
 abbrev pub invariant-each : goal.invariant-each
 invariant-each l = (u : Program) (f : Function) (paths : List Way) → IsViewOf u f paths l.body.flow.view
-    → map (λ name. name.now) l.names.items ++ try_names_from u f l.number (map point_shape (drop l.point-index l.body.head.now.points.now)) ≡ try_names_from u f 0 (map point_shape l.body.head.now.points.now)
+    → map (λ name. name.now) l.names.items ++ try_names_from u f l.number (map point_shape (drop l.number l.body.head.now.points.now)) ≡ try_names_from u f 0 (map point_shape l.body.head.now.points.now)
