@@ -16,7 +16,7 @@ use Rattle.tsa_core.specs.Programs.{Function, program_of}
 use Rattle.tsa_core_environment.specs.Functions.{outside_of}
 use Rattle.tsa_path.specs.PathTables.{AreDifferent}
 use Rattle.tsa_rules_bodies.specs.Entering.{Enters, IsEntered, IsOf}
-use Rattle.tsa_rules_bodies.specs.declared.entries.Inside.{Inside}
+use Rattle.tsa_rules_bodies.specs.declared.inside.Inside.{Inside}
 use Rattle.tsa_rules_bodies.specs.Knowing.{IsWithin, Knowledge, behind, entered, outset_of}
 use Rattle.tsa_rules_bodies.specs.Laws.{StandsFor}
 use Rattle.tsa_rules_bodies.specs.Paths.{paths_if}

@@ -9,7 +9,7 @@ use Rattle.tsa_rules_bodies.specs.Laws.{StandsFor}
 use Rattle.tsa_rules_bodies.specs.Paths.{paths_if}
 use Rattle.tsa_rules_bodies.specs.Sites.{Site, site_among, site_of}
 use Rattle.tsa_profile_context.specs.Units.{unit_of}
-use Rattle.tsa_rules_bodies.specs.declared.entries.Inside.{Inside}
+use Rattle.tsa_rules_bodies.specs.declared.inside.Inside.{Inside}
 use Rattle.tsa_flow_function.specs.declared.function.FunctionFlow.{FunctionFlow}
 use Rattle.tsa_flow_function.specs.Numbers.{IsFlowIn}
 

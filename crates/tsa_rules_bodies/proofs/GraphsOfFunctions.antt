@@ -18,7 +18,7 @@ use Rattle.tsa_graph.specs.declared.blocks.Graph.{Graph}
 use Rattle.tsa_graph.specs.Graphs.{IsGraph}
 use Rattle.tsa_rules.specs.Points.{edges_of, points_of}
 use Rattle.tsa_rules_bodies.specs.declared.search.BodySite.{BodySite}
-use Rattle.tsa_rules_bodies.specs.declared.entries.Inside.{Inside}
+use Rattle.tsa_rules_bodies.specs.declared.inside.Inside.{Inside}
 use Rattle.tsa_rules_bodies.specs.Entering.{IsOf}
 use Rattle.tsa_rules_bodies.specs.Finding.{IsFound}
 use Rattle.tsa_rules_bodies.specs.Knowing.{Knowledge}

@@ -4,6 +4,7 @@ pub mod SiteLaws
 pub mod Passing
 pub mod Seeking
 pub mod GraphsOfFunctions
+pub mod PointNumbers
 pub use Rattle.tsa_profile.proofs.BodyWays
 pub use Rattle.tsa_profile.proofs.Laying
 pub use Rattle.tsa_profile.proofs.PathTables

@@ -20,7 +20,7 @@ use Rattle.tsa_rules_bodies.specs.Entering.{IsEntered, Enters, IsAt, Seeks}
 use Rattle.tsa_rules_bodies.specs.Finding.{IsFound}
 use Rattle.tsa_rules_bodies.specs.Knowing.{Knowledge, IsWithin, behind, entered}
 use Rattle.tsa_rules_bodies.specs.Sites.{Site, or_later, site_at, site_among}
-use Rattle.tsa_rules_bodies.specs.declared.entries.Inside.{Inside}
+use Rattle.tsa_rules_bodies.specs.declared.inside.Inside.{Inside}
 
 -- which bodies are said to stand elsewhere makes no difference
 same_item : (outside : List ℕ) (all : List UnitItem) (known : List (List Attr)) (here : Scope) (item : UnitItem) (n : ℕ)

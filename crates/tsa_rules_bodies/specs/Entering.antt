@@ -11,7 +11,7 @@ use Rattle.tsa_core_environment.specs.Functions.{outside_of}
 use Rattle.tsa_profile.specs.Units.{Unit, stable_of}
 use Rattle.tsa_rules_bodies.specs.Knowing.{Knowledge, behind, entered}
 use Rattle.tsa_rules_bodies.specs.Sites.{Site, site_at, within}
-use Rattle.tsa_rules_bodies.specs.declared.entries.Inside.{Inside}
+use Rattle.tsa_rules_bodies.specs.declared.inside.Inside.{Inside}
 
 -- behind what is known, a body is entered: what is known then, and what is told of it
 pub record IsEntered (u : Unit) (k : Knowledge) (head : Head) (body : Statements) (there : Knowledge) (i : Inside) : Type 0 where

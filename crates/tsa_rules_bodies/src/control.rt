@@ -11,7 +11,7 @@ ghost use Rattle.tsa_tree.specs.units.Shapes.{item_shapes};
 use crate::{Inside, Knowledge, site_in};
 use std::alloc::Global;
 use tsa_base::NoMemory;
-use tsa_graph::{Graph, graph_of_body};
+use tsa_graph::{BodyPoints, Graph, graph_of_body};
 use tsa_place::Places;
 use tsa_types::Typed;
 
@@ -22,7 +22,11 @@ pub fn control_of<'a>(known: &Knowledge<'a>, inside: &Inside<'a>) -> Result<Grap
 {
     let points = inside.head.points;
     let count = u32::try_from(points.len()).ok().ok_or(NoMemory)?;
-    graph_of_body(&known.scope, inside.body, count)
+    let body = BodyPoints {
+        statements: inside.body,
+        points: count,
+    };
+    graph_of_body(&known.scope, body)
 }
 
 /// The control of a function of a typed unit by its number, as a graph with longest blocks. None exactly where it has no body, or where

@@ -1,6 +1,7 @@
 //! Bodies that are entered and left.
-ghost use Rattle.std.specs.Prelude.{◌≡◌, None, true, is_some, IfOk};
+ghost use Rattle.std.specs.Prelude.{◌≡◌, ◌+◌, ◌∷◌, [], None, true, is_some, length, IfOk};
 ghost use Rattle.tsa_base.specs.declared.token.Span.{Span as Close};
+ghost use Rattle.tsa_core.specs.Control.{count_all};
 ghost use Rattle.tsa_core_environment.specs.Functions.{outside_of};
 ghost use Rattle.tsa_profile.specs.Judging.{unit_at};
 ghost use Rattle.tsa_profile.specs.Units.{Unit as Given};
@@ -8,42 +9,21 @@ ghost use Rattle.tsa_rules_bodies.specs.Entering.{Enters, IsEntered};
 ghost use Rattle.tsa_rules_bodies.specs.Knowing.{IsWithin, behind};
 ghost use Rattle.tsa_rules_bodies.specs.Knowing.{Knowledge as Known};
 ghost use Rattle.tsa_tree.specs.declarations.Shapes.{head_shape};
-ghost use Rattle.tsa_tree.specs.statements.Shapes.{stmt_shapes};
+ghost use Rattle.tsa_tree.specs.statements.Shapes.{stmt_shapes, AreNumbered};
 ghost use Rattle.tsa_tree.specs.types.Heads as heads;
 ghost use Rattle.tsa_tree.specs.types.Premises as types;
 ghost use Rattle.tsa_tree.specs.types.Units as typed;
-ghost use Rattle.tsa_tree.specs.units.Shapes.{function_shape, item_shape};
+ghost use Rattle.tsa_tree.specs.units.Shapes.{function_shape, item_shape, HasItsPoints, HaveTheirPoints};
 ghost use Rattle.tsa_tree.specs.units.Syntax.{body_item};
 
+use crate::inside::Inside;
 use crate::knowledge::{Knowledge, enter_head, pass, pass_function, stable_locals};
 use tsa_base::NoMemory;
-use tsa_core_environment::{Outside, leave};
+use tsa_core_environment::leave;
 use tsa_profile::Ground;
 use tsa_tree::item::{FnTree, Item};
 use tsa_tree::stmt::Stmt;
 use tsa_types::function_number;
-
-/// A body that is entered: its function by number and head, its statements, which of its locals never change, and what is left behind it.
-pub struct Inside<'a> {
-    pub number: u32,
-    pub head: &'a FnTree<'a>,
-    pub body: &'a [Stmt<'a>],
-    pub stable: Vec<bool>,
-    outside: Outside,
-}
-
-impl Drop for Inside<'_> {
-    /// Lets its parts go, in one call for all who let one go.
-    fn drop(self) {
-        let Inside {
-            number: _,
-            head: _,
-            body: _,
-            stable: _,
-            outside: _,
-        } = self;
-    }
-}
 
 /// Enters the body of a function whose head is typed: its parameters are known there, and its own attributes.
 pub fn enter_body<'a>(
@@ -54,6 +34,8 @@ pub fn enter_body<'a>(
 ) -> Result<Inside<'a>, NoMemory>
     requires typed { types.first (heads.head_premises known.old.here (head_shape head.now) true) ≡ None }
     requires body { is_some head.now.body ≡ true }
+    requires numbered { AreNumbered body.now 0 }
+    requires points { length head.now.points.now ≡ count_all (stmt_shapes body.now) + 1 }
     ensures { IfOk result (λ inside. IsEntered (unit_at ground.now) known.old (head_shape head.now) (stmt_shapes body.now) known.new inside) }
 {
     let number = function_number(&known.scope, head)?;
@@ -86,6 +68,7 @@ fn enter_function<'a>(
     head: &'a FnTree<'a>,
 ) -> Result<Option<Inside<'a>>, NoMemory>
     requires typed { types.first (typed.item_premises known.old.here (function_shape head.now)) ≡ None }
+    requires points { ∥ HasItsPoints head.now ∥₁ }
     ensures { IfOk result (λ inside. Enters (unit_at ground.now) known.old (function_shape head.now) known.new inside) }
 {
     match head.body {
@@ -104,6 +87,7 @@ pub fn enter_item<'a>(
     item: &'a Item<'a>,
 ) -> Result<Option<Inside<'a>>, NoMemory>
     requires typed { types.first (typed.item_premises known.old.here (item_shape item.now)) ≡ None }
+    requires points { ∥ HaveTheirPoints (item.now ∷ []) ∥₁ }
     ensures { IfOk result (λ inside. Enters (unit_at ground.now) known.old (item_shape item.now) known.new inside) }
 {
     match item {

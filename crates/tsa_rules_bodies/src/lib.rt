@@ -3,12 +3,14 @@
 
 mod control;
 mod entries;
+mod inside;
 mod knowledge;
 mod laws;
 mod search;
 
 pub use control::{control_of, graph_of};
-pub use entries::{Inside, enter_body, enter_item, leave_body};
+pub use entries::{enter_body, enter_item, leave_body};
+pub use inside::Inside;
 pub use knowledge::{Knowledge, outset, pass};
 pub use laws::sites_are_of_the_program;
 pub use search::{BodySite, site, site_in};

@@ -1,5 +1,5 @@
 //! The body of a function by its number.
-ghost use Rattle.std.specs.Prelude.{◌≡◌, [], None, Ok, Some, option_map, IfOk};
+ghost use Rattle.std.specs.Prelude.{◌≡◌, ◌∷◌, [], None, Ok, Some, option_map, IfOk};
 ghost use Rattle.tsa_place_model.specs.Units.{placed_in};
 ghost use Rattle.tsa_profile.specs.Judging.{unit_at};
 ghost use Rattle.tsa_rules_bodies.specs.Entering.{IsAt, Seeks};
@@ -9,9 +9,10 @@ ghost use Rattle.tsa_rules_bodies.specs.Sites.{site_of};
 ghost use Rattle.tsa_profile.specs.Units.{unit_of};
 ghost use Rattle.tsa_tree.specs.types.Premises as types;
 ghost use Rattle.tsa_tree.specs.types.Units as typed;
-ghost use Rattle.tsa_tree.specs.units.Shapes.{item_shape, item_shapes};
+ghost use Rattle.tsa_tree.specs.units.Shapes.{item_shape, item_shapes, HaveTheirPoints};
 
-use crate::entries::{Inside, enter_item, leave_body};
+use crate::entries::{enter_item, leave_body};
+use crate::inside::Inside;
 use crate::knowledge::{Knowledge, outset};
 use std::alloc::Global;
 use tsa_base::NoMemory;
@@ -36,6 +37,7 @@ fn seek_in<'a>(
     function: u32,
 ) -> Result<Option<Inside<'a>>, NoMemory>
     requires typed { types.first (typed.item_premises known.old.here (item_shape item.now)) ≡ None }
+    requires points { ∥ HaveTheirPoints (item.now ∷ []) ∥₁ }
     ensures { IfOk result (λ inside. Seeks (unit_at ground.now) function known.old (item_shape item.now) known.new inside) }
 {
     match enter_item(ground, known, item)? {
@@ -57,6 +59,7 @@ fn seek<'a>(
     function: u32,
 ) -> Result<Option<Inside<'a>>, NoMemory>
     requires outset { known.old ≡ outset_of (unit_at ground.now) }
+    requires points { ∥ HaveTheirPoints ground.now.items.now ∥₁ }
     ensures { IfOk result (λ inside. IsAt (unit_at ground.now) function (site_of (item_shapes ground.now.items.now) function) known.new
         inside) }
 {
@@ -75,6 +78,7 @@ pub fn site<'a>(
     ground: &Ground<'_, 'a>,
     function: u32,
 ) -> Result<Option<BodySite<'a>>, NoMemory>
+    requires points { ∥ HaveTheirPoints ground.now.items.now ∥₁ }
     ensures { IfOk result (λ site. IsFound (unit_at ground.now) function (site_of (item_shapes ground.now.items.now) function) site) }
 {
     let mut known = outset(alloc, ground)?;

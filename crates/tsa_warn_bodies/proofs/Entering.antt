@@ -24,7 +24,7 @@ use Rattle.tsa_rules_bodies.proofs.FunctionPaths.{body_paths}
 use Rattle.tsa_rules_bodies.proofs.PathTables.{own_body}
 use Rattle.tsa_rules_bodies.specs.Entering.{IsEntered, IsOf}
 use Rattle.tsa_rules_bodies.specs.Sites.{Site}
-use Rattle.tsa_rules_bodies.specs.declared.entries.Inside.{Inside}
+use Rattle.tsa_rules_bodies.specs.declared.inside.Inside.{Inside}
 use Rattle.tsa_rules_bodies.proofs.FirstBodies.{Stood}
 use Rattle.tsa_rules_bodies.proofs.SiteLaws.{own_here, stands_for, the_function}
 use Rattle.tsa_rules_bodies.proofs.Standing.{Own, next, own_first}

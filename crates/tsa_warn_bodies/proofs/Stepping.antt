@@ -15,7 +15,7 @@ use Rattle.tsa_profile_context.specs.Units.{refusal_with}
 use Rattle.tsa_profile_context.specs.Units.{unit_of}
 use Rattle.tsa_rules_bodies.specs.Entering.{Enters}
 use Rattle.tsa_rules_bodies.specs.Knowing.{Knowledge}
-use Rattle.tsa_rules_bodies.specs.declared.entries.Inside.{Inside}
+use Rattle.tsa_rules_bodies.specs.declared.inside.Inside.{Inside}
 use Rattle.tsa_flow.specs.declared.passage.Pass.{Pass}
 use Rattle.tsa_warn_bodies.specs.Bodies.{BodyText, body_by, body_text}
 use Rattle.tsa_warn_bodies.specs.Courses.{Course, IsInFrontOf, params_by}

@@ -19,7 +19,7 @@ use Rattle.tsa_flow.specs.Numbers.{IsFlowBy, IsFlowIn}
 use Rattle.tsa_rules_bodies.specs.Paths.{paths_of}
 use Rattle.tsa_rules_bodies.specs.Laws.{result_at}
 use Rattle.tsa_rules_bodies.specs.Sites.{within}
-use Rattle.tsa_rules_bodies.specs.declared.entries.Inside.{Inside}
+use Rattle.tsa_rules_bodies.specs.declared.inside.Inside.{Inside}
 use Rattle.tsa_tree.specs.declared.item.FnTree.{FnTree}
 use Rattle.tsa_warn_bodies.specs.Bodies.{BodyText, IsToldBody}
 use Rattle.tsa_warn_bodies.specs.Courses.{Course, first_params}

@@ -17,7 +17,7 @@ use Rattle.tsa_rules_bodies.specs.Laws.{StandsFor}
 use Rattle.tsa_rules_bodies.specs.Paths.{paths_if, paths_of}
 use Rattle.tsa_rules_bodies.specs.Sites.{Site, within}
 use Rattle.tsa_profile_context.specs.Units.{unit_of}
-use Rattle.tsa_rules_bodies.specs.declared.entries.Inside.{Inside}
+use Rattle.tsa_rules_bodies.specs.declared.inside.Inside.{Inside}
 use Rattle.tsa_warn_bodies.specs.Bodies.{BodyText, body_text}
 use Rattle.tsa_warn_bodies.specs.Courses.{Course, first_params}
 

@@ -9,6 +9,7 @@ use Rattle.tsa_profile.specs.Judging.{unit_at}
 use Rattle.tsa_profile.proofs.ItemLists.{item_typed, typed_next}
 use Rattle.tsa_rules_bodies.specs.Entering.{IsAt, Seeks}
 use Rattle.tsa_rules_bodies.specs.Sites.{site_among, site_of}
+use Rattle.tsa_rules_bodies.proofs.PointNumbers.{item_points}
 use Rattle.tsa_rules_bodies.proofs.Seeking.{found_there, none_left, none_sought, nowhere, passed_on, same_sites}
 use Rattle.tsa_rules_bodies.proofs.search.seek.Goals as goal
 
@@ -29,7 +30,10 @@ seek_in-requires c =
     let i = c.each.item-index in
     let x = c.item-item.result in
     let at_i = drop-cons items i x c.each-test.true ∙ ap (λ y. y ∷ drop (suc i) items) (sym c.item-item.is) in
-    record { typed = item_typed c.each.known.here items i x at_i c.each.invariant.typed }
+    record {
+      typed = item_typed c.each.known.here items i x at_i c.each.invariant.typed;
+      points = item_points items i x (drop (suc i) items) at_i c.requires.points;
+    }
 
 pub returns-in-Some : goal.returns-in-Some
 returns-in-Some c =

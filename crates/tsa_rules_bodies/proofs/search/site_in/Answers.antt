@@ -4,6 +4,7 @@ use Rattle.tsa_tree.specs.types.Units.{refusal_of_types}
 use Rattle.tsa_tree.specs.units.Shapes.{item_shapes}
 use Rattle.tsa_core.specs.Programs.{program_of}
 use Rattle.tsa_profile.proofs.Laying.{laid}
+use Rattle.tsa_rules_bodies.proofs.PointNumbers.{read_points}
 use Rattle.tsa_rules_bodies.proofs.search.site_in.Goals as goal
 
 pub new-requires : goal.new-requires
@@ -19,3 +20,8 @@ invariant_of-ground-clause-laid c =
     c.layout-layout.ensures
     ∙ laid (item_shapes c.args.unit.now.unit.now.items.now) c.args.places.now c.requires.placed
     ∙ sym (ap (λ t. (program_of (item_shapes t.now.items.now)).layout) c.unit.ensures)
+
+pub site-requires : goal.site-requires
+site-requires c = record {
+  points = read_points c.args.unit.now.unit.now.items.now c.unit.result.now.items.now (ap (λ t. t.now.items.now) c.unit.ensures) c.args.unit.now.well_read;
+}
