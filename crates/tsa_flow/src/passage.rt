@@ -8,7 +8,7 @@ ghost use Rattle.tsa_profile_context.specs.Judging.{unit_at};
 ghost use Rattle.tsa_rules_bodies.specs.Knowing.{behind};
 ghost use Rattle.tsa_tree.specs.types.Premises as types;
 ghost use Rattle.tsa_tree.specs.types.Units as typed;
-ghost use Rattle.tsa_tree.specs.units.Shapes.{item_shape, item_shapes};
+ghost use Rattle.tsa_tree.specs.units.Shapes.{item_shape, item_shapes, HaveTheirPoints};
 ghost use Rattle.tsa_tree.specs.units.Syntax.{UnitItem};
 
 use std::alloc::Global;
@@ -119,6 +119,7 @@ impl<'w, 'a> Pass<'w, 'a> {
         item: &'a Item<'a>,
     ) -> Result<(), NoMemory>
         requires typed { types.first (typed.item_premises known.old.here (item_shape item.now)) ≡ None }
+        requires points { ∥ HaveTheirPoints (item.now ∷ []) ∥₁ }
         requires ahead { (rest : List UnitItem)
             × AreAhead (item_shapes self.now.ground.items.now) known.old (item_shape item.now ∷ rest) flows.old.items }
         ensures known { OnOk result (known.new ≡ behind (unit_at self.now.ground) known.old (item_shape item.now)) }

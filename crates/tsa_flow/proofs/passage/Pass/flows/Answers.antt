@@ -8,6 +8,7 @@ use Rattle.tsa_tree.specs.types.Units.{items_premises}
 use Rattle.tsa_tree.specs.units.Shapes.{item_shapes}
 use Rattle.tsa_rules_bodies.proofs.ItemLists.{item_typed, typed_next}
 use Rattle.tsa_profile_context.specs.Judging.{unit_at}
+use Rattle.tsa_rules_bodies.proofs.PointNumbers.{item_points, read_points}
 use Rattle.tsa_rules_bodies.specs.Knowing.{outset_of}
 use Rattle.tsa_profile_context.specs.Units.{unit_of}
 use Rattle.tsa_flow.specs.Units.{IsAhead, told_at}
@@ -37,6 +38,16 @@ item-requires-clause-typed c =
     let x = c.item-item.result in
     let at_i = drop-cons items i x c.each-test.true ∙ ap (λ y. y ∷ drop (suc i) items) (sym c.item-item.is) in
     item_typed c.each.known.here items i x at_i c.each.invariant.typed
+
+pub item-requires-clause-points : goal.item-requires-clause-points
+item-requires-clause-points c =
+    let s = c.args.self.now in
+    let items = s.ground.items.now in
+    let i = c.each.item-index in
+    let x = c.item-item.result in
+    let at_i = drop-cons items i x c.each-test.true ∙ ap (λ y. y ∷ drop (suc i) items) (sym c.item-item.is) in
+    item_points items i x (drop (suc i) items) at_i
+    (read_points s.fit.now.typed.unit.now.items.now items (ap (λ xs. xs.now) (s.judged ∙ sym s.fits)) s.fit.now.typed.well_read)
 
 pub item-requires-clause-ahead : goal.item-requires-clause-ahead
 item-requires-clause-ahead c =

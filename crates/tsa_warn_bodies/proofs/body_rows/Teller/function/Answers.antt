@@ -6,6 +6,7 @@ use Rattle.tsa_tree.specs.units.Shapes.{function_shape, item_shape, item_shapes}
 use Rattle.tsa_core.specs.Programs.{declared_by}
 use Rattle.tsa_rules_bodies.specs.Entering.{Enters}
 use Rattle.tsa_profile_context.specs.Judging.{unit_at}
+use Rattle.tsa_rules_bodies.proofs.PointNumbers.{item_of_function}
 use Rattle.tsa_rules_bodies.specs.Knowing.{IsWithin, behind}
 use Rattle.tsa_profile_context.specs.Units.{unit_of}
 use Rattle.tsa_flow.proofs.Passing.{left_behind}
@@ -23,6 +24,7 @@ enter_item-requires c =
       typed =
           ap (λ h. first (item_premises h item)) here
           ∙ first_typed c.args.self.now.pass (course_of c.args.course.now) item c.requires.ahead.0 c.requires.ahead.1;
+      points = item_of_function c.args.head.now c.args.item.now c.requires.is c.requires.points;
     }
 
 pub body-requires : goal.body-requires
