@@ -1,16 +1,21 @@
 //! What the locals of a body are named, and its graph: its blocks in order.
+ghost use Rattle.std.specs.Prelude.{◌≡◌, Ok};
+ghost use Rattle.tsa_place_model.specs.Units.{placed_in};
+ghost use Rattle.tsa_tree.specs.units.Shapes.{item_shapes};
 
 use crate::texts::{put, put_number};
 use crate::units::{Row, Shown, others};
 use std::alloc::Global;
 use std::test::Fail;
 use tsa_base::NoMemory;
-use tsa_graph::{Edge, Graph, GraphBlock, graph_of_body};
+use tsa_graph::{Edge, Graph, GraphBlock};
 use tsa_graph_edges::Outcome;
 use tsa_path::Named;
-use tsa_tree::Parsed;
+use tsa_place::Places;
+use tsa_rules_bodies::graph_of;
 use tsa_tree::item::FnTree;
 use tsa_tree::kind::Kind;
+use tsa_types::Typed;
 use tsa_types_scope::{Scope, outset};
 use tsa_warn_text::body_names;
 
@@ -51,9 +56,11 @@ fn put_block(out: &mut Vec<u8>, block: &GraphBlock) -> Result<(), Fail> {
     put(out, b")")
 }
 
-// Its blocks.
-fn put_blocks(out: &mut Vec<u8>, graph: Result<Graph, NoMemory>) -> Result<(), Fail> {
-    let graph = graph?;
+// Its blocks, where there is one.
+fn put_blocks(out: &mut Vec<u8>, graph: Result<Option<Graph>, NoMemory>) -> Result<(), Fail> {
+    let Some(graph) = graph? else {
+        return Ok(());
+    };
     'each: for block in &graph.blocks {
         put_block(out, block)?;
     }
@@ -90,29 +97,14 @@ fn names_in<'a>(scope: &Scope<'a>, function: &FnTree<'a>) -> Result<Vec<Named<'a
     body_names(scope, function, function.params, KINDS)
 }
 
-// A number that fits.
-fn number(count: usize) -> u32 {
-    u32::try_from(count).unwrap_or(u32::MAX)
-}
-
-// The graph of the body of a function.
-fn graph_in<'a>(scope: &Scope<'a>, function: &FnTree<'a>) -> Result<Graph, NoMemory> {
-    match function.body {
-        Some(body) => graph_of_body(scope, body, number(function.points.len())),
-        None => Err(NoMemory),
-    }
-}
-
-// What the locals of a function are named, and its graph.
+// What the locals of a function are named.
 fn put_function<'a>(
     out: &mut Vec<u8>,
     scope: &Scope<'a>,
     function: &FnTree<'a>,
 ) -> Result<(), Fail> {
     let names = names_in(scope, function);
-    let graph = graph_in(scope, function);
-    put_names(out, names)?;
-    put_blocks(out, graph)
+    put_names(out, names)
 }
 
 // The same where there is such a function, in a scope.
@@ -131,21 +123,24 @@ fn put_scoped<'a>(
 }
 
 // The scope before a unit's items.
-fn scope_of<'a>(alloc: Global, parsed: &Parsed<'a>) -> Result<Scope<'a>, NoMemory> {
-    outset(alloc, parsed.unit().items)
+fn scope_of<'a>(alloc: Global, typed: &Typed<'a>) -> Result<Scope<'a>, NoMemory> {
+    outset(alloc, typed.unit().items)
 }
 
 // The first function of a unit.
-fn first_of<'a>(parsed: &Parsed<'a>) -> Option<&'a FnTree<'a>> {
-    parsed.unit().function(0)
+fn first_of<'a>(typed: &Typed<'a>) -> Option<&'a FnTree<'a>> {
+    typed.unit().function(0)
 }
 
-/// The same of a unit's only function.
-pub fn put_graph<'a>(out: &mut Vec<u8>, parsed: &Parsed<'a>) -> Result<(), Fail> {
+/// What the locals of a unit's only function are named, and its graph.
+pub fn put_graph(out: &mut Vec<u8>, typed: &Typed<'_>, places: &Places) -> Result<(), Fail>
+    requires placed { placed_in (item_shapes typed.now.unit.now.items.now) ≡ Ok places.now }
+{
     let alloc = *out.allocator();
-    let function = first_of(parsed);
-    let scope = scope_of(alloc, parsed);
-    put_scoped(out, scope, function)
+    let function = first_of(typed);
+    let scope = scope_of(alloc, typed);
+    put_scoped(out, scope, function)?;
+    put_blocks(out, graph_of(alloc, typed, places, 0))
 }
 
 // Four points in a row are one block; a loop is entered and left; a round that nothing reaches is a block; and jumps lead

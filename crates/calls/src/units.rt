@@ -33,7 +33,7 @@ pub enum Shown {
     Expressions,
     /// The attributes that it begins with at a depth.
     Attributes(u32),
-    /// The graph of the only function of the unit that it is.
+    /// The graph of the only function of the typed unit that it is.
     Graph,
     /// The places of the unit.
     Places,
@@ -116,10 +116,7 @@ fn put_unit<'a>(
 
 impl Lent for Parsed<'_> {
     fn put(&self, out: &mut Vec<u8>, shown: Shown) -> Result<(), Fail> {
-        match shown {
-            Shown::Graph => put_graph(out, self),
-            _ => put_placed(out, shown, self),
-        }
+        put_placed(out, shown, self)
     }
 }
 
@@ -170,6 +167,21 @@ fn put_checked(
 
 // The same of a typed unit.
 fn put_typed(out: &mut Vec<u8>, shown: Shown, typed: Typed<'_>, places: &Places) -> Result<(), Fail>
+    requires placed { placed_in (item_shapes typed.unit.now.items.now) ≡ Ok places.now }
+{
+    match shown {
+        Shown::Graph => put_graph(out, &typed, places),
+        _ => put_in_profile(out, shown, typed, places),
+    }
+}
+
+// The same of a typed unit that may be in the profile.
+fn put_in_profile(
+    out: &mut Vec<u8>,
+    shown: Shown,
+    typed: Typed<'_>,
+    places: &Places,
+) -> Result<(), Fail>
     requires placed { placed_in (item_shapes typed.unit.now.items.now) ≡ Ok places.now }
 {
     match fit(*out.allocator(), typed, places) {
