@@ -11,7 +11,7 @@ use Rattle.tsa_tree.specs.declared.stmt.Stmt.{Stmt}
 use Rattle.tsa_tree.specs.points.Syntax.{PlacedDeed}
 use Rattle.tsa_tree.specs.statements.Shapes.{point_shape}
 use Rattle.tsa_tree.specs.units.Shapes.{HasItsPoints, HaveTheirPoints, function_shape, item_shape, item_shapes}
-use Rattle.tsa_trace.specs.Kept.{spans_of}
+use Rattle.tsa_trace.specs.Views.{spans_of}
 use Rattle.tsa_trace.specs.Tables.{Table, bodies_behind, functions_behind, with_body, with_first, with_function}
 
 -- points stand where their texts do

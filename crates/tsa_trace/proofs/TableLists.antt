@@ -8,7 +8,7 @@ use Rattle.tsa_base.specs.declared.token.Span.{Span}
 use Rattle.tsa_types_scope.proofs.NameLists.{or_further}
 use Rattle.tsa_tree.specs.declared.stmt.Point.{Point}
 use Rattle.tsa_trace.specs.FunctionTexts.{FunctionText, points_or_none}
-use Rattle.tsa_trace.specs.Kept.{spans_of, text_of}
+use Rattle.tsa_trace.specs.Views.{spans_of, text_of}
 use Rattle.tsa_trace.specs.Tables.{Table, text_by, texts_by, unless_known}
 use Rattle.tsa_trace.specs.declared.table.Function.{Function}
 use Rattle.tsa_tree.specs.types.Scopes.{found}

@@ -11,8 +11,8 @@ use Rattle.tsa_place_model.specs.Calls.{Layout, text_of}
 use Rattle.tsa_core.specs.Programs.{program_of}
 use Rattle.tsa_sched.specs.declared.event.Event.{Event}
 use Rattle.tsa_sched.specs.declared.event.EventKind.{EventKind}
-use Rattle.tsa_sched.specs.declared.event.EventKind.TheVariants.{Read, Write, Took, Waits, Tried, Gave, NotHeld, Environment, Called, Returned}
-use Rattle.tsa_sched.specs.declared.event.EventKind.TheVariants.{Branched, Switched, Stepped, Trap, AlreadyEnded, AlreadyTrapped, NoThread}
+use Rattle.tsa_sched.specs.declared.event.EventKind.TheVariants.{Read, Write, Took, Waits, Tried, Gave, NotHeld, Environment}
+use Rattle.tsa_sched.specs.declared.event.EventKind.TheVariants.{Called, Returned, Branched, Switched, Stepped, Trap, AlreadyEnded, AlreadyTrapped, NoThread}
 use Rattle.tsa_sched.specs.declared.event.Mode.{Mode}
 use Rattle.tsa_sched.specs.declared.event.Mode.TheVariants.{Exclusive, Shared}
 use Rattle.tsa_sched.specs.declared.event.Site.{Site}
@@ -72,9 +72,9 @@ abbrev pub took_text : Bool → List ℕ
 took_text true = codes " took"
 took_text false = codes " not"
 
-abbrev pub taken_text : Bool → List ℕ
-taken_text true = codes "true"
-taken_text false = codes "false"
+abbrev pub way_text : Bool → List ℕ
+way_text true = codes "true"
+way_text false = codes "false"
 
 abbrev pub trap_text : TrapKind → List ℕ
 trap_text Overflow = codes "overflow"
@@ -100,7 +100,7 @@ action_text s (NotHeld lock) = codes "unlock " ++ place_text s lock ++ codes " n
 action_text s (Environment callee answer) = codes "env " ++ name_text s callee ++ answer_text s answer
 action_text s (Called callee) = codes "call " ++ name_text s callee
 action_text s (Returned callee) = codes "return " ++ name_text s callee
-action_text s (Branched taken) = codes "branch " ++ taken_text taken
+action_text s (Branched taken) = codes "branch " ++ way_text taken
 action_text s (Switched value) = codes "switch " ++ value_text s value
 action_text s Stepped = codes "step"
 action_text s (Trap kind) = codes "trap " ++ trap_text kind

@@ -4,8 +4,8 @@ use Rattle.tsa_base.specs.declared.value.Value.TheVariants.{Int, Unsigned, Point
 use Rattle.tsa_lex.specs.Quick.{quick_tokens_of}
 use Rattle.tsa_tree.specs.types.Texts.{unit_in}
 use Rattle.tsa_sched.specs.declared.event.EventKind.{EventKind}
-use Rattle.tsa_sched.specs.declared.event.EventKind.TheVariants.{Read, Write, Took, Waits, Tried, Gave, NotHeld, Environment, Called, Returned}
-use Rattle.tsa_sched.specs.declared.event.EventKind.TheVariants.{Branched, Switched, Stepped, Trap, AlreadyEnded, AlreadyTrapped, NoThread}
+use Rattle.tsa_sched.specs.declared.event.EventKind.TheVariants.{Read, Write, Took, Waits, Tried, Gave, NotHeld, Environment}
+use Rattle.tsa_sched.specs.declared.event.EventKind.TheVariants.{Called, Returned, Branched, Switched, Stepped, Trap, AlreadyEnded, AlreadyTrapped, NoThread}
 use Rattle.tsa_sched.specs.declared.event.Mode.TheVariants.{Exclusive, Shared}
 use Rattle.tsa_sched.specs.declared.event.Touch.{Touch}
 use Rattle.tsa_sched.specs.declared.event.TrapKind.TheVariants.{Overflow, Division, NullPointer, OutOfRange, Depth}

@@ -1,5 +1,5 @@
 pub mod FunctionTexts
-pub mod Kept
+pub mod Views
 pub mod Tables
 pub mod EventLines
 pub mod RaceLines

@@ -2,10 +2,10 @@
 ghost use Rattle.std.specs.Prelude.{◌≡◌, ◌++◌, OnOk, codes};
 ghost use Rattle.tsa_sched.specs.declared.event.EventKind.TheVariants.{Read, Write, Took, Waits, Tried, Gave, NotHeld, Environment};
 ghost use Rattle.tsa_sched.specs.declared.event.EventKind.TheVariants.{Called, Returned, Switched};
-ghost use Rattle.tsa_trace.specs.EventLines.{action_text, mode_text, place_text, taken_text, trap_text, value_text};
+ghost use Rattle.tsa_trace.specs.EventLines.{action_text, mode_text, place_text, way_text, trap_text, value_text};
 
 use crate::tracer::Tracer;
-use crate::values::{mode_word, put_number, taken_word, took_word, trap_word};
+use crate::values::{mode_word, put_number, took_word, trap_word, way_word};
 use tsa_base::{NoMemory, Value};
 use tsa_sched::{EventKind, Mode, TrapKind};
 
@@ -26,10 +26,10 @@ pub fn put_word(out: &mut Vec<u8>, word: &[u8]) -> Result<(), NoMemory>
 
 /// Appends which way a test went.
 fn put_branched(out: &mut Vec<u8>, taken: bool) -> Result<(), NoMemory>
-    ensures { OnOk result (out.new.items ≡ out.old.items ++ codes "branch " ++ taken_text taken) }
+    ensures { OnOk result (out.new.items ≡ out.old.items ++ codes "branch " ++ way_text taken) }
 {
     out.extend_from_slice(b"branch ")?;
-    out.extend_from_slice(taken_word(taken))?;
+    out.extend_from_slice(way_word(taken))?;
     Ok(())
 }
 
@@ -42,7 +42,7 @@ fn put_trap(out: &mut Vec<u8>, kind: TrapKind) -> Result<(), NoMemory>
     Ok(())
 }
 
-impl Tracer<'_> {
+impl Tracer<'_, '_> {
     /// Appends a cell and its value.
     fn put_cell(&self, out: &mut Vec<u8>, place: u32, value: Value) -> Result<(), NoMemory>
         ensures { OnOk result (out.new.items ≡ out.old.items ++ place_text self.now place ++ codes " = " ++ value_text self.now value) }

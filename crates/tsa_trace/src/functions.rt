@@ -1,7 +1,7 @@
 //! The functions of a unit by their numbers: names, and points of bodies.
 ghost use Rattle.std.specs.Prelude.{◌≡◌, ◌∷◌, [], None, map, IfOk, OnOk};
 ghost use Rattle.tsa_trace.specs.FunctionTexts.{function_texts};
-ghost use Rattle.tsa_trace.specs.Kept.{text_of};
+ghost use Rattle.tsa_trace.specs.Views.{text_of};
 ghost use Rattle.tsa_trace.specs.Tables.{bodies_behind, functions_behind, with_body, with_function};
 ghost use Rattle.tsa_tree.specs.units.Shapes.{HasItsPoints, HaveTheirPoints, function_shape, item_shape, item_shapes};
 ghost use Rattle.tsa_tree.specs.types.FirstFailing.{first_failing};

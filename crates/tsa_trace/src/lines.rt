@@ -28,7 +28,7 @@ fn put_violation(out: &mut Vec<u8>, violation: bool) -> Result<(), NoMemory>
     Ok(())
 }
 
-impl Tracer<'_> {
+impl Tracer<'_, '_> {
     /// Appends where an event was, where it has a point.
     fn put_site(&self, out: &mut Vec<u8>, site: Option<Site>) -> Result<(), NoMemory>
         ensures { OnOk result (out.new.items ≡ out.old.items ++ site_text self.now site) }
@@ -58,7 +58,7 @@ impl Tracer<'_> {
 /// The line of an event of a turn, without a line end.
 pub fn event_line(
     alloc: Global,
-    tracer: &Tracer<'_>,
+    tracer: &Tracer<'_, '_>,
     turn: u32,
     event: &Event,
 ) -> Result<Vec<u8>, NoMemory>

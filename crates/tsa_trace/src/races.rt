@@ -22,7 +22,7 @@ fn touch_word(is_write: bool) -> &'static [u8]
     if is_write { b" write" } else { b" read" }
 }
 
-impl Tracer<'_> {
+impl Tracer<'_, '_> {
     /// Appends a side of a race: the thread, the point, and whether it reads or writes.
     #[tactic(auto, unfolding(crate::specs::RaceLines::side_text))]
     fn put_side(&self, out: &mut Vec<u8>, side: &Side) -> Result<(), NoMemory>
@@ -54,7 +54,7 @@ impl Tracer<'_> {
 /// The line of a race, without a line end.
 pub fn race_line(
     alloc: Global,
-    tracer: &Tracer<'_>,
+    tracer: &Tracer<'_, '_>,
     one: &Side,
     other: &Side,
 ) -> Result<Vec<u8>, NoMemory>

@@ -1,6 +1,6 @@
 //! Lists of points by the names of functions.
 ghost use Rattle.std.specs.Prelude.{◌≡◌, [], map, option_map, IfOk, OnOk};
-ghost use Rattle.tsa_trace.specs.Kept.{spans_of, text_of};
+ghost use Rattle.tsa_trace.specs.Views.{spans_of, text_of};
 ghost use Rattle.tsa_trace.specs.Tables.{texts_by, with_first};
 ghost use Rattle.tsa_tree.specs.types.Scopes.{found};
 
@@ -32,7 +32,7 @@ impl Drop for Table<'_> {
 impl<'a> Model for Table<'a> {
     ghost use Rattle.std.specs.Prelude.{map};
     ghost use Rattle.tsa_trace.specs.Tables.{Table};
-    ghost use Rattle.tsa_trace.specs.Kept.{spans_of};
+    ghost use Rattle.tsa_trace.specs.Views.{spans_of};
 
     ghost Value = { Table };
 

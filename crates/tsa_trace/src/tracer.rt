@@ -3,7 +3,7 @@ ghost use Rattle.std.specs.Prelude.{◌≡◌, ◌++◌, Ok, IfOk, OnOk, option_
 ghost use Rattle.tsa_place_model.specs.Units.{placed_in};
 ghost use Rattle.tsa_trace.specs.EventLines.{byte_in, name_text, place_text, point_byte, point_text, points_in, sources_of};
 ghost use Rattle.tsa_trace.specs.FunctionTexts.{points_or_none};
-ghost use Rattle.tsa_trace.specs.Kept.{spans_of};
+ghost use Rattle.tsa_trace.specs.Views.{spans_of};
 ghost use Rattle.tsa_tree.specs.units.Shapes.{HaveTheirPoints, item_shapes};
 
 use crate::functions::functions_of;
@@ -18,17 +18,27 @@ use tsa_tree::stmt::Point;
 use tsa_types::Typed;
 
 /// The text of a unit by its lines, its functions by their numbers, and its places. Contracts see what lines are made of.
-#[derive(Drop)]
-pub struct Tracer<'a> {
-    starts: LineStarts<'a>,
+pub struct Tracer<'a, 'p> {
+    starts: LineStarts<'p>,
     functions: Vec<Function<'a>>,
-    places: &'a Places,
+    places: &'p Places,
 }
 
-impl<'a> Model for Tracer<'a> {
+impl Drop for Tracer<'_, '_> {
+    /// Lets its parts go, in one call for all who let one go.
+    fn drop(self) {
+        let Tracer {
+            starts: _,
+            functions: _,
+            places: _,
+        } = self;
+    }
+}
+
+impl<'a, 'p> Model for Tracer<'a, 'p> {
     ghost use Rattle.std.specs.Prelude.{map};
     ghost use Rattle.tsa_trace.specs.EventLines.{Sources};
-    ghost use Rattle.tsa_trace.specs.Kept.{text_of};
+    ghost use Rattle.tsa_trace.specs.Views.{text_of};
 
     ghost Value = { Sources };
 
@@ -45,14 +55,14 @@ fn byte_of(points: &[Point<'_>], point: u32) -> u32
     }
 }
 
-impl<'a> Tracer<'a> {
+impl<'a, 'p> Tracer<'a, 'p> {
     /// What the lines of a typed unit are made of, with its places and the text from which it was read.
     pub fn new(
         alloc: Global,
         unit: &Typed<'a>,
-        places: &'a Places,
-        source: &'a [u8],
-    ) -> Result<Tracer<'a>, NoMemory>
+        places: &'p Places,
+        source: &'p [u8],
+    ) -> Result<Tracer<'a, 'p>, NoMemory>
         requires points { HaveTheirPoints unit.now.unit.now.items.now }
         requires placed { placed_in (item_shapes unit.now.unit.now.items.now) ≡ Ok places.now }
         ensures { IfOk result (λ tracer. tracer ≡ sources_of source.now (item_shapes unit.now.unit.now.items.now)) }

@@ -1,7 +1,7 @@
 //! Numbers, values and words of lines.
 ghost use Rattle.std.specs.Prelude.{◌≡◌, ◌++◌, OnOk, decimal};
 ghost use Rattle.std.specs.Fmt.{signed_decimal};
-ghost use Rattle.tsa_trace.specs.EventLines.{answer_text, mode_text, pointer_text, taken_text, took_text, trap_text, value_text};
+ghost use Rattle.tsa_trace.specs.EventLines.{answer_text, mode_text, pointer_text, way_text, took_text, trap_text, value_text};
 
 use crate::tracer::Tracer;
 use itoa::Buffer;
@@ -44,8 +44,8 @@ pub fn took_word(took: bool) -> &'static [u8]
 }
 
 /// The word of the way that a test went.
-pub fn taken_word(taken: bool) -> &'static [u8]
-    ensures { result.now ≡ taken_text taken }
+pub fn way_word(taken: bool) -> &'static [u8]
+    ensures { result.now ≡ way_text taken }
 {
     if taken { b"true" } else { b"false" }
 }
@@ -63,7 +63,7 @@ pub fn trap_word(kind: TrapKind) -> &'static [u8]
     }
 }
 
-impl Tracer<'_> {
+impl Tracer<'_, '_> {
     /// Appends what a pointer points to: `null`, or `&` and the text of a place.
     fn put_pointer(&self, out: &mut Vec<u8>, place: Option<u32>) -> Result<(), NoMemory>
         ensures { OnOk result (out.new.items ≡ out.old.items ++ pointer_text self.now place) }

@@ -1,7 +1,7 @@
 use Rattle.std.proofs.Common.{◌∙◌, option_map, ap}
 use Rattle.std.specs.Str.{bytes_eq}
 use Rattle.tsa_tree.specs.types.Scopes.{found}
-use Rattle.tsa_trace.specs.Kept.{spans_of}
+use Rattle.tsa_trace.specs.Views.{spans_of}
 use Rattle.tsa_trace.proofs.TableLists.{lookup-shown}
 use Rattle.tsa_trace.proofs.table.Table.find.Goals as goal
 

@@ -5,7 +5,7 @@ use Rattle.indexmap.specs.Entry.{map_with_value}
 use Rattle.indexmap.specs.IndexMap.{insert_entry}
 use Rattle.tsa_tree.specs.types.Scopes.{found}
 use Rattle.tsa_types_scope.proofs.NameLists.{or_further, insert_once}
-use Rattle.tsa_trace.specs.Kept.{spans_of}
+use Rattle.tsa_trace.specs.Views.{spans_of}
 use Rattle.tsa_trace.specs.Tables.{unless_known}
 use Rattle.tsa_trace.proofs.TableLists.{table_of, lookup-shown, some_mapped, further_shown}
 use Rattle.tsa_trace.proofs.table.Table.keep.Goals as goal

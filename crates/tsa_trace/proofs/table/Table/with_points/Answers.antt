@@ -1,5 +1,5 @@
 use Rattle.std.proofs.Common.{◌∙◌, ◌++◌, map, refl, ap}
-use Rattle.tsa_trace.specs.Kept.{text_of}
+use Rattle.tsa_trace.specs.Views.{text_of}
 use Rattle.tsa_trace.specs.Tables.{texts_by}
 use Rattle.tsa_trace.proofs.TableLists.{shown_all, texts_end, texts_next}
 use Rattle.tsa_trace.proofs.table.Table.with_points.Goals as goal

@@ -1,5 +1,5 @@
 use Rattle.std.proofs.Common.{◌≡◌, ◌++◌, map}
-use Rattle.tsa_trace.specs.Kept.{text_of}
+use Rattle.tsa_trace.specs.Views.{text_of}
 use Rattle.tsa_trace.specs.Tables.{texts_by}
 use Rattle.tsa_trace.proofs.TableLists.{shown_all}
 use Rattle.tsa_trace.proofs.table.Table.with_points.Given as goal

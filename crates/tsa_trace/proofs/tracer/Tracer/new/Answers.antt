@@ -2,7 +2,7 @@ use Rattle.std.proofs.Common.{◌∙◌, map, ap}
 use Rattle.tsa_tree.specs.units.Shapes.{item_shapes}
 use Rattle.tsa_trace.proofs.SourcesTold.{sources_told}
 use Rattle.tsa_trace.specs.FunctionTexts.{function_texts}
-use Rattle.tsa_trace.specs.Kept.{text_of}
+use Rattle.tsa_trace.specs.Views.{text_of}
 use Rattle.tsa_trace.proofs.tracer.Tracer.new.Goals as goal
 
 pub returns : goal.returns
