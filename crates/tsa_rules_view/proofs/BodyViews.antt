@@ -26,6 +26,7 @@ use Rattle.tsa_rules_roles.specs.RoleLaws.{AreRolesOf}
 use Rattle.tsa_rules_roles.specs.ProgramDuties.{AreRoles}
 use Rattle.tsa_rules.specs.TryVariables.{AreInOrder}
 use Rattle.tsa_rules_roles.proofs.OfPrograms.{roles_are_of_the_program}
+use Rattle.tsa_rules_points.specs.declared.notes.Notes.{Notes}
 use Rattle.tsa_rules_points.specs.Notes.{AreNotes}
 use Rattle.tsa_rules_bodies.specs.Laws.{StandsFor}
 use Rattle.tsa_rules_bodies.specs.Sites.{Site, within}
@@ -44,6 +45,18 @@ none_within : {A : Type 0} (xs : List A) (i : ℕ) → i < length xs → slice_g
 none_within [] i less is = omega (arith, less)
 none_within (x ∷ xs) zero less is = cc
 none_within (x ∷ xs) (suc i) less is = none_within xs i (omega (arith, less)) is
+
+-- the roles that are noted are those of the function
+module _ (items : List UnitItem) (n : ℕ) (f : Function) (s : Site) (h : StandsFor items n f s) (a : Around) (close : Span)
+    (layout_is : a.layout ≡ (program_of items).layout) (attributes_is : a.attributes ≡ s.attributes) (stable_is : a.stable ≡ stable_of (unit_of [] items) s.head)
+    (paths : List Way) (notes : Notes) where
+  pub roles_noted : AreNotes a (body.kind items n f s h a close layout_is attributes_is stable_is) paths (body.qs items n f s h a close layout_is attributes_is stable_is) notes
+      → AreRolesOf (program_of items) f notes.roles
+  roles_noted are =
+      roles_are_of_the_program (program_of items) f (within s).locals notes.roles
+      (subst (λ xs. AreRoles (program_of items) (within s).locals xs notes.roles) (points items n f s h a close layout_is attributes_is stable_is)
+      (are.roles (program_of items) (within s).locals (agree items n f s h a close layout_is attributes_is stable_is)
+      (subst (AreInOrder (within s).locals) (sym (points items n f s h a close layout_is attributes_is stable_is)) h.in_order)))
 
 module _ (items : List UnitItem) (n : ℕ) (f : Function) (s : Site) (h : StandsFor items n f s) (a : Around) (close : Span)
     (layout_is : a.layout ≡ (program_of items).layout) (attributes_is : a.attributes ≡ s.attributes) (stable_is : a.stable ≡ stable_of (unit_of [] items) s.head)
@@ -83,11 +96,7 @@ module _ (items : List UnitItem) (n : ℕ) (f : Function) (s : Site) (h : Stands
         (ap is_taken_again (kind_told ∙ sym (lock_kinds_are_of_the_program u f c).kind) ∙ (lock_kinds_are_of_the_program u f c).taken_again) (own_row number c at)
 
   roles : AreRolesOf u f v.notes.roles
-  roles =
-      roles_are_of_the_program u f (within s).locals v.notes.roles
-      (subst (λ xs. AreRoles u (within s).locals xs v.notes.roles) (points items n f s h a close layout_is attributes_is stable_is)
-      (notes.roles u (within s).locals (agree items n f s h a close layout_is attributes_is stable_is)
-      (subst (AreInOrder (within s).locals) (sym (points items n f s h a close layout_is attributes_is stable_is)) h.in_order)))
+  roles = roles_noted items n f s h a close layout_is attributes_is stable_is paths v.notes notes
 
   -- what the row of a point says
   mark_told : (p number : ℕ) (c : Way) → p < length (points_of f) → slice_get paths number ≡ Some c → mark_in v.notes.marks p number ≡ mark_of u f p c

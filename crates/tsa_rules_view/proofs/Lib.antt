@@ -11,6 +11,7 @@ pub mod Examples
 pub mod Mentions
 pub mod BodyViews
 pub mod RuleNumbers
+pub mod FewTries
 pub mod ViewsOfFunctions
 pub mod HandedResults
 pub use Rattle.tsa_rules_bodies.proofs.EachOnce

@@ -8,7 +8,7 @@ use Rattle.tsa_place_model.specs.Calls.{Layout}
 use Rattle.tsa_core.specs.Bodies.{Body}
 use Rattle.tsa_core.specs.Programs.{Function, LockKind, Program, lock_kinds, program_of}
 use Rattle.tsa_profile_points.specs.Ways.{each_once, unless_many}
-use Rattle.tsa_rules_bodies.specs.Units.{unit_of}
+use Rattle.tsa_rules_bodies.specs.Units.{refusal_with, unit_of}
 use Rattle.tsa_path.specs.PathTables.{AreDifferent, path_limit, with_path}
 use Rattle.tsa_path.proofs.Numbers.{table_holds_different_paths}
 use Rattle.tsa_rules_bodies.specs.Paths.{paths_if, paths_of, ways_of}
@@ -18,8 +18,11 @@ use Rattle.tsa_rules_bodies.specs.Finding.{IsFound}
 use Rattle.tsa_rules_bodies.specs.Laws.{StandsFor}
 use Rattle.tsa_rules_bodies.specs.Sites.{Site, site_of}
 use Rattle.tsa_rules_bodies.proofs.SiteLaws.{sites_are_of_the_program}
+use Rattle.tsa_rules_view.specs.BodyViews.{HasFewTries}
+use Rattle.tsa_rules_view.specs.declared.build.Unit.{Unit}
 use Rattle.tsa_rules_view.specs.declared.content.RuleView.{RuleView}
 use Rattle.tsa_rules_view.specs.Views.{IsViewBy, IsViewIn, IsViewOf}
+use Rattle.tsa_rules_view.proofs.FewTries.{few_tries}
 
 -- paths each once are different
 none_same : AreDifferent []
@@ -75,6 +78,20 @@ module _ (items : List UnitItem) (n : ℕ) (typed : first_failing items ≡ None
     -- its body is found
     pub never_none : IsFound (unit_of [] items) n (site_of items n) None → ⊥
     never_none found = subst (λ o. IsFound (unit_of [] items) n o None) stands.1.0 found
+
+    -- it has few try variables
+    pub few_there : (u : Unit) (b : BodySite) (outside : List ℕ) → refusal_with outside items ≡ None → u.layout.now ≡ (program_of items).layout
+        → IsFound (unit_of [] items) n (site_of items n) (Some b) → HasFewTries u b.known b.inside
+    few_there u b outside fits layout found = record {
+      items = items;
+      number = n;
+      function = function.0;
+      site = stands.0;
+      layout = layout;
+      is_of = subst (λ o. IsFound (unit_of [] items) n o (Some b)) stands.1.0 found;
+      stands = stands.1.1;
+      few = few_tries items outside n function.0 typed fits function.1.0 body.0;
+    }
 
     -- and what is made of that is its view
     pub view_there : (l : Layout) (ks : List (Option LockKind)) (b : BodySite) (v : RuleView) → l ≡ (program_of items).layout → ks ≡ (program_of items).locks

@@ -1,5 +1,5 @@
 -- The view that is made of a body which is entered.
-use Rattle.std.specs.Prelude.{◌≡◌, ◌++◌, ℕ, false, List, [], None}
+use Rattle.std.specs.Prelude.{◌≡◌, ◌≤◌, ◌++◌, ℕ, false, List, [], length, None}
 use Rattle.tsa_tree.specs.declarations.Shapes.{head_shape}
 use Rattle.tsa_tree.specs.declared.kind.Kind.{Kind}
 use Rattle.tsa_tree.specs.statements.Shapes.{stmt_shapes}
@@ -12,6 +12,8 @@ use Rattle.tsa_path.specs.PathTables.{AreDifferent}
 use Rattle.tsa_core_points.specs.Points.{PlacedPoint}
 use Rattle.tsa_core_points.specs.Walks.{points_along, walk}
 use Rattle.tsa_core_points.specs.Steps.{body_steps}
+use Rattle.tsa_rules.specs.Points.{try_variables}
+use Rattle.tsa_rules.specs.Statuses.{try_limit}
 use Rattle.tsa_rules_view.specs.Kinds.{kinds_of}
 use Rattle.tsa_rules_table.specs.Notes.{IsRow}
 use Rattle.tsa_profile_points.specs.Bodies.{Around}
@@ -59,3 +61,14 @@ pub record IsWhole (u : Unit) (k : Knowledge) (i : Inside) (noted : Noted) (v : 
 abbrev pub IsMade : Unit → Knowledge → Inside → List Way → RuleView → Type 0
 IsMade u k i paths v = (items : List UnitItem) (n : ℕ) (f : Function) (s : Site) → u.layout.now ≡ (program_of items).layout → kinds_of u.kinds.now ≡ (program_of items).locks
     → IsOf (unit_of [] items) n s k i → StandsFor items n f s → AreDifferent paths → IsViewOf (program_of items) f paths v
+
+-- The body stands for a function of a unit that has no more try variables than it may have.
+pub record HasFewTries (u : Unit) (k : Knowledge) (i : Inside) : Type 0 where
+  pub items : List UnitItem
+  pub number : ℕ
+  pub function : Function
+  pub site : Site
+  pub layout : u.layout.now ≡ (program_of items).layout
+  pub is_of : IsOf (unit_of [] items) number site k i
+  pub stands : StandsFor items number function site
+  pub few : length (try_variables (program_of items) function) ≤ try_limit

@@ -11,12 +11,12 @@ ghost use Rattle.tsa_rules.specs.Sets.{pending_places};
 ghost use Rattle.tsa_core_points.specs.Steps.{step_shape};
 ghost use Rattle.tsa_tree.specs.declarations.Shapes.{head_shape};
 ghost use Rattle.tsa_tree.specs.types.Scopes.{with_locals};
-ghost use Rattle.tsa_rules_view.specs.BodyViews.{AreNoted, IsMade, IsNoted, IsWhole};
+ghost use Rattle.tsa_rules_view.specs.BodyViews.{AreNoted, HasFewTries, IsMade, IsNoted, IsWhole};
 ghost use Rattle.tsa_rules_view.specs.Parts.{kinds_along, param_kinds as spec_param_kinds};
 ghost use Rattle.tsa_place_model.specs.LockPaths.{stable_in};
 
 use crate::content::RuleView;
-use crate::parts::{are_few, kinds_of, own_marks, param_kinds};
+use crate::parts::{kinds_of, own_marks, param_kinds};
 use crate::walks::{begin_walk, end_walk};
 use crate::{Leads, LockKind};
 use tsa_base::NoMemory;
@@ -51,9 +51,8 @@ fn notes_along<'a>(
     steps: &[Step<'a>],
     paths: &PathTable,
 ) -> Result<Noted, NoMemory>
-    ensures noted { IfOk result (λ noted. AreDifferent paths.now
-        → AreNoted (around_of frame.entry.around) frame.entry.kind paths.now (points_along (walk scope.old []) (map step_shape steps.now))
-        noted) }
+    ensures noted { IfOk result (AreNoted (around_of frame.entry.around) frame.entry.kind paths.now
+        (points_along (walk scope.old []) (map step_shape steps.now))) }
     ensures scope { OnOk result (scope.new ≡ with_locals scope.old.locals (walk_behind (walk scope.old []) (map step_shape steps.now)).here) }
 {
     let locals = scope.next_local();
@@ -101,7 +100,7 @@ impl<'w, 'a> Unit<'w, 'a> {
         inside: &Inside<'a>,
         paths: &PathTable,
     ) -> Result<Noted, NoMemory>
-        ensures noted { IfOk result (λ noted. AreDifferent paths.now → IsNoted self.now known.old inside.now paths.now noted) }
+        ensures noted { IfOk result (IsNoted self.now known.old inside.now paths.now) }
         ensures known { OnOk result (known.new ≡ known.old) }
     {
         let kind = declared_thing(&known.scope, &inside.head.result)?.kind;
@@ -129,7 +128,7 @@ impl<'w, 'a> Unit<'w, 'a> {
         kinds_of(known.scope.allocator(), &noted.numbers, leads, self.kinds)
     }
 
-    /// What a view has beside the notes of points, where few of these begin tries.
+    /// What a view has beside the notes of points.
     fn sides(
         &self,
         known: &Knowledge<'a>,
@@ -140,22 +139,21 @@ impl<'w, 'a> Unit<'w, 'a> {
             (spec_param_kinds known.now.here (head_shape inside.now.head.now).params ++ noted.old.notes.kinds.items) noted.old.numbers) }
         ensures own { IfOk result (λ sides. AreDifferent noted.old.numbers
             → IsRow noted.old.numbers sides.own 0 (attributes_at known.now.attributes inside.now.number) [] [] None) }
-        ensures few { OnOk result (tries_in noted.old.notes.roles < pending_places) }
         ensures noted { noted.new ≡ noted.old }
     {
-        are_few(&noted.notes.roles)?;
         let kinds = self.path_kinds(known, inside, noted)?;
         let own = own_row(known, inside, &mut noted.numbers)?;
         Ok(Sides { kinds, own })
     }
 
-    /// The view of a body whose points are noted.
+    /// The view of a body whose points are noted, where few of them begin tries.
     fn whole(
         &self,
         known: &Knowledge<'a>,
         inside: &Inside<'a>,
         noted: Noted,
     ) -> Result<RuleView<'a>, NoMemory>
+        requires few { tries_in noted.notes.roles < pending_places }
         ensures { IfOk result (λ view. IsWhole self.now known.now inside.now noted view) }
     {
         let mut noted = noted;
@@ -168,13 +166,14 @@ impl<'w, 'a> Unit<'w, 'a> {
         })
     }
 
-    /// The view of a body that is entered, by the paths of its function. What is known there stays as it is.
+    /// The view of a body that is entered, by the paths of its function, which has few try variables. What is known there stays as it is.
     pub fn view(
         &self,
         known: &mut Knowledge<'a>,
         inside: &Inside<'a>,
         paths: &PathTable,
     ) -> Result<RuleView<'a>, NoMemory>
+        requires few { HasFewTries self.now known.old inside.now }
         ensures view { IfOk result (λ view. IsMade self.now known.old inside.now paths.now view) }
         ensures known { OnOk result (known.new ≡ known.old) }
     {

@@ -3,7 +3,7 @@ ghost use Rattle.std.specs.Prelude.{◌≡◌, Ok, slice_get, IfOk};
 ghost use Rattle.tsa_core.specs.Programs.{program_of};
 ghost use Rattle.tsa_place_model.specs.Units.{placed_in};
 ghost use Rattle.tsa_tree.specs.units.Shapes.{item_shapes};
-ghost use Rattle.tsa_rules_view.specs.BodyViews.{IsMade};
+ghost use Rattle.tsa_rules_view.specs.BodyViews.{HasFewTries, IsMade};
 ghost use Rattle.tsa_rules_view.specs.Views.{IsViewIn};
 
 use crate::build::Unit;
@@ -16,8 +16,9 @@ use tsa_place::Places;
 use tsa_rules_bodies::{BodySite, Fit, site_in};
 
 impl<'w, 'a> Unit<'w, 'a> {
-    /// The view of the body of a site, by the paths of its function.
+    /// The view of the body of a site, by the paths of its function, which has few try variables.
     fn view_at(&self, site: BodySite<'a>, paths: &PathTable) -> Result<RuleView<'a>, NoMemory>
+        requires few { HasFewTries self.now site.known site.inside }
         ensures { IfOk result (λ view. IsMade self.now site.entry.known site.entry.inside paths.now view) }
     {
         let inside = site.inside;

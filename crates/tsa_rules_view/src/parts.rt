@@ -1,11 +1,9 @@
 //! The parts of a view that are told by paths: the kinds of the locks to which they lead, and what the function's own attributes say of
 //! them.
-ghost use Rattle.std.specs.Prelude.{◌≡◌, ◌<◌, None, [], IfOk, OnOk};
+ghost use Rattle.std.specs.Prelude.{◌≡◌, None, [], IfOk};
 ghost use Rattle.tsa_rules_view.specs.Kinds.{kinds_of as spec_kinds};
 ghost use Rattle.tsa_rules_table.specs.Notes.{IsRow};
 ghost use Rattle.tsa_path.specs.PathTables.{AreDifferent};
-ghost use Rattle.tsa_rules_roles.specs.Roles.{tries_in};
-ghost use Rattle.tsa_rules.specs.Sets.{pending_places};
 ghost use Rattle.tsa_tree.specs.declarations.Shapes.{param_shape, param_shapes};
 ghost use Rattle.tsa_tree.specs.types.DeclaredTypes.{thing_type};
 ghost use Rattle.tsa_rules_view.specs.Parts.{kinds_along, param_kinds as spec_param_kinds};
@@ -15,7 +13,6 @@ use std::alloc::Global;
 use tsa_base::NoMemory;
 use tsa_place_layout::declared_thing;
 use tsa_profile_accesses::NamedLock;
-use tsa_rules_roles::Roles;
 use tsa_rules_table::{Marks, Numbers};
 use tsa_tree::item::Param;
 use tsa_tree::kind::Kind;
@@ -45,13 +42,13 @@ pub fn own_marks(alloc: Global, numbers: &mut Numbers, own: &[NamedLock]) -> Res
     ensures numbers { numbers.new ≡ numbers.old }
 {
     let mut marks = Marks::new(alloc);
-    marks.begin_row()?;
+    marks.begin_row(1);
     marks.note_own(numbers, own)?;
     Ok(marks)
 }
 
 /// The kinds of the locks to which paths lead, by the kinds of a unit's structs.
-#[tactic(auto, using(crate::proofs::PathKinds::kinds_on))]
+#[tactic(auto, using(crate::proofs::PathKinds::kinds_on, crate::proofs::PathKinds::kinds_end))]
 pub fn kinds_of<'a>(
     alloc: Global,
     numbers: &Numbers,
@@ -63,19 +60,10 @@ pub fn kinds_of<'a>(
 {
     let mut found = Vec::new(alloc);
     'each: for number in 0..numbers.len() {
-        let path = numbers.path(number).ok_or(NoMemory)?;
+        let Some(path) = numbers.path(number) else {
+            return Ok(found);
+        };
         found.push(kind_at(kinds, leads.structure(path)))?;
     }
     Ok(found)
-}
-
-/// An error where a function has more try variables than a set of statuses has places for, as none in the profile has.
-pub fn are_few(roles: &Roles) -> Result<(), NoMemory>
-    ensures { OnOk result (tries_in roles.now < pending_places) }
-{
-    if roles.tries() < 54 {
-        Ok(())
-    } else {
-        Err(NoMemory)
-    }
 }

@@ -1,5 +1,4 @@
 use Rattle.std.proofs.Common.{◌≡◌, ◌∙◌, [], map, subst, IfOk}
-use Rattle.tsa_path.specs.PathTables.{AreDifferent}
 use Rattle.tsa_core_points.specs.Walks.{points_along, walk}
 use Rattle.tsa_core_points.specs.Steps.{step_shape}
 use Rattle.tsa_profile_points.specs.PointAnswers.{around_of}
@@ -14,8 +13,8 @@ returns-clause-noted c =
     let k = c.args.frame.kind in
     let paths = c.args.paths.now in
     let qs = points_along (walk c.args.scope.now []) (map step_shape c.args.steps.now) in
-    told_twice c.notes_of-noted.result (λ x. AreNotes a k c.in_ok-numbers.numbers qs x.notes) (λ x. x.numbers ≡ c.in_ok-numbers.numbers) (λ x. AreDifferent paths → AreNoted a k paths qs x)
-    (λ x notes numbers different.
-    record { notes = subst (λ ps. AreNotes a k ps qs x.notes) (c.in_ok-numbers.ensures different) notes; numbers = numbers ∙ c.in_ok-numbers.ensures different })
+    told_twice c.notes_of-noted.result (λ x. AreNotes a k c.in_ok-numbers.numbers qs x.notes) (λ x. x.numbers ≡ c.in_ok-numbers.numbers) (AreNoted a k paths qs)
+    (λ x notes numbers.
+    record { notes = subst (λ ps. AreNotes a k ps qs x.notes) c.in_ok-numbers.ensures notes; numbers = numbers ∙ c.in_ok-numbers.ensures })
     (subst (λ w. IfOk c.notes_of-noted.result (λ x. AreNotes a k c.in_ok-numbers.numbers (points_along w (map step_shape c.args.steps.now)) x.notes)) c.in_ok-walk.ensures c.notes_of-noted.ensures.notes)
     c.notes_of-noted.ensures.numbers

@@ -1,4 +1,4 @@
-use Rattle.std.proofs.Common.{◌∙◌, [], false, refl, Bool, List, map, ap, ap₂}
+use Rattle.std.proofs.Common.{◌∙◌, [], false, Bool, List, map, ap, ap₂}
 use Rattle.std.proofs.lemmas.Result.{on_ok_weaker, IfOk-weaker}
 use Rattle.tsa_tree.specs.declarations.Shapes.{head_shape}
 use Rattle.tsa_tree.specs.statements.Shapes.{stmt_shapes}
@@ -27,8 +27,8 @@ returns-clause-noted c =
     let kind = ap (λ t. t.kind) c.in_ok-kind.ensures ∙ ap (λ h. (thing_type h (head_shape i.head.now).result).kind) here in
     let points = ap₂ (λ h ss. points_along (walk h []) ss) here (ap (map step_shape) c.deref-3.ensures.value ∙ c.in_ok-steps.ensures) in
     IfOk-weaker c.notes_along.result _ _
-    (λ noted h different.
-    let is = h different in record {
+    (λ noted is.
+    record {
       notes =
           notes_same (around_of c.around-around.result) (around_in u k i) c.in_ok-kind.field-0.kind (result_in k i) paths
           (points_along (walk c.known.inside.scope []) (map step_shape c.deref-3.result.now)) (points_in k i) noted.notes around kind points is.notes;

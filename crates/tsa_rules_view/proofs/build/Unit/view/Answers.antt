@@ -1,8 +1,13 @@
 use Rattle.std.proofs.Common.{subst}
 use Rattle.std.proofs.lemmas.Result.{IfOk-weaker}
 use Rattle.tsa_rules_view.specs.BodyViews.{IsWhole}
-use Rattle.tsa_rules_view.proofs.ViewsOfFunctions.{made}
+use Rattle.tsa_rules_view.proofs.ViewsOfFunctions.{few_noted, made}
 use Rattle.tsa_rules_view.proofs.build.Unit.view.Goals as goal
+
+pub whole-requires : goal.whole-requires
+whole-requires c = record {
+  few = few_noted c.args.self.now c.args.known.now c.args.inside.now c.args.paths.now c.in_ok-noted.noted c.in_ok-noted.ensures.noted c.requires.few;
+}
 
 pub returns-clause-view : goal.returns-clause-view
 returns-clause-view c =

@@ -7,8 +7,21 @@ use Rattle.tsa_rules_bodies.proofs.Laying.{laid}
 use Rattle.tsa_rules_bodies.specs.Finding.{IsFound}
 use Rattle.tsa_rules_bodies.specs.Sites.{site_of}
 use Rattle.tsa_rules_view.proofs.HandedResults.{mapped}
-use Rattle.tsa_rules_view.proofs.NewView.{locks_are, never_none, view_there}
+use Rattle.tsa_rules_view.proofs.NewView.{few_there, locks_are, never_none, view_there}
 use Rattle.tsa_rules_view.proofs.content.RuleView.new.Goals as goal
+
+pub view_at-requires : goal.view_at-requires
+view_at-requires c =
+    let items = item_shapes c.args.unit.now.typed.unit.now.items.now in
+    let n = c.args.function in
+    let told = sym c.paths.ensures ∙ ap (option_map (λ t. t.now)) c.in-Some.is in
+    let there = subst (λ t. IsFound (unit_of [] (item_shapes t.unit.now.items.now)) n (site_of (item_shapes t.unit.now.items.now) n) c.in_ok-site.field-0) c.typed.ensures c.in_ok-site.ensures in
+    record {
+      few =
+          few_there items n c.args.unit.now.typed.typed c.in-Some.paths.now told _ c.in-Some-2.site c.args.unit.now.outside.items c.args.unit.now.profiled
+          (c.layout-layout.ensures ∙ laid items c.args.places.now c.requires.placed)
+          (subst (IsFound (unit_of [] items) n (site_of items n)) c.in-Some-2.is there);
+    }
 
 pub returns-in-Some-2 : goal.returns-in-Some-2
 returns-in-Some-2 c =
