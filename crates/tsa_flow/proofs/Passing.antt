@@ -21,14 +21,17 @@ use Rattle.tsa_rules_bodies.specs.Knowing.{IsWithin, Knowledge, behind, entered,
 use Rattle.tsa_rules_bodies.specs.Laws.{StandsFor}
 use Rattle.tsa_rules_bodies.specs.Paths.{paths_if}
 use Rattle.tsa_rules_bodies.specs.Sites.{Site, or_later, site_among, site_at, site_of}
-use Rattle.tsa_profile_context.specs.Units.{Unit, attributes_behind, unit_of}
+use Rattle.tsa_profile_context.specs.Units.{Unit, attributes_behind, refusal_with, unit_of}
 use Rattle.tsa_rules_bodies.proofs.Seeking.{other_number, passed}
 use Rattle.tsa_rules_bodies.proofs.SiteLaws.{sites_are_of_the_program}
 use Rattle.tsa_flow_function.proofs.NewView.{has_body}
 use Rattle.tsa_rules_bodies.specs.Controls.{IsControlOf}
 use Rattle.tsa_graph.specs.declared.blocks.Graph.{Graph}
 use Rattle.tsa_flow_function.specs.Views.{IsViewOf}
+use Rattle.tsa_rules_view.specs.BodyViews.{HasFewTries}
+use Rattle.tsa_rules_view.specs.declared.build.Unit.{Unit as ViewUnit}
 use Rattle.tsa_rules_view.specs.declared.content.RuleView.{RuleView}
+use Rattle.tsa_rules_view.proofs.FewTries.{few_tries}
 use Rattle.tsa_flow_function.specs.declared.function.FunctionFlow.{FunctionFlow}
 use Rattle.tsa_flow_function.specs.Numbers.{IsFlowBy, IsFlowIn}
 use Rattle.tsa_flow.specs.Units.{told_at, here, IsAhead, IsBodyOf, IsNext, IsTold, left, told}
@@ -205,6 +208,20 @@ told_before items k i flows some (here s none first of) = absurd (some none)
 module _ (items : List UnitItem) (n : ℕ) (paths : List Way) (k : Knowledge) (i : Inside) (is : IsBodyOf items n paths k i) (v : RuleView) (g : Graph) where
   pub both_found : IsViewOf (program_of items) is.function paths v → IsControlOf is.function g → Found (program_of items) (slice_get (program_of items).functions n) v g
   both_found viewed control = record { function = is.function; paths = paths; is_there = is.is_there; has_paths = is.has_paths; viewed = viewed; control = control }
+
+-- the function of a body of a unit in the profile has few try variables
+pub few_here : (items : List UnitItem) → first_failing items ≡ None → (n : ℕ) (paths : List Way) (k : Knowledge) (i : Inside) → (is : IsBodyOf items n paths k i)
+    → (u : ViewUnit) (outside : List ℕ) → refusal_with outside items ≡ None → u.layout.now ≡ (program_of items).layout → HasFewTries u k i
+few_here items typed n paths k i is u outside fits layout = record {
+  items = items;
+  number = n;
+  function = is.function;
+  site = is.site;
+  layout = layout;
+  is_of = is.is_of;
+  stands = is.stands;
+  few = few_tries items outside n is.function typed fits is.is_there (has_body (program_of items) is.function paths is.has_paths).0;
+}
 
 pub different : (items : List UnitItem) (n : ℕ) (paths : List Way) (k : Knowledge) (i : Inside) → (is : IsBodyOf items n paths k i) → AreDifferent paths
 different items n paths k i is = (has_body (program_of items) is.function paths is.has_paths).1

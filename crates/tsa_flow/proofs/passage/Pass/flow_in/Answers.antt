@@ -1,14 +1,24 @@
-use Rattle.std.proofs.Common.{◌∙◌, ◌≡◌, length, slice_get, ap, subst}
+use Rattle.std.proofs.Common.{◌∙◌, ◌≡◌, None, length, slice_get, sym, ap, subst}
 use Rattle.std.proofs.lemmas.Result.{IfOk-weaker}
 use Rattle.tsa_tree.specs.units.Shapes.{item_shapes}
 use Rattle.tsa_core.specs.Programs.{program_of}
 use Rattle.tsa_graph.specs.Rows.{AreBlocksOf}
+use Rattle.tsa_profile_context.specs.Units.{refusal_with}
 use Rattle.tsa_rules.specs.Points.{edges_of, points_of}
 use Rattle.tsa_rules_bodies.proofs.GraphsOfFunctions.{controlled}
 use Rattle.tsa_flow_function.proofs.FunctionNumbers.{flow_there, is_between, is_graph}
 use Rattle.tsa_rules_table.specs.Rows.{rows_in}
-use Rattle.tsa_flow.proofs.Passing.{both_found, different}
+use Rattle.tsa_flow.proofs.Passing.{both_found, different, few_here}
 use Rattle.tsa_flow.proofs.passage.Pass.flow_in.Goals as goal
+
+pub view-requires : goal.view-requires
+view-requires c =
+    let s = c.args.self.now in
+    record {
+      few =
+          few_here (item_shapes s.ground.items.now) s.ground.typed c.args.inside.now.number c.args.paths.now c.args.known.now c.args.inside.now c.requires.stands _ s.fit.now.outside.items
+          (subst (λ xs. refusal_with s.fit.now.outside.items (item_shapes xs.now) ≡ None) (s.fits ∙ sym s.judged) s.fit.now.profiled) s.ground.laid;
+    }
 
 pub blocks_of-requires : goal.blocks_of-requires
 blocks_of-requires c =
