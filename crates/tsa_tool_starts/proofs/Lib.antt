@@ -1,0 +1,5 @@
+pub mod WholeWords
+pub mod ArgumentLists
+pub mod GoodWords
+pub mod Starting
+pub mod Examples
