@@ -1,7 +1,7 @@
 //! Calls that no command makes, each once with ample memory, and ends that fail in mid-stream: the tokens of a text, expressions and
-//! attributes alone, the places of a unit, paths with their texts, names, the control of bodies, a table of locks, what a unit in the
-//! profile tells, what walks bring to the points of its functions, the rules that fail there, and what the lines of warnings and of held
-//! sets say. What commands show stands in the data of the program `cases`.
+//! attributes alone, the places of a unit, paths with their texts, names, the control of bodies, a table of locks, choosers and watchers,
+//! the lines of events, what a unit in the profile tells, what walks bring to the points of its functions, the rules that fail there, and
+//! what the lines of warnings and of held sets say. What commands show stands in the data of the program `cases`.
 #![tactic(auto)]
 
 #[cfg(test)]
@@ -17,6 +17,8 @@ mod locks;
 #[cfg(test)]
 mod nodes;
 #[cfg(test)]
+mod objects;
+#[cfg(test)]
 mod paths;
 #[cfg(test)]
 mod places;
@@ -24,5 +26,7 @@ mod places;
 mod profile;
 #[cfg(test)]
 mod texts;
+#[cfg(test)]
+mod traces;
 #[cfg(test)]
 mod units;
