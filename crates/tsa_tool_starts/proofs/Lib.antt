@@ -1,4 +1,5 @@
 pub mod WholeWords
+pub mod WordLists
 pub mod ArgumentLists
 pub mod GoodWords
 pub mod Starting

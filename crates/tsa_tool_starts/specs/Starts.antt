@@ -1,5 +1,5 @@
 -- How a thread begins that a word of a run names.
-use Rattle.std.specs.Prelude.{◌≡◌, ℕ, Bool, not, ◌&&◌, List, [], ◌∷◌, Option, Some, None, option_map, option_and_then, is_some, slice_get}
+use Rattle.std.specs.Prelude.{◌≡◌, ℕ, Bool, not, ◌&&◌, List, [], ◌∷◌, take, Option, Some, None, option_map, option_and_then, is_some, slice_get}
 use Rattle.std.specs.Prelude.{if◌then◌else◌}
 use Rattle.std.specs.List.{list_any}
 use Rattle.tsa_base.specs.declared.value.Value.{Value}
@@ -61,3 +61,16 @@ pub record IsGoodWord (items : List UnitItem) (l : Layout) (word : List ℕ) (b 
   pub expression : Expression
   pub spells : IsWordOf word expression
   pub start : start_of items l expression ≡ Some b
+
+-- words that are good, each with its start
+abbrev pub AreGoodWords : List UnitItem → Layout → List (List ℕ) → List Begin → Type 0
+AreGoodWords items l [] [] = Unit {0}
+AreGoodWords items l (word ∷ words) (b ∷ begins) = IsGoodWord items l word b × AreGoodWords items l words begins
+AreGoodWords items l words begins = ⊥
+
+-- the word of a number is the first that isn't
+pub record IsRefused (items : List UnitItem) (l : Layout) (words : List (List ℕ)) (number : ℕ) : Type 0 where
+  pub earlier : (begins : List Begin) × AreGoodWords items l (take number words) begins
+  pub word : List ℕ
+  pub there : slice_get words number ≡ Some word
+  pub bad : (b : Begin) → IsGoodWord items l word b → ⊥

@@ -5,8 +5,11 @@ mod arguments;
 mod call;
 mod expression;
 mod laws;
+mod refusal;
 mod start;
 mod starter;
+mod threads;
 
 pub use laws::{good_words_begin_well, words_are_as_written};
+pub use refusal::StartRefusal;
 pub use starter::Starter;

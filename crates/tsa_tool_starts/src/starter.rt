@@ -11,6 +11,7 @@ use tsa_profile::{Fit, behind_unit};
 use tsa_types_scope::Scope;
 
 /// A unit in the profile with its places, and what is known behind all its items.
+#[derive(Drop)]
 pub struct Starter<'f, 'a> {
     pub(crate) alloc: Global,
     pub(crate) unit: &'f Fit<'a>,
