@@ -1,7 +1,7 @@
 //! Calls that no command makes, each once with ample memory, and ends that fail in mid-stream: the tokens of a text, expressions and
 //! attributes alone, the places of a unit, paths with their texts, names, the control of bodies, a table of locks, choosers and watchers,
-//! the lines of events, what a unit in the profile tells, what walks bring to the points of its functions, the rules that fail there, and
-//! what the lines of warnings and of held sets say. What commands show stands in the data of the program `cases`.
+//! the lines of events, how threads begin, what a unit in the profile tells, what walks bring to the points of its functions, the rules
+//! that fail there, and what the lines of warnings and of held sets say. What commands show stands in the data of the program `cases`.
 #![tactic(auto)]
 
 #[cfg(test)]
@@ -24,6 +24,8 @@ mod paths;
 mod places;
 #[cfg(test)]
 mod profile;
+#[cfg(test)]
+mod starts;
 #[cfg(test)]
 mod texts;
 #[cfg(test)]
