@@ -1,0 +1,4 @@
+pub mod ExpressionNames
+pub mod RowNames
+pub mod StatementNames
+pub mod UnitNames

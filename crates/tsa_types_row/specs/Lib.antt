@@ -1,0 +1,5 @@
+pub mod BodyRows
+pub mod ExpressionRows
+pub mod ItemRows
+pub mod Laws
+pub mod Rows

@@ -1,0 +1,10 @@
+//! The row of a unit: its expressions and the points of its bodies as nodes in one list, each in front of its parts.
+#![tactic(auto)]
+
+mod laws;
+mod node;
+mod row;
+
+pub use laws::names_of_rows_are_those_of_the_unit;
+pub use node::{Node, Op};
+pub use row::Row;
