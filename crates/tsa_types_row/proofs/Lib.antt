@@ -1,4 +1,5 @@
 pub mod ExpressionNames
+pub mod RowExamples
 pub mod RowNames
 pub mod StatementNames
 pub mod UnitNames

@@ -1,4 +1,5 @@
 pub mod BodyRows
+pub mod Examples
 pub mod ExpressionRows
 pub mod ItemRows
 pub mod Laws

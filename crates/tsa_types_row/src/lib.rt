@@ -5,6 +5,6 @@ mod laws;
 mod node;
 mod row;
 
-pub use laws::names_of_rows_are_those_of_the_unit;
+pub use laws::{names_of_rows_are_those_of_the_unit, rows_are_as_written};
 pub use node::{Node, Op};
 pub use row::Row;

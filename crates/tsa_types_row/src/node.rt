@@ -21,7 +21,10 @@ pub enum Op {
     /// The name of a function before its arguments. It is no part of the call, which says the function's number itself.
     Callee(Option<Symbol>),
     /// A call of the function of a number with so many arguments (C11 6.5.2.2).
-    Call { function: u32, args: usize },
+    Call {
+        function: u32,
+        args: usize,
+    },
     /// A prefix operator on its part (C11 6.5.3).
     Unary(UnaryOp),
     /// A binary operator between its parts (C11 6.5.5 to 6.5.14).
@@ -40,19 +43,26 @@ pub enum Op {
     /// Its part is worked out where the unit is translated, not by a thread: a length, a case's value, what an attribute names.
     Aside,
     /// The point of a local's declaration: the local begins with its last part, or with zero or null (C11 6.7.9).
-    Declare { local: u32, has_value: bool },
+    Declare {
+        local: u32,
+        has_value: bool,
+    },
     /// The point of an expression that is a statement (C11 6.8.3).
     Evaluate,
     /// The point of an assignment: what is set and the right side, beside an operator or none (C11 6.5.16).
     Set(Option<BinaryOp>),
     /// The point of a test, which may be left out in a `for` (C11 6.8.4.1, 6.8.5).
-    Test { given: bool },
+    Test {
+        given: bool,
+    },
     /// The point of a switch's value (C11 6.8.4.2).
     Branch,
     /// The point of a jump or of an empty statement (C11 6.8.3, 6.8.6).
     Move,
     /// The point of a `return`, which may give nothing (C11 6.8.6.4).
-    Give { given: bool },
+    Give {
+        given: bool,
+    },
     /// The point of a body's end (C11 6.9.1p12).
     End,
 }
