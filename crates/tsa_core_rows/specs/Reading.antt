@@ -14,7 +14,7 @@ use Rattle.tsa_tree.specs.declared.number.Number.{Number}
 use Rattle.tsa_types_row.specs.declared.node.Node.{Node}
 use Rattle.tsa_types_row.specs.declared.node.Op.{Op}
 use Rattle.tsa_types_row.specs.declared.node.Op.TheVariants as op
-use Rattle.tsa_core.specs.Bodies.{Action, declare, evaluate, test, branch, go_on, give, Point, point, assigned, zero_term}
+use Rattle.tsa_core.specs.Bodies.{declare, evaluate, test, branch, go_on, give, Point, point, assigned, zero_term}
 use Rattle.tsa_core.specs.Meanings.{Call, of_type, null_pointer, unknown, loaded, of_number, prefix_term, operands, base_of, as_kind, or_call}
 use Rattle.tsa_core.specs.Terms.{Term, constant, variable, answer, global, member, element, Sense}
 

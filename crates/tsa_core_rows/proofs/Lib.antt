@@ -1,0 +1,3 @@
+pub mod AnyParts
+pub mod TypedParts
+pub mod BodyPoints
