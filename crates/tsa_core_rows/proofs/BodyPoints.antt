@@ -34,9 +34,11 @@ use Rattle.tsa_types_row.specs.declared.node.Node.{Node}
 use Rattle.tsa_types_row.specs.declared.node.Op.{Op}
 use Rattle.tsa_types_row.specs.declared.node.Op.TheVariants as op
 use Rattle.tsa_core.specs.Bodies.{Point, Known, knows, known_init, known_step, known, known_all, known_in_body, declared, point_of}
+use Rattle.tsa_tree.specs.types.Units.{outset}
+use Rattle.tsa_core.proofs.CasesDiffer.{body_typed}
 use Rattle.tsa_core.proofs.DeedsTold.{init_told}
 use Rattle.tsa_core.proofs.NoFailure.{none_of_both, none_of_first, keeps_typed}
-use Rattle.tsa_core_rows.specs.Laws.{part_of, with_part, PointsAreRead}
+use Rattle.tsa_core_rows.specs.Laws.{part_of, with_part, PointsAreRead, UnitsAreRead}
 use Rattle.tsa_core_rows.specs.Reading.{Reading, nothing_read, read_node, read_before}
 use Rattle.tsa_core_rows.proofs.AnyParts.{read_framed, read_both, read_aside, read_aside_given, read_aside_attributes}
 use Rattle.tsa_core_rows.proofs.AnyParts.{read_aside_items}
@@ -265,3 +267,8 @@ pub points_are_read : PointsAreRead
 points_are_read a here f result body close h =
     body_read f (params_in here) result a here refl body close h nothing_read
     ∙ ap (λ ps. record { parts = []; points = ps }) (append-nil (map (point_of result) (known_in_body here body)))
+
+pub units_are_read : UnitsAreRead
+units_are_read items name b f close typed is =
+    let told = body_typed name b (outset items) items typed is in
+    points_are_read told.around b.here f (thing_type b.here b.head.result).kind b.body close told.typed

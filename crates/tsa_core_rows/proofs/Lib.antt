@@ -1,3 +1,5 @@
 pub mod AnyParts
 pub mod TypedParts
 pub mod BodyPoints
+pub mod BodyLocals
+pub mod RowExamples

@@ -1,5 +1,6 @@
 -- What a row of nodes says. It is read from its end on: each node takes its parts from what stands behind it, and gives a part or a point.
 use Rattle.std.specs.Prelude.{ℕ, zero, suc, pos, Bool, true, false, List, [], ◌∷◌, Option, Some, None}
+use Rattle.std.specs.List.{flat_map}
 use Rattle.tsa_base.specs.declared.value.Value.TheVariants.{Int}
 use Rattle.tsa_tree.specs.declared.expr.BinaryOp.{BinaryOp}
 use Rattle.tsa_tree.specs.declared.expr.BinaryOp.TheVariants as binary
@@ -15,7 +16,8 @@ use Rattle.tsa_types_row.specs.declared.node.Node.{Node}
 use Rattle.tsa_types_row.specs.declared.node.Op.{Op}
 use Rattle.tsa_types_row.specs.declared.node.Op.TheVariants as op
 use Rattle.tsa_core.specs.Bodies.{declare, evaluate, test, branch, go_on, give, Point, point, assigned, zero_term}
-use Rattle.tsa_core.specs.Meanings.{Call, of_type, null_pointer, unknown, loaded, of_number, prefix_term, operands, base_of, as_kind, or_call}
+use Rattle.tsa_core.specs.Meanings.{Call, of_type, null_pointer, unknown, loaded, of_number, prefix_term, operands, base_of, as_kind}
+use Rattle.tsa_core.specs.Meanings.{or_call}
 use Rattle.tsa_core.specs.Terms.{Term, constant, variable, answer, global, member, element, Sense}
 
 -- an expression that was read: what it means, and the call in it that a point makes
@@ -36,6 +38,10 @@ pub record Reading : Type 0 where
 
 abbrev pub nothing_read : Reading
 nothing_read = record { parts = []; points = [] }
+
+-- points, and every expression taken by one
+abbrev pub points_alone : List Point → Reading
+points_alone points = record { parts = []; points = points }
 
 -- the part of a number, and the parts behind so many
 abbrev pub part_at : ℕ → List Part → Part
@@ -153,3 +159,11 @@ read_before params result (node ∷ rest) r = read_node params result node (read
 
 abbrev pub read_row : (ℕ → List ThingType) → Kind → List Node → Reading
 read_row params result row = read_before params result row nothing_read
+
+-- the kinds of the locals that a row declares, in order
+abbrev pub op_kinds : Op → Kind → List Kind
+op_kinds (op.Declare n has_value) kind = kind ∷ []
+op_kinds _ kind = []
+
+abbrev pub kinds_read : List Node → List Kind
+kinds_read row = flat_map (λ n. op_kinds n.op n.thing.thing.kind) row

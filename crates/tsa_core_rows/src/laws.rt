@@ -1,5 +1,6 @@
 //! Laws of what rows say.
-ghost use Rattle.tsa_core_rows.specs.Laws.{ExpressionsAreRead, PointsAreRead};
+ghost use Rattle.tsa_core_rows.specs.Examples.{NodesAreAsWritten, RowsAreReadAsWritten};
+ghost use Rattle.tsa_core_rows.specs.Laws.{ExpressionsAreRead, PointsAreRead, UnitsAreRead, LocalsAreRead};
 
 /// The row of a typed expression says what the expression means, and which call is in it.
 #[tactic(auto, using(crate::proofs::TypedParts::expressions_are_read))]
@@ -11,4 +12,27 @@ pub fn expressions_are_read()
 #[tactic(auto, using(crate::proofs::BodyPoints::points_are_read))]
 pub fn points_are_read()
     ensures { PointsAreRead }
+{}
+
+/// The rows of all bodies of a typed unit say what the program does at the points of the bodies.
+#[tactic(auto, using(crate::proofs::BodyPoints::units_are_read))]
+pub fn units_are_read()
+    ensures { UnitsAreRead }
+{}
+
+/// The row of a body declares the locals of the core program, in their order.
+pub fn locals_are_read()
+    ensures { LocalsAreRead }
+{}
+
+/// Rows have the nodes that are written, each in front of its parts.
+#[tactic(auto, using(crate::proofs::RowExamples::nodes_are_as_written))]
+pub fn nodes_are_as_written()
+    ensures { NodesAreAsWritten }
+{}
+
+/// Rows are read as what is written.
+#[tactic(auto, using(crate::proofs::RowExamples::rows_are_read_as_written))]
+pub fn rows_are_read_as_written()
+    ensures { RowsAreReadAsWritten }
 {}
