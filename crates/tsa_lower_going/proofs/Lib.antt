@@ -1,0 +1,3 @@
+pub mod TermReads
+pub mod Doings
+pub mod Courses

@@ -1,0 +1,3 @@
+pub mod Going
+pub mod Doing
+pub mod Examples
