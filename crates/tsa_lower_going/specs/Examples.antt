@@ -41,7 +41,7 @@ course_of statement locals given = course (going_in (unit_with statement) locals
 abbrev int : ℕ → Value
 int n = Int (pos n)
 
-abbrev with_null : ℕ → ℕ → Locals
+abbrev pub with_null : ℕ → ℕ → Locals
 with_null i j = int i ∷ int j ∷ Pointer None ∷ []
 
 pub record ReadsComeInTurn : Type 0 where
@@ -52,7 +52,8 @@ pub record ReadsComeInTurn : Type 0 where
   pub nothing_read : course_of (codes "i = g && 10 / j;") (with_null 7 2) [] ≡ reading [] (reads 2)
   pub both_read : course_of (codes "if (g || a[i]) ;") (with_null 1 2) (int 0 ∷ int 3 ∷ []) ≡ reading (2 ∷ 4 ∷ []) (yields (to_branch true))
   -- the right side is read first, and the old value last
-  pub old_value : course_of (codes "a[i] += g;") (with_null 1 0) (int 30 ∷ int 12 ∷ []) ≡ reading (2 ∷ 4 ∷ []) (yields (to_write 4 (int 42)))
+  pub old_value : course_of (codes "a[i] += g;") (with_null 1 0) (int 30 ∷ int 12 ∷ [])
+      ≡ reading (2 ∷ 4 ∷ []) (yields (to_write 4 (int 42)))
   pub no_element : course_of (codes "a[i] += g;") (with_null 2 0) (int 30 ∷ []) ≡ reading (2 ∷ []) (traps OutOfRange)
   -- a lock function takes what its argument points to, and null is no lock
   pub lock_taken : course_of (codes "acq(&mu);") (with_null 0 0) [] ≡ reading [] (yields (to_take Exclusive 0))

@@ -1,0 +1,3 @@
+pub mod TermCodes
+pub mod PointsOfCode
+pub mod CodesWritten

@@ -1,0 +1,4 @@
+pub mod Codes
+pub mod PointCodes
+pub mod TermLaws
+pub mod Examples
