@@ -22,7 +22,8 @@ same_test a b c d to from = by (nat_eq a b) (nat_eq c d) refl refl
     by false true e f = let same : c ≡ d = grind (arith, f) in let other : a ≡ b = from same in absurd (grind (arith, e, other))
 
 -- holds, those at the call, and what was taken, given, given back and taken over: both tests say the same
-same_balance : (now call taken given less more : ℕ) → now + given ≡ call + taken → nat_eq (now + less) (call + more) ≡ nat_eq (taken + less) (given + more)
+same_balance : (now call taken given less more : ℕ) → now + given ≡ call + taken
+    → nat_eq (now + less) (call + more) ≡ nat_eq (taken + less) (given + more)
 same_balance now call taken given less more since = same_test (now + less) (call + more) (taken + less) (given + more)
     (λ e. omega (arith, since, e)) (λ e. omega (arith, since, e))
 
@@ -30,14 +31,18 @@ same_balance now call taken given less more since = same_test (now + less) (call
 all_alike : (n : ℕ) (f g : ℕ → Bool) → ((k : ℕ) → k < n → f k ≡ g k) → all_below n f ≡ all_below n g
 unfolding all_below
 all_alike zero f g same = refl
-all_alike (suc n) f g same = ap (λ b. b && all_below n f) (same n (omega arith)) ∙ ap (λ b. g n && b) (all_alike n f g (λ k inside. same k (omega (arith, inside))))
+all_alike (suc n) f g same = ap (λ b. b && all_below n f) (same n (omega arith))
+    ∙ ap (λ b. g n && b) (all_alike n f g (λ k inside. same k (omega (arith, inside))))
 
-module _ (u : Program) (now : Holds) (frame : Frame) (v : Value) (actions : List Action) (since : HoldsSince (length u.layout.places) now frame.at_call actions) where
-  in_mode : (lock : ℕ) → lock < length u.layout.places → (mode : Mode) → is_counted u now frame v lock mode ≡ is_balanced u frame v actions lock mode
+module _ (u : Program) (now : Holds) (frame : Frame) (v : Value) (actions : List Action)
+    (since : HoldsSince (length u.layout.places) now frame.at_call actions) where
+  in_mode : (lock : ℕ) → lock < length u.layout.places → (mode : Mode)
+      → is_counted u now frame v lock mode ≡ is_balanced u frame v actions lock mode
   in_mode lock inside mode = same_balance (now lock mode) (frame.at_call lock mode) (takings actions lock mode) (givings actions lock mode)
       (given_back u frame v (attrs_of u frame) lock mode) (taken_over u frame v (attrs_of u frame) lock mode) (since lock inside mode)
 
-  in_both : (lock : ℕ) → lock < length u.layout.places → (is_counted u now frame v lock Exclusive && is_counted u now frame v lock Shared)
+  in_both : (lock : ℕ) → lock < length u.layout.places
+      → (is_counted u now frame v lock Exclusive && is_counted u now frame v lock Shared)
       ≡ (is_balanced u frame v actions lock Exclusive && is_balanced u frame v actions lock Shared)
   in_both lock inside = ap (λ b. b && is_counted u now frame v lock Shared) (in_mode lock inside Exclusive)
       ∙ ap (λ b. is_balanced u frame v actions lock Exclusive && b) (in_mode lock inside Shared)
@@ -45,4 +50,5 @@ module _ (u : Program) (now : Holds) (frame : Frame) (v : Value) (actions : List
 pub returns_are_judged_by_actions : ReturnsAreJudgedByActions
 returns_are_judged_by_actions u now frame v actions since = ap (λ b. not (list_all (names_lock u frame v) (attrs_of u frame) && b))
     (all_alike (length u.layout.places) (λ lock. is_counted u now frame v lock Exclusive && is_counted u now frame v lock Shared)
-        (λ lock. is_balanced u frame v actions lock Exclusive && is_balanced u frame v actions lock Shared) (in_both u now frame v actions since))
+        (λ lock. is_balanced u frame v actions lock Exclusive && is_balanced u frame v actions lock Shared)
+        (in_both u now frame v actions since))

@@ -1,2 +1,4 @@
 pub mod Actions
 pub mod Judging
+pub mod Chains
+pub mod ActionExamples

@@ -1,5 +1,6 @@
 -- Actions of a thread since a call, the latest first, beside the thread's holds at the call and now.
-use Rattle.std.specs.Prelude.{◌≡◌, ℕ, ◌+◌, ◌<◌, nat_eq, not, ◌&&◌, Bool, true, false, Option, Some, None, List, [], ◌∷◌, length, if◌then◌else◌}
+use Rattle.std.specs.Prelude.{◌≡◌, ℕ, ◌+◌, ◌<◌, nat_eq, not, ◌&&◌, Bool, true, false, Option, Some, None, List, [], ◌∷◌, length}
+use Rattle.std.specs.Prelude.{if◌then◌else◌}
 use Rattle.std.specs.List.{list_all}
 use Rattle.tsa_base.specs.declared.value.Value.{Value}
 use Rattle.tsa_core.specs.Programs.{Program}
@@ -53,7 +54,8 @@ pub record HoldsAreKeptByActions : Type 0 where
   pub begins : (locks : ℕ) (now : Holds) → HoldsSince locks now now []
   pub goes_on : (u : Program) (s : State) (pick : Pick) → StateIsKept u s → (at_call : Holds) (actions : List Action) (last : ℕ)
       → HoldsSince (length s.locks) (holds_of s pick.thread) at_call actions
-      → HoldsSince (length s.locks) (holds_of (step u s pick).0 pick.thread) at_call (with_action (action_of (step u s pick).1.kind last) actions)
+      → HoldsSince (length s.locks) (holds_of (step u s pick).0 pick.thread) at_call
+          (with_action (action_of (step u s pick).1.kind last) actions)
   pub stays : (u : Program) (s : State) (pick : Pick) → StateIsKept u s → (thread : ℕ) → (thread ≡ pick.thread → ⊥)
       → (locks : ℕ) (at_call : Holds) (actions : List Action) → HoldsSince locks (holds_of s thread) at_call actions
       → HoldsSince locks (holds_of (step u s pick).0 thread) at_call actions
@@ -68,8 +70,10 @@ is_balanced u frame v actions lock mode =
 abbrev pub is_as_declared : Program → Frame → Value → List Action → Bool
 is_as_declared u frame v actions =
     list_all (names_lock u frame v) (attrs_of u frame)
-    && all_below (length u.layout.places) (λ lock. is_balanced u frame v actions lock Exclusive && is_balanced u frame v actions lock Shared)
+    && all_below (length u.layout.places)
+        (λ lock. is_balanced u frame v actions lock Exclusive && is_balanced u frame v actions lock Shared)
 
 abbrev pub ReturnsAreJudgedByActions : Type 0
 ReturnsAreJudgedByActions = (u : Program) (now : Holds) (frame : Frame) (v : Value) (actions : List Action)
-    → HoldsSince (length u.layout.places) now frame.at_call actions → violates u now frame (to_leave v) ≡ not (is_as_declared u frame v actions)
+    → HoldsSince (length u.layout.places) now frame.at_call actions
+    → violates u now frame (to_leave v) ≡ not (is_as_declared u frame v actions)

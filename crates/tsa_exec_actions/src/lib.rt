@@ -5,4 +5,7 @@ mod action;
 mod laws;
 
 pub use action::Action;
-pub use laws::{holds_are_kept_by_actions, returns_are_judged_by_actions};
+pub use laws::{
+    actions_are_as_written, calls_are_places_in_the_list, holds_are_kept_by_actions,
+    returns_are_judged_by_actions,
+};
