@@ -53,10 +53,10 @@ holds_are_kept_by_actions = record {
   goes_on = λ u s pick is at_call actions last since lock inside mode.
       let kind = (step u s pick).1.kind in let both = counted last actions lock mode kind in
       more (holds_of (step u s pick).0 pick.thread lock mode) (holds_of s pick.thread lock mode) (at_call lock mode)
-          (gained kind lock mode) (lost kind lock mode)
-          (takings actions lock mode) (givings actions lock mode)
-          (takings (with_action (action_of kind last) actions) lock mode) (givings (with_action (action_of kind last) actions) lock mode)
-          (holds_change_as_told.own u s pick is lock inside mode) (since lock inside mode) both.0 both.1;
+      (gained kind lock mode) (lost kind lock mode)
+      (takings actions lock mode) (givings actions lock mode)
+      (takings (with_action (action_of kind last) actions) lock mode) (givings (with_action (action_of kind last) actions) lock mode)
+      (holds_change_as_told.own u s pick is lock inside mode) (since lock inside mode) both.0 both.1;
   stays = λ u s pick is thread differs locks at_call actions since lock inside mode.
       let same = holds_change_as_told.others u s pick is thread differs lock mode in
       let before = since lock inside mode in omega (arith, same, before);

@@ -50,5 +50,5 @@ module _ (u : Program) (now : Holds) (frame : Frame) (v : Value) (actions : List
 pub returns_are_judged_by_actions : ReturnsAreJudgedByActions
 returns_are_judged_by_actions u now frame v actions since = ap (λ b. not (list_all (names_lock u frame v) (attrs_of u frame) && b))
     (all_alike (length u.layout.places) (λ lock. is_counted u now frame v lock Exclusive && is_counted u now frame v lock Shared)
-        (λ lock. is_balanced u frame v actions lock Exclusive && is_balanced u frame v actions lock Shared)
-        (in_both u now frame v actions since))
+    (λ lock. is_balanced u frame v actions lock Exclusive && is_balanced u frame v actions lock Shared)
+    (in_both u now frame v actions since))

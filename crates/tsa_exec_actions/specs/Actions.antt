@@ -55,7 +55,7 @@ pub record HoldsAreKeptByActions : Type 0 where
   pub goes_on : (u : Program) (s : State) (pick : Pick) → StateIsKept u s → (at_call : Holds) (actions : List Action) (last : ℕ)
       → HoldsSince (length s.locks) (holds_of s pick.thread) at_call actions
       → HoldsSince (length s.locks) (holds_of (step u s pick).0 pick.thread) at_call
-          (with_action (action_of (step u s pick).1.kind last) actions)
+      (with_action (action_of (step u s pick).1.kind last) actions)
   pub stays : (u : Program) (s : State) (pick : Pick) → StateIsKept u s → (thread : ℕ) → (thread ≡ pick.thread → ⊥)
       → (locks : ℕ) (at_call : Holds) (actions : List Action) → HoldsSince locks (holds_of s thread) at_call actions
       → HoldsSince locks (holds_of (step u s pick).0 thread) at_call actions
@@ -64,14 +64,14 @@ pub record HoldsAreKeptByActions : Type 0 where
 abbrev pub is_balanced : Program → Frame → Value → List Action → (lock : ℕ) → Mode → Bool
 is_balanced u frame v actions lock mode =
     nat_eq (takings actions lock mode + given_back u frame v (attrs_of u frame) lock mode)
-        (givings actions lock mode + taken_over u frame v (attrs_of u frame) lock mode)
+    (givings actions lock mode + taken_over u frame v (attrs_of u frame) lock mode)
 
 -- whether all locks were, and each attribute that counts names one
 abbrev pub is_as_declared : Program → Frame → Value → List Action → Bool
 is_as_declared u frame v actions =
     list_all (names_lock u frame v) (attrs_of u frame)
     && all_below (length u.layout.places)
-        (λ lock. is_balanced u frame v actions lock Exclusive && is_balanced u frame v actions lock Shared)
+    (λ lock. is_balanced u frame v actions lock Exclusive && is_balanced u frame v actions lock Shared)
 
 abbrev pub ReturnsAreJudgedByActions : Type 0
 ReturnsAreJudgedByActions = (u : Program) (now : Holds) (frame : Frame) (v : Value) (actions : List Action)

@@ -1,4 +1,4 @@
-//! Instructions over numbered slots. Slot 0 has the answer of the point's call; a place is going_of by a pointer to it.
+//! Instructions over numbered slots. Slot 0 has the answer of the point's call; a place is given by a pointer to it.
 
 use tsa_base::Value;
 use tsa_sched::TrapKind;
