@@ -11,7 +11,8 @@ use tsa_place_model::Path;
 use tsa_place_paths::View;
 use tsa_tree::decl::{CType, Decl};
 use tsa_tree::kind::{Kind, ThingType};
-use tsa_types_scope::{Scope, Symbols};
+use tsa_types_row::Row;
+use tsa_types_scope::Scope;
 
 /// A member or a global: its name, its type, the paths of its guards in order, of which some may have none, and where its declarator
 /// stands.
@@ -47,8 +48,8 @@ pub fn declared_thing(scope: &Scope<'_>, ctype: &CType<'_>) -> Result<ThingType,
     ensures { IfOk result (λ thing. thing ≡ thing_type scope.now (type_shape ctype.now)) }
 {
     let view = View { scope, function: 0 };
-    let mut unnoted = Symbols::new(scope.allocator());
-    let written = view.written(&mut unnoted, ctype)?;
+    let mut unheard = Row::new(scope.allocator());
+    let written = view.written(&mut unheard, ctype)?;
     Ok(written.thing)
 }
 

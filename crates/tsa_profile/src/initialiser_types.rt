@@ -9,7 +9,8 @@ use tsa_tree::expr::Expr;
 use tsa_tree::kind::ThingType;
 use tsa_types_declarations::initialiser;
 use tsa_types_expressions::View;
-use tsa_types_scope::{Scope, Symbols};
+use tsa_types_row::Row;
+use tsa_types_scope::Scope;
 
 /// Whether no premise of types fails for an expression as the initialiser of the next global, which has a type. Its names are noted
 /// nowhere.
@@ -17,7 +18,7 @@ pub fn is_typed(scope: &Scope<'_>, thing: ThingType, expr: &Expr<'_>) -> Result<
     ensures { IfOk result (λ typed. typed ≡ spec_is_typed scope.now thing (shape expr.now)) }
 {
     let view = View { scope, function: 0 };
-    let mut unnoted = Symbols::new(scope.allocator());
-    let failure = initialiser(view, &mut unnoted, Some(thing), &Init::Value(*expr))?;
+    let mut unheard = Row::new(scope.allocator());
+    let failure = initialiser(view, &mut unheard, Some(thing), &Init::Value(*expr))?;
     Ok(failure.is_none())
 }

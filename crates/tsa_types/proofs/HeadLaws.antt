@@ -1,5 +1,5 @@
 -- A head: its own premises, its parameters, and its attributes; what is known inside it, and its names.
-use Rattle.std.proofs.Common.{◌≡◌, ◌∙◌, ℕ, Bool, List, [], ◌∷◌, ◌++◌, length, None, Err, sym, ap, subst}
+use Rattle.std.proofs.Common.{◌≡◌, ◌∙◌, ℕ, Bool, List, ◌++◌, length, None, Err, sym, ap, subst}
 use Rattle.tsa_tree.specs.declared.kind.Declaring.TheVariants as declaring
 use Rattle.tsa_tree.specs.declared.meaning.Symbol.TheVariants as symbol
 use Rattle.tsa_tree.specs.declared.premise.Bearer.TheVariants as bearer
@@ -8,12 +8,13 @@ use Rattle.tsa_tree.specs.types.Attributes.{attributes_premises}
 use Rattle.tsa_tree.specs.types.DeclaredTypes.{declared_premises}
 use Rattle.tsa_tree.specs.types.Heads.{is_another, behind_head, params_premises, inside_params, inside, head_premises}
 use Rattle.tsa_tree.specs.types.Premises.{Premise, or_else, first}
-use Rattle.tsa_tree.specs.types.Scopes.{Scope, context_of, found, with_locals}
-use Rattle.tsa_tree.specs.types.Symbols.{names_in_params, names_in_attributes, names_in_head}
+use Rattle.tsa_tree.specs.types.Scopes.{Scope, found, with_locals}
+use Rattle.tsa_types_row.specs.BodyRows.{aside_attributes, declared_row}
+use Rattle.tsa_types_row.specs.ItemRows.{row_in_params, row_in_head}
 use Rattle.tsa_types_expressions.specs.declared.refusal.TypeRefusal.{TypeRefusal}
 use Rattle.tsa_types_expressions.specs.Judgements.{Judges}
 use Rattle.tsa_types_expressions.proofs.Steps.{first_append}
-use Rattle.tsa_types_expressions.proofs.SymbolLaws.{Notes, noted, noted_append, noted_first}
+use Rattle.tsa_types_expressions.proofs.RowLaws.{Notes, noted, noted_append}
 use Rattle.tsa_types_expressions.proofs.Sequences.{judged_some}
 use Rattle.tsa_types_declarations.proofs.Judging.{judged_rest}
 
@@ -59,15 +60,15 @@ module _ (here : Scope) (head : Head) (with_body : Bool) where
           ∙ ap (λ x. or_else x (first its_attributes)) (sym (ap (λ s. first (params_premises s 0 head.params)) known) ∙ h))
 
       -- its name, those of its parameters, and those of its attributes
-      pub head_names : (function : ℕ) (notes named listed all : Notes) → named ≡ noted notes ((head.name.span, symbol.Function function) ∷ [])
-          → listed ≡ noted named (names_in_params there function 0 head.params) → all ≡ noted listed (names_in_attributes (context_of inner) function head.attrs)
-          → all ≡ noted notes (names_in_head here function head with_body)
-      unfolding names_in_head
+      pub head_names : (function : ℕ) (notes named listed all : Notes) → named ≡ noted notes (declared_row (symbol.Function function) head.name.span)
+          → listed ≡ noted named (row_in_params there function 0 head.params) → all ≡ noted listed (aside_attributes inner function head.attrs)
+          → all ≡ noted notes (row_in_head here function head with_body)
+      unfolding row_in_head
       head_names function notes named listed all own_name of_params of_attributes =
-          let ps = names_in_params (behind_head here head with_body) function 0 head.params in
-          let attrs = names_in_attributes (context_of (inside here head with_body)) function head.attrs in
-          of_attributes ∙ ap (λ s. noted listed (names_in_attributes (context_of s) function head.attrs)) head_inside
-          ∙ ap (λ m. noted m attrs) (of_params ∙ ap (λ s. noted named (names_in_params s function 0 head.params)) known)
+          let ps = row_in_params (behind_head here head with_body) function 0 head.params in
+          let attrs = aside_attributes (inside here head with_body) function head.attrs in
+          of_attributes ∙ ap (λ s. noted listed (aside_attributes s function head.attrs)) head_inside
+          ∙ ap (λ m. noted m attrs) (of_params ∙ ap (λ s. noted named (row_in_params s function 0 head.params)) known)
           ∙ sym (noted_append named ps attrs)
           ∙ ap (λ m. noted m (ps ++ attrs)) own_name
-          ∙ sym (noted_first notes (head.name.span, symbol.Function function) (ps ++ attrs))
+          ∙ sym (noted_append notes (declared_row (symbol.Function function) head.name.span) (ps ++ attrs))

@@ -3,3 +3,4 @@ pub mod HeadLaws
 pub mod ItemNames
 pub mod ParamLists
 pub mod UnitLaws
+pub mod UnitRows

@@ -7,10 +7,11 @@ use Rattle.tsa_tree.specs.types.DeclaredTypes.{declared_premises}
 use Rattle.tsa_tree.specs.types.Heads.{with_param, params_premises, inside_params}
 use Rattle.tsa_tree.specs.types.Premises.{Premise, first}
 use Rattle.tsa_tree.specs.types.Scopes.{Scope, is_named_taken}
-use Rattle.tsa_tree.specs.types.Symbols.{Names, names_in_param, names_in_params}
+use Rattle.tsa_types_row.specs.ItemRows.{row_in_param, row_in_params}
+use Rattle.tsa_types_row.specs.declared.node.Node.{Node}
 use Rattle.tsa_types_expressions.specs.declared.refusal.TypeRefusal.{TypeRefusal}
 use Rattle.tsa_types_expressions.specs.Judgements.{Judges}
-use Rattle.tsa_types_expressions.proofs.SymbolLaws.{Notes, noted}
+use Rattle.tsa_types_expressions.proofs.RowLaws.{Notes, noted}
 use Rattle.tsa_types_declarations.proofs.Lists.{premises_end, premises_stop, premises_next, behind_end, behind_next, names_end, names_next}
 
 -- what is known, and the number of the next parameter
@@ -50,18 +51,18 @@ behind_more s p rest = refl
 
 module _ (function : ℕ) where
   -- the names of parameters, and of one
-  abbrev names : Counting → List Param → Names
-  names s ps = names_in_params s.0 function s.1 (param_shapes ps)
+  abbrev names : Counting → List Param → List Node
+  names s ps = row_in_params s.0 function s.1 (param_shapes ps)
 
-  abbrev own_names : Counting → Param → Names
-  own_names s p = names_in_param s.0 function s.1 (param_shape p)
+  abbrev own_names : Counting → Param → List Node
+  own_names s p = row_in_param s.0 function s.1 (param_shape p)
 
   names_nil : (s : Counting) → names s [] ≡ []
-  unfolding names_in_params
+  unfolding row_in_params
   names_nil s = refl
 
   names_more : (s : Counting) (p : Param) (rest : List Param) → names s (p ∷ rest) ≡ own_names s p ++ names (further s p) rest
-  unfolding names_in_params
+  unfolding row_in_params
   names_more s p rest = refl
 
 module _ (params : List Param) (i : ℕ) (here : Scope) (n : ℕ) where
@@ -92,7 +93,7 @@ module _ (params : List Param) (i : ℕ) (here : Scope) (n : ℕ) where
       pub known_next : behind (there, m) (drop (i + 1) params) ≡ behind (here, n) (drop i params)
       known_next = behind_next further params i (here, n) behind (λ s. s.0) behind_more p at_i (there, m) moves
 
-      pub noted_next : (function : ℕ) (notes after : Notes) → after ≡ noted notes (names_in_param here function n (param_shape p))
+      pub noted_next : (function : ℕ) (notes after : Notes) → after ≡ noted notes (row_in_param here function n (param_shape p))
           → noted after (names function (there, m) (drop (i + 1) params)) ≡ noted notes (names function (here, n) (drop i params))
       noted_next function notes after is =
           names_next further params i (here, n) (names function) (own_names function) notes (names_more function) p at_i (there, m) after moves is

@@ -1,15 +1,17 @@
 -- Items one by one, and functions with their bodies.
-use Rattle.std.proofs.Common.{ℕ, ◌≡◌, ◌∙◌, ◌+◌, suc, Bool, true, false, List, [], ◌∷◌, drop, Option, Some, None, Err, Result, option_map}
+use Rattle.std.proofs.Common.{ℕ, ◌≡◌, ◌∙◌, ◌+◌, ◌-◌, suc, arith, Bool, true, false, List, [], ◌∷◌, ◌++◌, drop, length, Option, Some, None, Err, Result, option_map}
 use Rattle.std.proofs.Common.{refl, sym, ap, subst}
+use Rattle.std.proofs.lemmas.List.{append_assoc}
 use Rattle.std.specs.Borrow.{Bor}
-use Rattle.std.specs.Prelude.{⊤, is_some}
+use Rattle.std.specs.Prelude.{⊤, is_some, slice_get}
 use Rattle.tsa_tree.specs.declared.item.FnTree.{FnTree}
 use Rattle.tsa_tree.specs.declared.item.Item.{Item}
+use Rattle.tsa_tree.specs.declared.stmt.Point.{Point}
 use Rattle.tsa_tree.specs.declared.stmt.Stmt.{Stmt}
 use Rattle.tsa_tree.specs.declarations.Shapes.{head_shape}
 use Rattle.tsa_tree.specs.statements.Shapes.{stmt_shapes}
 use Rattle.tsa_tree.specs.units.Syntax.{UnitItem}
-use Rattle.tsa_tree.specs.units.Shapes.{shape_with, function_shape, item_shape, item_shapes}
+use Rattle.tsa_tree.specs.units.Shapes.{end_of, shape_with, function_shape, item_shape, item_shapes}
 use Rattle.tsa_types_expressions.specs.declared.refusal.TypeRefusal.{TypeRefusal}
 use Rattle.tsa_tree.specs.types.Heads.{head_premises, behind_head, inside}
 use Rattle.tsa_types_expressions.specs.Judgements.{Judges}
@@ -17,13 +19,16 @@ use Rattle.tsa_tree.specs.types.Premises.{Premise, or_else, first}
 use Rattle.tsa_tree.specs.declared.premise.Failure.{Failure}
 use Rattle.tsa_tree.specs.types.DeclaredTypes.{thing_type}
 use Rattle.tsa_tree.specs.types.Scopes.{Scope}
-use Rattle.tsa_tree.specs.types.Symbols.{number_of, names_in_head, names_in_statements, names_in_item}
+use Rattle.tsa_tree.specs.types.Symbols.{number_of}
+use Rattle.tsa_types_row.specs.BodyRows.{alone_row, row_in_body, row_in_statements}
+use Rattle.tsa_types_row.specs.ItemRows.{row_in_head, row_in_item}
+use Rattle.tsa_types_row.specs.declared.node.Op.TheVariants as op
 use Rattle.tsa_tree.specs.types.Statements.{statements_premises}
 use Rattle.tsa_tree.specs.declared.kind.ThingType.{ThingType}
 use Rattle.tsa_tree.specs.types.Units.{outermost, body_premises, item_premises, behind_item, items_premises}
 use Rattle.tsa_types_expressions.proofs.Sequences.{judges_some, judged_some, judged_rest}
 use Rattle.tsa_types_expressions.proofs.Steps.{first_append}
-use Rattle.tsa_types_expressions.proofs.SymbolLaws.{Notes, noted, noted_append}
+use Rattle.tsa_types_expressions.proofs.RowLaws.{Notes, noted, noted_append}
 use Rattle.tsa_base.proofs.Numbers.{plus_one}
 
 module _ (here : Scope) (items : List Item) (i : ℕ) where
@@ -51,6 +56,17 @@ module _ (here : Scope) (items : List Item) (i : ℕ) where
     items_next there none known =
         ap (λ y. wrong_from y (i + 1)) known ∙ ap (wrong_from (behind_item here (item_shape x))) (sym (plus_one i))
         ∙ sym (items_more ∙ ap (λ o. or_else o (wrong_from (behind_item here (item_shape x)) (suc i))) none)
+
+-- a body's last point is the brace that closes it
+less_one : (n : ℕ) → suc n - 1 ≡ n
+less_one n = omega arith
+
+pub last_closes : (points : List Point) (p : Point) → slice_get points (length points - 1) ≡ Some p → p.span ≡ end_of points
+last_closes [] p h = cc
+last_closes (q ∷ []) p h = cc
+last_closes (q ∷ r ∷ rest) p h =
+    last_closes (r ∷ rest) p
+    (ap (slice_get (r ∷ rest)) (less_one (length rest)) ∙ sym (ap (slice_get (q ∷ r ∷ rest)) (less_one (suc (length rest)))) ∙ h)
 
 -- FUNCTIONS
 
@@ -80,11 +96,11 @@ module _ (here : Scope) (f : FnTree) where
   alone_holds with_body is none h = ap (λ b. first (item_premises here (item_of b))) none ∙ sym (ap head_wrong (is ∙ ap is_some none)) ∙ h
 
   pub alone_names : (with_body : Bool) → with_body ≡ is_some f.body → f.body ≡ None → (number : ℕ) → number ≡ number_of here (head_shape f) → (notes after : Notes)
-      → after ≡ noted notes (names_in_head here number (head_shape f) with_body) → after ≡ noted notes (names_in_item here (function_shape f))
+      → after ≡ noted notes (row_in_head here number (head_shape f) with_body) → after ≡ noted notes (row_in_item here (function_shape f))
   alone_names with_body is none number its_number notes after h =
-      h ∙ ap (λ b. noted notes (names_in_head here number (head_shape f) b)) (is ∙ ap is_some none)
-      ∙ ap (λ n. noted notes (names_in_head here n (head_shape f) false)) its_number
-      ∙ sym (ap (λ b. noted notes (names_in_item here (item_of b))) none)
+      h ∙ ap (λ b. noted notes (row_in_head here number (head_shape f) b)) (is ∙ ap is_some none)
+      ∙ ap (λ n. noted notes (row_in_head here n (head_shape f) false)) its_number
+      ∙ sym (ap (λ b. noted notes (row_in_item here (item_of b))) none)
 
   module _ (body : Bor (List Stmt)) (its_body : f.body ≡ Some body) (with_body : Bool) (is : with_body ≡ is_some f.body) (none : head_wrong with_body ≡ None)
       (there : Scope) (known : there ≡ inside here (head_shape f) with_body) (gives : ThingType) (result : gives ≡ thing_type here (head_shape f).result)
@@ -105,17 +121,22 @@ module _ (here : Scope) (f : FnTree) where
         (subst (λ x. Judges (first (stated n x (thing_type here (head_shape f).result))) r) (known ∙ ap (inside here (head_shape f)) has_body)
         (subst (λ t. Judges (first (stated n there t)) r) result (subst (λ m. Judges (first (stated m there gives)) r) its_number h))))
 
-    pub body_names : (notes after all : Notes) → after ≡ noted notes (names_in_head here number (head_shape f) with_body)
-        → all ≡ noted after (names_in_statements there number (stmt_shapes body.now)) → all ≡ noted notes (names_in_item here (function_shape f))
-    body_names notes after all h b =
+    pub body_names : (notes after behind all : Notes) → after ≡ noted notes (row_in_head here number (head_shape f) with_body)
+        → behind ≡ noted after (row_in_statements there number (stmt_shapes body.now)) → all ≡ noted behind (alone_row op.End (end_of f.points.now))
+        → all ≡ noted notes (row_in_item here (function_shape f))
+    unfolding row_in_body
+    body_names notes after behind all h b e =
         let n = number_of here (head_shape f) in
         let inner = inside here (head_shape f) true in
-        b ∙ ap (λ x. noted after (names_in_statements x number (stmt_shapes body.now))) (known ∙ ap (inside here (head_shape f)) has_body)
-        ∙ ap (λ m. noted after (names_in_statements inner m (stmt_shapes body.now))) its_number
-        ∙ ap (λ a. noted a (names_in_statements inner n (stmt_shapes body.now)))
-        (h ∙ ap (λ x. noted notes (names_in_head here number (head_shape f) x)) has_body ∙ ap (λ m. noted notes (names_in_head here m (head_shape f) true)) its_number)
-        ∙ sym (noted_append notes (names_in_head here n (head_shape f) true) (names_in_statements inner n (stmt_shapes body.now)))
-        ∙ sym (ap (λ g. noted notes (names_in_item here (item_of g))) its_body)
+        let close = alone_row op.End (end_of f.points.now) in
+        e ∙ ap (λ r. noted r close) (b ∙ ap (λ x. noted after (row_in_statements x number (stmt_shapes body.now))) (known ∙ ap (inside here (head_shape f)) has_body)
+        ∙ ap (λ m. noted after (row_in_statements inner m (stmt_shapes body.now))) its_number
+        ∙ ap (λ a. noted a (row_in_statements inner n (stmt_shapes body.now)))
+        (h ∙ ap (λ x. noted notes (row_in_head here number (head_shape f) x)) has_body ∙ ap (λ m. noted notes (row_in_head here m (head_shape f) true)) its_number)
+        ∙ sym (noted_append notes (row_in_head here n (head_shape f) true) (row_in_statements inner n (stmt_shapes body.now))))
+        ∙ sym (noted_append notes (row_in_head here n (head_shape f) true ++ row_in_statements inner n (stmt_shapes body.now)) close)
+        ∙ ap (noted notes) (append_assoc (row_in_head here n (head_shape f) true) (row_in_statements inner n (stmt_shapes body.now)) close)
+        ∙ sym (ap (λ g. noted notes (row_in_item here (item_of g))) its_body)
 
   pub behind_function : behind_item here (function_shape f) ≡ behind_head here (head_shape f) (is_some f.body)
   behind_function = by_body f.body

@@ -16,7 +16,8 @@ use tsa_tree::kind::{Declaring, Kind, Resolved, ThingType};
 use tsa_tree::meaning::{Entry, Meaning};
 use tsa_types_declarations::judge_type;
 use tsa_types_expressions::{TypeRefusal, View, judged};
-use tsa_types_scope::{FunctionTypes, Scope, Symbols};
+use tsa_types_row::Row;
+use tsa_types_scope::{FunctionTypes, Scope};
 
 /// Whether two kinds are the same.
 fn same_kind(a: Kind, b: Kind) -> bool
@@ -107,15 +108,15 @@ fn is_another(scope: &Scope<'_>, head: &FnTree<'_>) -> bool
     }
 }
 
-/// The types of parameters where none of them is known. Their names are noted where they are declared.
+/// The types of parameters where none of them is known. They are put into the row where they are declared.
 fn params_types(scope: &Scope<'_>, params: &[Param<'_>]) -> Result<Vec<ThingType>, NoMemory>
     ensures { IfOk result (λ types. types.items ≡ params_of scope.now (param_shapes params.now)) }
 {
     let view = View { scope, function: 0 };
-    let mut unnoted = Symbols::new(scope.allocator());
+    let mut unheard = Row::new(scope.allocator());
     let mut types = Vec::new(scope.allocator());
     'each: for param in params {
-        let written = view.written(&mut unnoted, &param.ctype)?;
+        let written = view.written(&mut unheard, &param.ctype)?;
         types.push(written.thing)?;
     }
     Ok(types)
@@ -152,8 +153,8 @@ pub fn declare_function<'a>(scope: &mut Scope<'a>, head: &FnTree<'a>) -> Result<
     ensures behind { OnOk result (scope.new ≡ behind_head scope.old (head_shape head.now) (is_some head.now.body)) }
 {
     let view = View { scope, function: 0 };
-    let mut unnoted = Symbols::new(scope.allocator());
-    let typing = judge_type(view, &mut unnoted, Declaring::Result, &head.result)?;
+    let mut unheard = Row::new(scope.allocator());
+    let typing = judge_type(view, &mut unheard, Declaring::Result, &head.result)?;
     judged(typing.failure(is_another(scope, head), head.name.span))?;
     match scope.declared(head.name.text) {
         None => add_function(scope, head, typing.written.thing)?,

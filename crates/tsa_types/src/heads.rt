@@ -7,7 +7,7 @@ ghost use Rattle.tsa_tree.specs.types.DeclaredTypes.{declared_premises};
 ghost use Rattle.tsa_tree.specs.types.Heads.{with_param, params_premises, inside_params, behind_head, inside, head_premises};
 ghost use Rattle.tsa_tree.specs.types.Premises.{first};
 ghost use Rattle.tsa_tree.specs.types.Scopes.{is_named_taken};
-ghost use Rattle.tsa_tree.specs.types.Symbols.{param_name, names_in_param, names_in_params, names_in_head};
+ghost use Rattle.tsa_types_row.specs.ItemRows.{param_row, row_in_param, row_in_params, row_in_head};
 
 use crate::functions::declare_function;
 use tsa_base::NoMemory;
@@ -17,8 +17,9 @@ use tsa_tree::kind::Declaring;
 use tsa_tree::meaning::{Entry, Meaning, Symbol};
 use tsa_tree::premise::Bearer;
 use tsa_types_declarations::judge_type;
-use tsa_types_expressions::{TypeRefusal, View, judged};
-use tsa_types_scope::{Scope, Symbols, next_number};
+use tsa_types_expressions::{Mark, TypeRefusal, View, bare_node, judged};
+use tsa_types_row::{Op, Row};
+use tsa_types_scope::{Scope, next_number};
 
 /// A parameter by its function and its number, from 0; the parameters are the first locals.
 #[derive(Clone, Copy)]
@@ -34,20 +35,16 @@ fn params_count(params: &[Param<'_>]) -> Result<u32, NoMemory>
     u32::try_from(params.len()).ok().ok_or(NoMemory)
 }
 
-/// Notes the name of a parameter that has one.
-fn note_name(
-    symbols: &mut Symbols,
-    local: LocalNumber,
-    name: Option<Name<'_>>,
-) -> Result<(), NoMemory>
-    ensures { OnOk result (symbols.new ≡ symbols.old ++ param_name local.function local.number (option_map name_shape name.entry)) }
+/// Puts the name of a parameter that has one into the row.
+fn put_name(row: &mut Row, local: LocalNumber, name: Option<Name<'_>>) -> Result<(), NoMemory>
+    ensures { OnOk result (row.new ≡ row.old ++ param_row local.function local.number (option_map name_shape name.entry)) }
 {
     if let Some(name) = name {
         let symbol = Symbol::Local {
             function: local.function,
             number: local.number,
         };
-        symbols.note(name.span, symbol)?;
+        row.leaf(bare_node(Mark::new(Op::Declared(symbol), name.span)))?;
     }
     Ok(())
 }
@@ -55,21 +52,21 @@ fn note_name(
 /// A parameter, which is known after itself.
 fn declare_param<'a>(
     scope: &mut Scope<'a>,
-    symbols: &mut Symbols,
+    row: &mut Row,
     local: LocalNumber,
     param: &Param<'a>,
 ) -> Result<(), TypeRefusal>
     ensures judged { Judges (first (declared_premises scope.old Declaring.Thing (is_named_taken (param_shape param.now).name scope.old)
         param.now.span (param_shape param.now).ctype)) result }
     ensures behind { OnOk result (scope.new ≡ with_param local.number (param_shape param.now) scope.old) }
-    ensures names { OnOk result (symbols.new ≡ symbols.old ++ names_in_param scope.old local.function local.number (param_shape param.now)) }
+    ensures nodes { OnOk result (row.new ≡ row.old ++ row_in_param scope.old local.function local.number (param_shape param.now)) }
 {
-    note_name(symbols, local, param.name)?;
+    put_name(row, local, param.name)?;
     let view = View {
         scope,
         function: local.function,
     };
-    let typing = judge_type(view, symbols, Declaring::Thing, &param.ctype)?;
+    let typing = judge_type(view, row, Declaring::Thing, &param.ctype)?;
     let entry = Entry {
         meaning: Meaning::Local(local.number),
         thing: typing.written.thing,
@@ -81,17 +78,17 @@ fn declare_param<'a>(
 /// The parameters of a function, each of which is known after itself, by numbers from 0 on.
 fn declare_params<'a>(
     scope: &mut Scope<'a>,
-    symbols: &mut Symbols,
+    row: &mut Row,
     function: u32,
     params: &[Param<'a>],
 ) -> Result<(), TypeRefusal>
     ensures judged { Judges (first (params_premises scope.old 0 (param_shapes params.now))) result }
     ensures behind { OnOk result (scope.new ≡ inside_params scope.old 0 (param_shapes params.now)) }
-    ensures names { OnOk result (symbols.new ≡ symbols.old ++ names_in_params scope.old function 0 (param_shapes params.now)) }
+    ensures nodes { OnOk result (row.new ≡ row.old ++ row_in_params scope.old function 0 (param_shapes params.now)) }
 {
     let mut number = 0;
     'each: for param in params {
-        declare_param(scope, symbols, LocalNumber { function, number }, param)?;
+        declare_param(scope, row, LocalNumber { function, number }, param)?;
         number = next_number(number)?;
     }
     Ok(())
@@ -101,22 +98,23 @@ fn declare_params<'a>(
 /// function's own, which stay behind its body.
 pub fn declare_head<'a>(
     scope: &mut Scope<'a>,
-    symbols: &mut Symbols,
+    row: &mut Row,
     function: u32,
     head: &FnTree<'a>,
 ) -> Result<usize, TypeRefusal>
     ensures judged { Judges (first (head_premises scope.old (head_shape head.now) (is_some head.now.body))) (forget result) }
     ensures known { IfOk result (λ n. n ≡ length (behind_head scope.old (head_shape head.now) (is_some head.now.body)).names) }
     ensures behind { OnOk result (scope.new ≡ inside scope.old (head_shape head.now) (is_some head.now.body)) }
-    ensures names { OnOk result (symbols.new ≡ symbols.old
-        ++ names_in_head scope.old function (head_shape head.now) (is_some head.now.body)) }
+    ensures nodes { OnOk result (row.new ≡ row.old
+        ++ row_in_head scope.old function (head_shape head.now) (is_some head.now.body)) }
 {
     declare_function(scope, head)?;
     let known = scope.names_len();
-    symbols.note(head.name.span, Symbol::Function(function))?;
-    declare_params(scope, symbols, function, head.params)?;
+    let name = Op::Declared(Symbol::Function(function));
+    row.leaf(bare_node(Mark::new(name, head.name.span)))?;
+    declare_params(scope, row, function, head.params)?;
     scope.set_locals(params_count(head.params)?);
     let view = View { scope, function };
-    judged(view.attributes(symbols, Bearer::Function, head.attrs)?)?;
+    judged(view.attributes(row, Bearer::Function, head.attrs)?)?;
     Ok(known)
 }

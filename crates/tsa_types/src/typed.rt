@@ -5,6 +5,7 @@ ghost use Rattle.tsa_types_expressions.specs.Judgements.{Judges, forget};
 ghost use Rattle.tsa_tree.specs.types.Symbols.{symbol_in};
 ghost use Rattle.tsa_tree.specs.types.FirstFailing.{first_failing};
 ghost use Rattle.tsa_tree.specs.types.Units.{names_in_unit};
+ghost use Rattle.tsa_types_row.specs.ItemRows.{row_in_unit};
 ghost use Rattle.tsa_tree.specs.units.WellRead.{IsWellRead};
 
 use crate::unit::judge;
@@ -14,16 +15,16 @@ use tsa_tree::expr::Name;
 use tsa_tree::item::UnitTree;
 use tsa_tree::meaning::Symbol;
 use tsa_types_expressions::TypeRefusal;
-use tsa_types_scope::Symbols;
+use tsa_types_row::{Node, Row};
 
-/// A unit that is well read and of which no node fails a premise of types, and what its names mean.
+/// A unit that is well read and of which no node fails a premise of types, and its row.
 #[derive(Drop)]
 pub struct Typed<'a> {
     pub(crate) unit: &'a UnitTree<'a>,
-    symbols: Symbols,
+    row: Row,
     pub ghost well_read: { ∥ IsWellRead unit.now.items.now ∥₁ },
     pub ghost typed: { first_failing (item_shapes unit.now.items.now) ≡ None },
-    ghost names: { symbols ≡ names_in_unit (item_shapes unit.now.items.now) },
+    ghost put: { row ≡ row_in_unit (item_shapes unit.now.items.now) },
 }
 
 impl<'a> Typed<'a> {
@@ -34,11 +35,19 @@ impl<'a> Typed<'a> {
         self.unit
     }
 
+    /// The nodes of the unit's row: its expressions and the points of its bodies, each in front of its parts.
+    pub fn nodes(&self) -> &[Node]
+        ensures { result.now ≡ row_in_unit (item_shapes self.now.unit.now.items.now) }
+    {
+        self.row.nodes()
+    }
+
     /// What a name means: none where its span is no use and no declaration of a global, a local, a function or an enumerator.
+    #[tactic(auto, using(crate::proofs::UnitRows::names))]
     pub fn symbol(&self, name: &Name<'a>) -> Option<Symbol>
         ensures { result ≡ symbol_in (names_in_unit (item_shapes self.now.unit.now.items.now)) name.now.span }
     {
-        self.symbols.at(name.span)
+        self.row.symbol_at(name.span)
     }
 }
 
@@ -50,10 +59,7 @@ pub fn type_check<'a>(alloc: Global, unit: Parsed<'a>) -> Result<Typed<'a>, Type
 {
     let tree = unit.unit();
     match judge(alloc, tree.items) {
-        Ok(symbols) => Ok(Typed {
-            unit: tree,
-            symbols,
-        }),
+        Ok(row) => Ok(Typed { unit: tree, row }),
         Err(refusal) => Err(refusal),
     }
 }

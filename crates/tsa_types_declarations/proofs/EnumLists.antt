@@ -1,15 +1,17 @@
--- Enumerators one by one: what is wrong with them, what is known after them, and their names.
+-- Enumerators one by one: what is wrong with them, what is known after them, and their nodes.
 use Rattle.std.proofs.Common.{◌≡◌, ◌∙◌, ℕ, ◌+◌, suc, ℤ, pos, ◌+ℤ◌, List, [], ◌∷◌, ◌++◌, drop, None, Err, refl, ap}
 use Rattle.tsa_tree.specs.declared.item.Enumerator.{Enumerator}
 use Rattle.tsa_tree.specs.declared.meaning.Symbol.TheVariants as symbol
 use Rattle.tsa_tree.specs.declarations.Shapes.{enumerator_shape, enumerator_shapes}
 use Rattle.tsa_tree.specs.types.Enums.{enumerator_value, enumerator_entry, enumerator_premises, behind_enumerators}
 use Rattle.tsa_tree.specs.types.Premises.{Premise, first}
-use Rattle.tsa_tree.specs.types.Scopes.{Scope, context_of, with_name}
-use Rattle.tsa_tree.specs.types.Symbols.{Names, names_in_given, names_in_enumerators}
+use Rattle.tsa_tree.specs.types.Scopes.{Scope, with_name}
+use Rattle.tsa_types_row.specs.BodyRows.{declared_row, aside_given}
+use Rattle.tsa_types_row.specs.ItemRows.{row_in_enumerators}
+use Rattle.tsa_types_row.specs.declared.node.Node.{Node}
 use Rattle.tsa_types_expressions.specs.declared.refusal.TypeRefusal.{TypeRefusal}
 use Rattle.tsa_types_expressions.specs.Judgements.{Judges}
-use Rattle.tsa_types_expressions.proofs.SymbolLaws.{Notes, noted}
+use Rattle.tsa_types_expressions.proofs.RowLaws.{Notes, noted}
 use Rattle.tsa_types_declarations.specs.Enumerators.{own_premises}
 use Rattle.tsa_types_declarations.proofs.Lists.{premises_end, premises_stop, premises_next, behind_end, behind_next, names_end, names_next}
 
@@ -33,17 +35,17 @@ own s e = own_premises s.0 s.1 (enumerator_shape e)
 abbrev behind : Counting → List Enumerator → Scope
 behind s xs = behind_enumerators s.0 s.1 (enumerator_shapes xs)
 
--- the names of enumerators
-abbrev names : Counting → List Enumerator → Names
-names s xs = names_in_enumerators s.0 s.1 (enumerator_shapes xs)
+-- the nodes of enumerators
+abbrev nodes : Counting → List Enumerator → List Node
+nodes s xs = row_in_enumerators s.0 s.1 (enumerator_shapes xs)
 
--- a name that is worth this, and those in its value
-abbrev names_of : Scope → Enumerator → ℤ → Names
-names_of here e z = (e.name.span, symbol.Constant z) ∷ names_in_given (context_of here) 0 (enumerator_shape e).value
+-- a name that is worth this, and the nodes of its value
+abbrev nodes_of : Scope → Enumerator → ℤ → List Node
+nodes_of here e z = declared_row (symbol.Constant z) e.name.span ++ aside_given here 0 (enumerator_shape e).value
 
 -- those of one by its own worth
-abbrev own_names : Counting → Enumerator → Names
-own_names s e = names_of s.0 e (enumerator_value s.0 (enumerator_shape e) s.1)
+abbrev own_nodes : Counting → Enumerator → List Node
+own_nodes s e = nodes_of s.0 e (enumerator_value s.0 (enumerator_shape e) s.1)
 
 -- each by the rest
 wrong_nil : (s : Counting) → wrong s [] ≡ []
@@ -62,13 +64,13 @@ behind_more : (s : Counting) (e : Enumerator) (rest : List Enumerator) → behin
 unfolding behind_enumerators
 behind_more s e rest = refl
 
-names_nil : (s : Counting) → names s [] ≡ []
-unfolding names_in_enumerators
-names_nil s = refl
+nodes_nil : (s : Counting) → nodes s [] ≡ []
+unfolding row_in_enumerators
+nodes_nil s = refl
 
-names_more : (s : Counting) (e : Enumerator) (rest : List Enumerator) → names s (e ∷ rest) ≡ own_names s e ++ names (counted s e) rest
-unfolding names_in_enumerators
-names_more s e rest = refl
+nodes_more : (s : Counting) (e : Enumerator) (rest : List Enumerator) → nodes s (e ∷ rest) ≡ own_nodes s e ++ nodes (counted s e) rest
+unfolding row_in_enumerators
+nodes_more s e rest = refl
 
 module _ (xs : List Enumerator) (i : ℕ) (here : Scope) (next : ℤ) where
   -- none is left
@@ -78,8 +80,8 @@ module _ (xs : List Enumerator) (i : ℕ) (here : Scope) (next : ℤ) where
   pub known_end : drop i xs ≡ [] → behind (here, next) (drop i xs) ≡ here
   known_end = behind_end counted xs i (here, next) behind (λ s. s.0) behind_nil
 
-  pub noted_end : (notes : Notes) → drop i xs ≡ [] → noted notes (names (here, next) (drop i xs)) ≡ notes
-  noted_end notes = names_end counted xs i (here, next) names own_names notes names_nil
+  pub noted_end : (notes : Notes) → drop i xs ≡ [] → noted notes (nodes (here, next) (drop i xs)) ≡ notes
+  noted_end notes = names_end counted xs i (here, next) nodes own_nodes notes nodes_nil
 
   module _ (e : Enumerator) (at_i : drop i xs ≡ e ∷ drop (suc i) xs) where
     -- the next one is refused
@@ -103,7 +105,7 @@ module _ (xs : List Enumerator) (i : ℕ) (here : Scope) (next : ℤ) where
         pub known_next : behind (there, w +ℤ pos 1) (drop (i + 1) xs) ≡ behind (here, next) (drop i xs)
         known_next = behind_next counted xs i (here, next) behind (λ s. s.0) behind_more e at_i (there, w +ℤ pos 1) moves
 
-        pub noted_next : (notes after : Notes) → after ≡ noted notes (names_of here e z)
-            → noted after (names (there, w +ℤ pos 1) (drop (i + 1) xs)) ≡ noted notes (names (here, next) (drop i xs))
+        pub noted_next : (notes after : Notes) → after ≡ noted notes (nodes_of here e z)
+            → noted after (nodes (there, w +ℤ pos 1) (drop (i + 1) xs)) ≡ noted notes (nodes (here, next) (drop i xs))
         noted_next notes after is =
-            names_next counted xs i (here, next) names own_names notes names_more e at_i (there, w +ℤ pos 1) after moves (is ∙ ap (λ x. noted notes (names_of here e x)) worth)
+            names_next counted xs i (here, next) nodes own_nodes notes nodes_more e at_i (there, w +ℤ pos 1) after moves (is ∙ ap (λ x. noted notes (nodes_of here e x)) worth)

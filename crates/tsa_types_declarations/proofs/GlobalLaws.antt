@@ -1,5 +1,5 @@
--- What is wrong with a global: outside of it, and then where it is known; and the names in it.
-use Rattle.std.proofs.Common.{◌≡◌, ◌∙◌, ℕ, ◌+◌, Bool, true, not, List, ◌++◌, ◌∷◌, [], Option, None, Err, refl, sym, ap}
+-- What is wrong with a global: outside of it, and then where it is known; and the nodes of it.
+use Rattle.std.proofs.Common.{◌≡◌, ◌∙◌, ℕ, ◌+◌, Bool, true, not, List, ◌++◌, [], Option, None, Err, refl, sym, ap}
 use Rattle.tsa_tree.specs.declared.kind.Declaring.TheVariants as declaring
 use Rattle.tsa_tree.specs.declared.kind.ThingType.{ThingType}
 use Rattle.tsa_tree.specs.declared.meaning.Entry.{Entry}
@@ -11,14 +11,17 @@ use Rattle.tsa_tree.specs.declarations.Syntax.{Declaration}
 use Rattle.tsa_tree.specs.types.Attributes.{attributes_premises}
 use Rattle.tsa_tree.specs.types.DeclaredTypes.{thing_type, length_premises, typed_premises}
 use Rattle.tsa_tree.specs.types.Globals.{bearer_of, global_init, with_global, inside_global, global_premises}
-use Rattle.tsa_tree.specs.types.Known.{Context}
 use Rattle.tsa_tree.specs.types.Premises.{Premise, or_else, first}
 use Rattle.tsa_tree.specs.types.Scopes.{Scope, context_of, with_name, with_globals, is_taken}
-use Rattle.tsa_tree.specs.types.Symbols.{names_in_given, names_in_attributes, names_in_given_init, names_in_declaration, names_in_global}
+use Rattle.tsa_types_row.specs.BodyRows.{bare_node, declared_row, aside_given, aside_attributes, aside_given_init, aside_declaration}
+use Rattle.tsa_types_row.specs.ItemRows.{row_in_global}
+use Rattle.tsa_types_row.specs.Rows.{framed}
+use Rattle.tsa_types_row.specs.declared.node.Node.{Node}
+use Rattle.tsa_types_row.specs.declared.node.Op.TheVariants as op
 use Rattle.tsa_types_expressions.specs.declared.refusal.TypeRefusal.{TypeRefusal}
 use Rattle.tsa_types_expressions.specs.Judgements.{Judges}
 use Rattle.tsa_types_expressions.proofs.Steps.{first_append}
-use Rattle.tsa_types_expressions.proofs.SymbolLaws.{Notes, noted, noted_append}
+use Rattle.tsa_types_expressions.proofs.RowLaws.{Notes, noted, noted_append}
 use Rattle.tsa_types_expressions.proofs.Sequences.{judged_some}
 use Rattle.tsa_types_declarations.proofs.DeclaredLaws.{typed_untaken, is_fresh}
 
@@ -35,14 +38,14 @@ inside_is here own t d bearer length guards init l b g i =
     ∙ ap (λ x. or_else (first its_length) (or_else (first its_attributes) x)) i
     ∙ sym (first_append its_length (its_attributes ++ global_init here own t d.init) ∙ ap (or_else (first its_length)) (first_append its_attributes (global_init here own t d.init)))
 
--- its names in order
-pub declaration_names : (c : Context) (function : ℕ) (d : Declaration) (notes : Notes)
-    → noted (noted (noted notes (names_in_given c function d.ctype.length)) (names_in_attributes c function d.attrs)) (names_in_given_init c function d.init)
-    ≡ noted notes (names_in_declaration c function d)
-unfolding names_in_declaration
-declaration_names c function d notes =
-    sym (noted_append (noted notes (names_in_given c function d.ctype.length)) (names_in_attributes c function d.attrs) (names_in_given_init c function d.init))
-    ∙ sym (noted_append notes (names_in_given c function d.ctype.length) (names_in_attributes c function d.attrs ++ names_in_given_init c function d.init))
+-- its nodes in order
+pub declaration_nodes : (here : Scope) (function : ℕ) (d : Declaration) (notes : Notes)
+    → noted (noted (noted notes (aside_given here function d.ctype.length)) (aside_attributes here function d.attrs)) (aside_given_init here function d.init)
+    ≡ noted notes (aside_declaration here function d)
+unfolding aside_declaration
+declaration_nodes here function d notes =
+    sym (noted_append (noted notes (aside_given here function d.ctype.length)) (aside_attributes here function d.attrs) (aside_given_init here function d.init))
+    ∙ sym (noted_append notes (aside_given here function d.ctype.length) (aside_attributes here function d.attrs ++ aside_given_init here function d.init))
 
 -- what fails first outside of where a global is known, by whether its name is taken
 abbrev pub outside_by : Scope → Declaration → Bool → Option Failure
@@ -82,10 +85,12 @@ module _ (here : Scope) (d : Declaration) where
       pub global_known : (after : Scope) → after ≡ with_globals (inner.globals + 1) inner → after ≡ with_globals (here.globals + 1) (with_global here d)
       global_known after counted = counted ∙ ap (λ s. with_globals (s.globals + 1) s) moves
 
-      -- its name, and those in it
-      pub global_names : (notes first_one all : Notes) → first_one ≡ noted notes ((d.name.span, symbol.Global own) ∷ [])
-          → all ≡ noted first_one (names_in_declaration (context_of inner) 0 d) → all ≡ noted notes (names_in_global here d)
-      global_names notes first_one all one rest =
-          rest ∙ ap (λ s. noted first_one (names_in_declaration (context_of s) 0 d)) moves
-          ∙ ap (λ n. noted n (names_in_declaration (context_of (with_global here d)) 0 d)) (one ∙ ap (λ n. noted notes ((d.name.span, symbol.Global n) ∷ [])) number)
-          ∙ sym (noted_append notes ((d.name.span, symbol.Global here.globals) ∷ []) (names_in_declaration (context_of (with_global here d)) 0 d))
+      -- its name, and the expressions of its declaration
+      pub global_nodes : (notes first_one all : Notes) (name : Node) → name ≡ bare_node (op.Declared (symbol.Global own)) d.name.span
+          → first_one ≡ noted notes (framed name []) → all ≡ noted first_one (aside_declaration inner 0 d) → all ≡ noted notes (row_in_global here d)
+      unfolding row_in_global
+      global_nodes notes first_one all name at one rest =
+          rest ∙ ap (λ s. noted first_one (aside_declaration s 0 d)) moves
+          ∙ ap (λ n. noted n (aside_declaration (with_global here d) 0 d))
+          (one ∙ ap (λ n. noted notes (framed n [])) at ∙ ap (λ n. noted notes (declared_row (symbol.Global n) d.name.span)) number)
+          ∙ sym (noted_append notes (declared_row (symbol.Global here.globals) d.name.span) (aside_declaration (with_global here d) 0 d))

@@ -21,14 +21,14 @@ use Rattle.tsa_tree.specs.types.Known.{Context}
 use Rattle.tsa_tree.specs.types.Operands.{goes_to, integer_kind}
 use Rattle.tsa_tree.specs.types.Premises.{Premise, or_else, first}
 use Rattle.tsa_tree.specs.types.Scopes.{Scope, context_of}
-use Rattle.tsa_tree.specs.types.Symbols.{names_in, names_in_init}
+use Rattle.tsa_types_row.specs.BodyRows.{aside, aside_init}
 use Rattle.tsa_types_expressions.specs.declared.constants.Found.{Found}
 use Rattle.tsa_types_expressions.specs.Found.{with_constant, constant_in, found_in}
 use Rattle.tsa_types_expressions.specs.Verdicts.{at, outcome, found_type, verdict_of}
 use Rattle.tsa_types_expressions.proofs.LaterPremises.{asked, asked_first}
 use Rattle.tsa_types_expressions.proofs.ConstantLaws.{constant_is}
 use Rattle.tsa_types_expressions.proofs.Steps.{Alike, alike, found_is}
-use Rattle.tsa_types_expressions.proofs.SymbolLaws.{Notes, noted}
+use Rattle.tsa_types_expressions.proofs.RowLaws.{Notes, noted}
 use Rattle.tsa_types_declarations.specs.Cells.{fixed_by, is_fixed_for, cell_by}
 use Rattle.tsa_types_declarations.proofs.Lists.{failure_end, failure_next}
 use Rattle.tsa_types_declarations.proofs.PlaceLaws.{zero_in, pointer_is}
@@ -75,10 +75,10 @@ cell_is c own (Some t) e =
     sym
     (asked_first TY9 (λ u. not (goes_to u t && is_constant_for c own t.kind (shape e))) c e ∙ asked_is c own (shape e) e.span t (verdict_of c (shape e)) (found_is c (shape e)))
 
--- the names of an initialiser that is an expression
-pub value_names : (c : Context) (function : ℕ) (notes : Notes) (e : Expression) → noted notes (names_in c function e) ≡ noted notes (names_in_init c function (value e))
-unfolding names_in_init
-value_names c function notes e = refl
+-- the nodes of an initialiser that is an expression
+pub value_nodes : (here : Scope) (function : ℕ) (notes : Notes) (e : Expression) → noted notes (aside here function e) ≡ noted notes (aside_init here function (value e))
+unfolding aside_init
+value_nodes here function notes e = refl
 
 module _ (here : Scope) (own : ℕ) where
   -- an initialiser that is an expression, and one that is a list

@@ -1,12 +1,12 @@
--- What is told of a list element by element: the first premise that fails, what is known after it, and its names.
+-- What is told of a list element by element: the first premise that fails, what is known after it, and its nodes.
 use Rattle.std.proofs.Common.{◌≡◌, ◌∙◌, ℕ, ◌+◌, suc, List, [], ◌∷◌, ◌++◌, drop, Option, None, Err, sym, ap}
 use Rattle.tsa_tree.specs.declared.premise.Failure.{Failure}
 use Rattle.tsa_tree.specs.types.Premises.{Premise, or_else, first}
-use Rattle.tsa_tree.specs.types.Symbols.{Names}
 use Rattle.tsa_types_expressions.specs.declared.refusal.TypeRefusal.{TypeRefusal}
 use Rattle.tsa_types_expressions.specs.Judgements.{Judges}
 use Rattle.tsa_types_expressions.proofs.Steps.{first_append}
-use Rattle.tsa_types_expressions.proofs.SymbolLaws.{Notes, noted, noted_append, noted_nothing}
+use Rattle.tsa_types_row.specs.declared.node.Node.{Node}
+use Rattle.tsa_types_expressions.proofs.RowLaws.{Notes, noted, noted_append, noted_nothing}
 use Rattle.tsa_types_expressions.proofs.Sequences.{judged_some, nothing_fails}
 use Rattle.tsa_types_declarations.proofs.Judging.{judges_err, or_nothing, or_else_same}
 use Rattle.tsa_base.proofs.Numbers.{plus_one}
@@ -76,17 +76,17 @@ module _ {S A : Type 0} (next : S → A → S) (xs : List A) (i : ℕ) (s : S) w
         ap (λ u. behind u (drop (i + 1) xs)) is ∙ ap (λ j. behind (next s x) (drop j xs)) (sym (plus_one i))
         ∙ sym (ap (behind s) at_i ∙ more s x (drop (suc i) xs))
 
-  -- the names of all
-  module _ (names : S → List A → Names) (own : S → A → Names) (notes : Notes) where
+  -- the nodes of all
+  module _ (nodes : S → List A → List Node) (own : S → A → List Node) (notes : Notes) where
     -- none is left
-    pub names_end : ((t : S) → names t [] ≡ []) → drop i xs ≡ [] → noted notes (names s (drop i xs)) ≡ notes
-    names_end nil e = ap (λ ys. noted notes (names s ys)) e ∙ ap (noted notes) (nil s) ∙ noted_nothing notes
+    pub names_end : ((t : S) → nodes t [] ≡ []) → drop i xs ≡ [] → noted notes (nodes s (drop i xs)) ≡ notes
+    names_end nil e = ap (λ ys. noted notes (nodes s ys)) e ∙ ap (noted notes) (nil s) ∙ noted_nothing notes
 
-    -- one more is noted
-    pub names_next : ((t : S) (x : A) (rest : List A) → names t (x ∷ rest) ≡ own t x ++ names (next t x) rest) → (x : A) → drop i xs ≡ x ∷ drop (suc i) xs
-        → (t : S) (after : Notes) → t ≡ next s x → after ≡ noted notes (own s x) → noted after (names t (drop (i + 1) xs)) ≡ noted notes (names s (drop i xs))
+    -- one more is put
+    pub names_next : ((t : S) (x : A) (rest : List A) → nodes t (x ∷ rest) ≡ own t x ++ nodes (next t x) rest) → (x : A) → drop i xs ≡ x ∷ drop (suc i) xs
+        → (t : S) (after : Notes) → t ≡ next s x → after ≡ noted notes (own s x) → noted after (nodes t (drop (i + 1) xs)) ≡ noted notes (nodes s (drop i xs))
     names_next more x at_i t after is found =
-        ap (λ n. noted n (names t (drop (i + 1) xs))) found
-        ∙ ap (λ u. noted (noted notes (own s x)) (names u (drop (i + 1) xs))) is
-        ∙ ap (λ j. noted (noted notes (own s x)) (names (next s x) (drop j xs))) (sym (plus_one i))
-        ∙ sym (ap (λ ys. noted notes (names s ys)) at_i ∙ ap (noted notes) (more s x (drop (suc i) xs)) ∙ noted_append notes (own s x) (names (next s x) (drop (suc i) xs)))
+        ap (λ n. noted n (nodes t (drop (i + 1) xs))) found
+        ∙ ap (λ u. noted (noted notes (own s x)) (nodes u (drop (i + 1) xs))) is
+        ∙ ap (λ j. noted (noted notes (own s x)) (nodes (next s x) (drop j xs))) (sym (plus_one i))
+        ∙ sym (ap (λ ys. noted notes (nodes s ys)) at_i ∙ ap (noted notes) (more s x (drop (suc i) xs)) ∙ noted_append notes (own s x) (nodes (next s x) (drop (suc i) xs)))

@@ -1,14 +1,15 @@
--- Members one by one: what is wrong with them, which they are, and their names.
+-- Members one by one: what is wrong with them, which they are, and their nodes.
 use Rattle.std.proofs.Common.{◌≡◌, ◌∙◌, ℕ, ◌+◌, suc, List, [], ◌∷◌, ◌++◌, drop, None, Err, refl, sym, ap, subst}
 use Rattle.tsa_tree.specs.declared.decl.Decl.{Decl}
 use Rattle.tsa_tree.specs.declarations.Shapes.{decl_shape, decl_shapes}
 use Rattle.tsa_tree.specs.types.Premises.{Premise, first}
 use Rattle.tsa_tree.specs.types.Scopes.{Scope, Members}
 use Rattle.tsa_tree.specs.types.Structs.{member_premises, with_member, members_premises, members_behind}
-use Rattle.tsa_tree.specs.types.Symbols.{Names, names_in_member, names_in_members}
+use Rattle.tsa_types_row.specs.ItemRows.{row_in_member, row_in_members}
+use Rattle.tsa_types_row.specs.declared.node.Node.{Node}
 use Rattle.tsa_types_expressions.specs.declared.refusal.TypeRefusal.{TypeRefusal}
 use Rattle.tsa_types_expressions.specs.Judgements.{Judges}
-use Rattle.tsa_types_expressions.proofs.SymbolLaws.{Notes, noted}
+use Rattle.tsa_types_expressions.proofs.RowLaws.{Notes, noted}
 use Rattle.tsa_types_declarations.proofs.Lists.{premises_end, premises_stop, premises_next, behind_end, behind_next, names_end, names_next}
 
 module _ (here : Scope) where
@@ -26,12 +27,12 @@ module _ (here : Scope) where
   abbrev behind : Members → List Decl → Members
   behind before decls = members_behind here before (decl_shapes decls)
 
-  -- the names of members, and of one
-  abbrev names : Members → List Decl → Names
-  names before decls = names_in_members here before (decl_shapes decls)
+  -- the nodes of members, and of one
+  abbrev nodes : Members → List Decl → List Node
+  nodes before decls = row_in_members here before (decl_shapes decls)
 
-  abbrev own_names : Members → Decl → Names
-  own_names before d = names_in_member here before (decl_shape d)
+  abbrev own_nodes : Members → Decl → List Node
+  own_nodes before d = row_in_member here before (decl_shape d)
 
   -- each by the rest
   wrong_nil : (before : Members) → wrong before [] ≡ []
@@ -50,13 +51,13 @@ module _ (here : Scope) where
   unfolding members_behind
   behind_more before d rest = refl
 
-  names_nil : (before : Members) → names before [] ≡ []
-  unfolding names_in_members
-  names_nil before = refl
+  nodes_nil : (before : Members) → nodes before [] ≡ []
+  unfolding row_in_members
+  nodes_nil before = refl
 
-  names_more : (before : Members) (d : Decl) (rest : List Decl) → names before (d ∷ rest) ≡ own_names before d ++ names (further before d) rest
-  unfolding names_in_members
-  names_more before d rest = refl
+  nodes_more : (before : Members) (d : Decl) (rest : List Decl) → nodes before (d ∷ rest) ≡ own_nodes before d ++ nodes (further before d) rest
+  unfolding row_in_members
+  nodes_more before d rest = refl
 
   module _ (decls : List Decl) (i : ℕ) (before : Members) where
     -- none is left
@@ -66,8 +67,8 @@ module _ (here : Scope) where
     pub known_end : drop i decls ≡ [] → behind before (drop i decls) ≡ before
     known_end = behind_end further decls i before behind (λ m. m) behind_nil
 
-    pub noted_end : (notes : Notes) → drop i decls ≡ [] → noted notes (names before (drop i decls)) ≡ notes
-    noted_end notes = names_end further decls i before names own_names notes names_nil
+    pub noted_end : (notes : Notes) → drop i decls ≡ [] → noted notes (nodes before (drop i decls)) ≡ notes
+    noted_end notes = names_end further decls i before nodes own_nodes notes nodes_nil
 
     -- the scope stays the same from member to member
     module _ (d : Decl) (at_i : drop i decls ≡ d ∷ drop (suc i) decls) (there : Scope) (same : there ≡ here) where
@@ -89,8 +90,8 @@ module _ (here : Scope) where
         pub known_next : behind after (drop (i + 1) decls) ≡ behind before (drop i decls)
         known_next = behind_next further decls i before behind (λ m. m) behind_more d at_i after moves
 
-        pub noted_next : (notes noticed : Notes) → noticed ≡ noted notes (names_in_member there before (decl_shape d))
-            → noted noticed (names after (drop (i + 1) decls)) ≡ noted notes (names before (drop i decls))
+        pub noted_next : (notes noticed : Notes) → noticed ≡ noted notes (row_in_member there before (decl_shape d))
+            → noted noticed (nodes after (drop (i + 1) decls)) ≡ noted notes (nodes before (drop i decls))
         noted_next notes noticed is =
-            names_next further decls i before names own_names notes names_more d at_i after noticed moves
-            (is ∙ ap (λ x. noted notes (names_in_member x before (decl_shape d))) same)
+            names_next further decls i before nodes own_nodes notes nodes_more d at_i after noticed moves
+            (is ∙ ap (λ x. noted notes (row_in_member x before (decl_shape d))) same)

@@ -4,15 +4,14 @@ ghost use Rattle.tsa_types_expressions.specs.Lengths.{name_premises};
 ghost use Rattle.tsa_tree.specs.declarations.Shapes.{type_shape};
 ghost use Rattle.tsa_tree.specs.types.DeclaredTypes.{thing_type, typed_premises, declared_premises};
 ghost use Rattle.tsa_tree.specs.types.Premises.{or_else, first};
-ghost use Rattle.tsa_tree.specs.types.Scopes.{context_of};
-ghost use Rattle.tsa_tree.specs.types.Symbols.{names_in_given};
+ghost use Rattle.tsa_types_row.specs.BodyRows.{aside_given};
 
 use tsa_base::{NoMemory, Span};
 use tsa_tree::decl::CType;
 use tsa_tree::kind::Declaring;
 use tsa_tree::premise::Failure;
 use tsa_types_expressions::{View, Written, first_of, typed_failure};
-use tsa_types_scope::Symbols;
+use tsa_types_row::Row;
 
 /// The written type of what is declared: what it comes to, and whether that may not be declared so.
 #[derive(Clone, Copy)]
@@ -37,11 +36,11 @@ impl Typing {
     }
 }
 
-/// The written type of what is declared, where it isn't known yet. The names in its length are noted.
+/// The written type of what is declared, where it isn't known yet. Its length is put into the row.
 #[tactic(auto, using(crate::proofs::DeclaredLaws::declared))]
 pub fn judge_type(
     view: View<'_, '_>,
-    symbols: &mut Symbols,
+    row: &mut Row,
     what: Declaring,
     ctype: &CType<'_>,
 ) -> Result<Typing, NoMemory>
@@ -52,10 +51,10 @@ pub fn judge_type(
     ensures whole { IfOk result (λ typing. (taken : Bool) (span : Span)
         → or_else (first (name_premises taken typing.refused span typing.written.resolved)) typing.written.length
         ≡ first (declared_premises view.entry.scope.now what taken span (type_shape ctype.now))) }
-    ensures names { OnOk result (symbols.new ≡ symbols.old ++ names_in_given (context_of view.entry.scope.now) view.entry.function
+    ensures nodes { OnOk result (row.new ≡ row.old ++ aside_given view.entry.scope.now view.entry.function
         (type_shape ctype.now).length) }
 {
-    let written = view.written(symbols, ctype)?;
+    let written = view.written(row, ctype)?;
     let refused = view.is_refused(what, written.resolved);
     Ok(Typing { written, refused })
 }

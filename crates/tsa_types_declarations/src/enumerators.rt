@@ -1,5 +1,5 @@
 //! Enumerators (C11 6.7.2.2): each is known after its own value.
-ghost use Rattle.std.specs.Prelude.{◌≡◌, ◌++◌, ◌||◌, ◌∷◌, pos, option_map, IfOk, OnOk};
+ghost use Rattle.std.specs.Prelude.{◌≡◌, ◌++◌, ◌||◌, pos, option_map, IfOk, OnOk};
 ghost use Rattle.tsa_types_expressions.specs.Judgements.{Judges, forget};
 ghost use Rattle.tsa_tree.specs.declarations.Shapes.{enumerator_shape, enumerator_shapes};
 ghost use Rattle.tsa_tree.specs.expressions.Shapes.{name_shape};
@@ -7,8 +7,9 @@ ghost use Rattle.tsa_tree.specs.types.Enums.{int_value as spec_int_value, as_int
 ghost use Rattle.tsa_tree.specs.types.Enums.{value_verdict, enumerator_value, enumerator_entry as spec_entry, other_enum};
 ghost use Rattle.tsa_tree.specs.types.Enums.{is_enumerator as spec_is_enumerator, enum_premises, behind_enum};
 ghost use Rattle.tsa_tree.specs.types.Premises.{first};
-ghost use Rattle.tsa_tree.specs.types.Scopes.{context_of, tag_in, with_name, is_taken, is_named_taken};
-ghost use Rattle.tsa_tree.specs.types.Symbols.{names_in_given, names_in_enumerators};
+ghost use Rattle.tsa_tree.specs.types.Scopes.{tag_in, with_name, is_taken, is_named_taken};
+ghost use Rattle.tsa_types_row.specs.BodyRows.{declared_row, aside_given};
+ghost use Rattle.tsa_types_row.specs.ItemRows.{row_in_enumerators};
 ghost use Rattle.tsa_types_declarations.specs.Enumerators.{worth_by, own_premises};
 
 use crate::aliases::a_type_name;
@@ -19,9 +20,10 @@ use tsa_tree::kind::Kind;
 use tsa_tree::meaning::{Entry, Meaning, Symbol, Tag};
 use tsa_tree::number::Number;
 use tsa_tree::premise::{Failure, TypeCode};
-use tsa_types_expressions::{Found, TypeRefusal, View, at, refused};
+use tsa_types_expressions::{Found, Mark, TypeRefusal, View, at, bare_node, refused};
 use tsa_types_operators::single;
-use tsa_types_scope::{Scope, Symbols};
+use tsa_types_row::{Op, Row};
+use tsa_types_scope::Scope;
 
 /// A constant as an `int`, where it fits.
 pub fn int_value(value: Option<Number>) -> Option<i32>
@@ -66,64 +68,59 @@ fn value_worth(span: Span, found: Result<Found, Failure>) -> Result<i32, Failure
     int_value(found?.value()).ok_or(at(TypeCode::TY9, span))
 }
 
-/// What an enumerator is worth after the last value, or what is wrong with its own. The names in its value are noted.
-#[tactic(auto, using(crate::proofs::EnumLaws::worth, tsa_types_expressions::proofs::SymbolLaws::notes))]
+/// What an enumerator is worth after the last value, or what is wrong with its own. Its value is put into the row.
+#[tactic(auto, using(crate::proofs::EnumLaws::worth, tsa_types_expressions::proofs::RowLaws::notes))]
 fn worth(
     view: View<'_, '_>,
-    symbols: &mut Symbols,
+    row: &mut Row,
     enumerator: &Enumerator<'_>,
     last: Option<i32>,
 ) -> Result<Result<i32, Failure>, NoMemory>
     ensures worth { IfOk result (λ worth. worth ≡ value_verdict view.entry.scope.now (enumerator_shape enumerator.now) (next_after last)) }
-    ensures names { OnOk result (symbols.new ≡ symbols.old ++ names_in_given (context_of view.entry.scope.now) view.entry.function
+    ensures nodes { OnOk result (row.new ≡ row.old ++ aside_given view.entry.scope.now view.entry.function
         (enumerator_shape enumerator.now).value) }
 {
     match &enumerator.value {
         Some(value) => {
-            let found = view.expression(symbols, value)?;
+            let found = view.aside(row, value)?;
             Ok(value_worth(value.span, found))
         }
         None => Ok(count_on(last).ok_or(at(TypeCode::TY9, enumerator.name.span))),
     }
 }
 
-/// Notes the name of an enumerator that is worth this, and the names in its value.
-#[tactic(auto, using(tsa_types_expressions::proofs::SymbolLaws::notes))]
-fn note_enumerator(
-    symbols: &mut Symbols,
-    span: Span,
-    worth: i32,
-    inside: &Symbols,
-) -> Result<(), NoMemory>
-    ensures { OnOk result (symbols.new ≡ symbols.old ++ ((span, Symbol.Constant worth) ∷ inside.now)) }
+/// Puts the name of an enumerator that is worth this, and then the nodes of its value.
+fn put_enumerator(row: &mut Row, span: Span, worth: i32, inside: &Row) -> Result<(), NoMemory>
+    ensures { OnOk result (row.new ≡ row.old ++ (declared_row (Symbol.Constant worth) span ++ inside.now)) }
 {
-    symbols.note(span, Symbol::Constant(worth))?;
-    symbols.append(inside)
+    let name = Mark::new(Op::Declared(Symbol::Constant(worth)), span);
+    row.leaf(bare_node(name))?;
+    row.append(inside)
 }
 
 /// An enumerator after the last value, which is known after its own: what it is worth.
 fn declare_enumerator<'a>(
     scope: &mut Scope<'a>,
-    symbols: &mut Symbols,
+    row: &mut Row,
     enumerator: &Enumerator<'a>,
     last: Option<i32>,
 ) -> Result<i32, TypeRefusal>
     ensures judged { Judges (first (own_premises scope.old (next_after last) (enumerator_shape enumerator.now))) (forget result) }
     ensures worth { IfOk result (λ z. z ≡ enumerator_value scope.old (enumerator_shape enumerator.now) (next_after last)) }
     ensures behind { IfOk result (λ z. scope.new ≡ with_name enumerator.now.name.text.now (spec_entry z) scope.old) }
-    ensures names { IfOk result (λ z. symbols.new ≡ symbols.old
-        ++ ((enumerator.now.name.span, Symbol.Constant z) ∷ names_in_given (context_of scope.old) 0
+    ensures nodes { IfOk result (λ z. row.new ≡ row.old
+        ++ (declared_row (Symbol.Constant z) enumerator.now.name.span ++ aside_given scope.old 0
         (enumerator_shape enumerator.now).value)) }
 {
     let again = at(TypeCode::TY2, enumerator.name.span);
     let view = View { scope, function: 0 };
-    let mut inside = Symbols::new(scope.allocator());
+    let mut inside = Row::new(scope.allocator());
     match worth(view, &mut inside, enumerator, last)? {
         Ok(value) => {
             if !scope.declare(enumerator.name.text, enumerator_entry(value))? {
                 return Err(refused(again));
             }
-            note_enumerator(symbols, enumerator.name.span, value, &inside)?;
+            put_enumerator(row, enumerator.name.span, value, &inside)?;
             Ok(value)
         }
         Err(failure) => {
@@ -138,16 +135,16 @@ fn declare_enumerator<'a>(
 /// The enumerators of an item, in order; each without a value counts on from the one before it.
 fn declare_enumerators<'a>(
     scope: &mut Scope<'a>,
-    symbols: &mut Symbols,
+    row: &mut Row,
     values: &[Enumerator<'a>],
 ) -> Result<(), TypeRefusal>
     ensures judged { Judges (first (enumerator_premises scope.old (pos 0) (enumerator_shapes values.now))) result }
     ensures behind { OnOk result (scope.new ≡ behind_enumerators scope.old (pos 0) (enumerator_shapes values.now)) }
-    ensures names { OnOk result (symbols.new ≡ symbols.old ++ names_in_enumerators scope.old (pos 0) (enumerator_shapes values.now)) }
+    ensures nodes { OnOk result (row.new ≡ row.old ++ row_in_enumerators scope.old (pos 0) (enumerator_shapes values.now)) }
 {
     let mut last = None;
     'each: for enumerator in values {
-        last = Some(declare_enumerator(scope, symbols, enumerator, last)?);
+        last = Some(declare_enumerator(scope, row, enumerator, last)?);
     }
     Ok(())
 }
@@ -199,19 +196,19 @@ fn is_declared_elsewhere(scope: &Scope<'_>, def: &EnumDef<'_>) -> bool
 /// An enum, whose enumerators and name of a type are known after its item.
 pub fn declare_enum<'a>(
     scope: &mut Scope<'a>,
-    symbols: &mut Symbols,
+    row: &mut Row,
     def: &EnumDef<'a>,
 ) -> Result<(), TypeRefusal>
     ensures judged { Judges (first (enum_premises scope.old (option_map name_shape def.now.tag) (option_map name_shape def.now.alias)
         (enumerator_shapes def.now.values.now) def.now.span)) result }
     ensures behind { OnOk result (scope.new ≡ behind_enum scope.old (option_map name_shape def.now.alias)
         (enumerator_shapes def.now.values.now)) }
-    ensures names { OnOk result (symbols.new ≡ symbols.old ++ names_in_enumerators scope.old (pos 0) (enumerator_shapes def.now.values.now)) }
+    ensures nodes { OnOk result (row.new ≡ row.old ++ row_in_enumerators scope.old (pos 0) (enumerator_shapes def.now.values.now)) }
 {
     if is_declared_elsewhere(scope, def) {
         return Err(refused(at(TypeCode::TY2, def.span)));
     }
-    declare_enumerators(scope, symbols, def.values)?;
+    declare_enumerators(scope, row, def.values)?;
     scope.declare_named(def.alias, a_type_name(single(Kind::Int, false)))?;
     Ok(())
 }

@@ -4,8 +4,7 @@ ghost use Rattle.tsa_tree.specs.declarations.Shapes.{init_shape, init_shapes};
 ghost use Rattle.tsa_tree.specs.types.Initialisers.{parts_of, is_misfit as spec_is_misfit, or_no_parts, initialiser_premises};
 ghost use Rattle.tsa_tree.specs.types.Initialisers.{list_premises};
 ghost use Rattle.tsa_tree.specs.types.Premises.{first, or_else};
-ghost use Rattle.tsa_tree.specs.types.Scopes.{context_of};
-ghost use Rattle.tsa_tree.specs.types.Symbols.{names_in_init, names_in_items};
+ghost use Rattle.tsa_types_row.specs.BodyRows.{aside_init, aside_items};
 ghost use Rattle.tsa_types_expressions.specs.Verdicts.{at as spec_at};
 ghost use Rattle.tsa_types_declarations.specs.Cells.{is_fixed_pointer as spec_fixed_pointer, is_fixed_for as spec_fixed_for, cell_by};
 
@@ -16,7 +15,8 @@ use tsa_tree::kind::{Kind, ThingType};
 use tsa_tree::premise::{Failure, TypeCode};
 use tsa_types_expressions::{Constant, Found, View, at, first_of};
 use tsa_types_operators::{goes_to, is_integer_kind};
-use tsa_types_scope::{Scope, Symbols};
+use tsa_types_row::Row;
+use tsa_types_scope::Scope;
 
 /// Whether it is null, the number 0, or the address of a place of a global before one of a number.
 fn is_fixed_pointer(own: u32, found: Found) -> bool
@@ -84,52 +84,52 @@ fn list_failure(misfit: bool, span: Span, items: Option<Failure>) -> Option<Fail
     }
 }
 
-/// What is wrong with an initialiser of what has a type, in the initialiser of the next global. Its names are noted.
+/// What is wrong with an initialiser of what has a type, in the initialiser of the next global. It is put into the row.
 #[cycle(initialising)]
 pub fn initialiser(
     view: View<'_, '_>,
-    symbols: &mut Symbols,
+    row: &mut Row,
     thing: Option<ThingType>,
     init: &Init<'_>,
 ) -> Result<Option<Failure>, NoMemory>
     ensures judged { IfOk result (λ failure. failure
         ≡ first (initialiser_premises view.entry.scope.now view.entry.scope.now.globals thing (init_shape init.now))) }
-    ensures names { OnOk result (symbols.new ≡ symbols.old ++ names_in_init (context_of view.entry.scope.now) view.entry.function
+    ensures nodes { OnOk result (row.new ≡ row.old ++ aside_init view.entry.scope.now view.entry.function
         (init_shape init.now)) }
 {
     match init {
         Init::Value(expr) => {
-            let found = view.expression(symbols, expr)?;
+            let found = view.aside(row, expr)?;
             let own = view.scope.next_global();
             Ok(cell_failure(own, thing, expr.span, found))
         }
         Init::List { items, span } => {
-            let wrong = list(view, symbols, thing, items)?;
+            let wrong = list(view, row, thing, items)?;
             let misfit = is_misfit(view.scope, thing, items);
             Ok(list_failure(misfit, *span, wrong))
         }
     }
 }
 
-/// What is wrong with the items of a list, each beside its part. Their names are noted.
+/// What is wrong with the items of a list, each beside its part. They are put into the row.
 #[cycle(initialising)]
 fn list(
     view: View<'_, '_>,
-    symbols: &mut Symbols,
+    row: &mut Row,
     thing: Option<ThingType>,
     items: &[Init<'_>],
 ) -> Result<Option<Failure>, NoMemory>
     ensures judged { IfOk result (λ failure. failure
         ≡ first (list_premises view.entry.scope.now view.entry.scope.now.globals (or_no_parts (parts_of view.entry.scope.now thing))
         (init_shapes items.now))) }
-    ensures names { OnOk result (symbols.new ≡ symbols.old ++ names_in_items (context_of view.entry.scope.now) view.entry.function
+    ensures nodes { OnOk result (row.new ≡ row.old ++ aside_items view.entry.scope.now view.entry.function
         (init_shapes items.now)) }
 {
     let mut failure = None;
     let mut number = 0;
     'each: for item in items {
         let part = part_at(view.scope, thing, number);
-        failure = first_of(failure, initialiser(view, symbols, part, item)?);
+        failure = first_of(failure, initialiser(view, row, part, item)?);
         number += 1;
     }
     Ok(failure)

@@ -1,4 +1,4 @@
-//! Declarations of types and of globals are typed (C11 6.7): what is wrong with them, what is known after each, and what their names mean.
+//! Declarations of types and of globals are typed (C11 6.7): what is wrong with them, what is known after each, and their rows.
 #![tactic(auto)]
 
 mod aliases;

@@ -3,10 +3,11 @@ pub mod FoundLaws
 pub mod Judging
 pub mod LengthLaws
 pub mod LockLaws
+pub mod MemberLaws
 pub mod NameLists
 pub mod Sequences
 pub mod Steps
-pub mod SymbolLaws
+pub mod RowLaws
 pub mod ValueLaws
 pub mod Walk
 pub mod LaterPremises

@@ -4,4 +4,5 @@ pub mod Judging
 pub mod Locks
 pub mod Parts
 pub mod Verdicts
+pub mod RowParts
 pub mod Judgements

@@ -12,7 +12,7 @@ use tsa_tree::expr::Expr;
 use tsa_tree::kind::ExpressionType;
 use tsa_tree::premise::{Bearer, Failure, TypeCode};
 use tsa_types_operators::{struct_of, target};
-use tsa_types_scope::Symbols;
+use tsa_types_row::Row;
 
 /// `capability` stands on structs, `guarded_by` on members and globals, `acquired_before` and `acquired_after` on globals of
 /// lock type that are no arrays, and the others on functions.
@@ -36,8 +36,7 @@ impl<'w, 'a> View<'w, 'a> {
     ghost use Rattle.tsa_tree.specs.types.Attributes.{is_lock_type as spec_is_lock_type, argument_premises, lock_premises};
     ghost use Rattle.tsa_tree.specs.types.Attributes.{attribute_premises, attributes_premises};
     ghost use Rattle.tsa_tree.specs.types.Premises.{first};
-    ghost use Rattle.tsa_tree.specs.types.Scopes.{context_of};
-    ghost use Rattle.tsa_tree.specs.types.Symbols.{names_in, names_in_all, names_in_attributes};
+    ghost use Rattle.tsa_types_row.specs.BodyRows.{aside, aside_all, aside_attributes};
     ghost use Rattle.tsa_types_expressions.specs.Locks.{locked};
 
     /// Whether it is a lock, or a pointer to one.
@@ -65,24 +64,22 @@ impl<'w, 'a> View<'w, 'a> {
 
     /// An argument of an attribute, which has to be a lock expression.
     #[tactic(auto, using(crate::proofs::LockLaws::one))]
-    fn argument(self, symbols: &mut Symbols, arg: &Expr<'_>) -> Result<Option<Failure>, NoMemory>
+    fn argument(self, row: &mut Row, arg: &Expr<'_>) -> Result<Option<Failure>, NoMemory>
         ensures judged { IfOk result (λ failure. failure ≡ first (argument_premises self.entry.scope.now (shape arg.now))) }
-        ensures names { OnOk result (symbols.new ≡ symbols.old ++ names_in (context_of self.entry.scope.now) self.entry.function
-            (shape arg.now)) }
+        ensures nodes { OnOk result (row.new ≡ row.old ++ aside self.entry.scope.now self.entry.function (shape arg.now)) }
     {
-        let found = self.expression(symbols, arg)?;
+        let found = self.aside(row, arg)?;
         Ok(self.lock_failure(arg.span, found))
     }
 
     /// The arguments of an attribute, in order.
-    fn locks(self, symbols: &mut Symbols, args: &[Expr<'_>]) -> Result<Option<Failure>, NoMemory>
+    fn locks(self, row: &mut Row, args: &[Expr<'_>]) -> Result<Option<Failure>, NoMemory>
         ensures judged { IfOk result (λ failure. failure ≡ first (lock_premises self.entry.scope.now (shapes args.now))) }
-        ensures names { OnOk result (symbols.new ≡ symbols.old ++ names_in_all (context_of self.entry.scope.now) self.entry.function
-            (shapes args.now)) }
+        ensures nodes { OnOk result (row.new ≡ row.old ++ aside_all self.entry.scope.now self.entry.function (shapes args.now)) }
     {
         let mut failure = None;
         'each: for arg in args {
-            failure = first_of(failure, self.argument(symbols, arg)?);
+            failure = first_of(failure, self.argument(row, arg)?);
         }
         Ok(failure)
     }
@@ -91,15 +88,14 @@ impl<'w, 'a> View<'w, 'a> {
     #[tactic(auto, unfolding(tsa_tree::specs::types::Premises::first))]
     fn attribute(
         self,
-        symbols: &mut Symbols,
+        row: &mut Row,
         bearer: Bearer,
         attr: &Attr<'_>,
     ) -> Result<Option<Failure>, NoMemory>
         ensures judged { IfOk result (λ failure. failure ≡ first (attribute_premises self.entry.scope.now bearer (attr_shape attr.now))) }
-        ensures names { OnOk result (symbols.new ≡ symbols.old ++ names_in_all (context_of self.entry.scope.now) self.entry.function
-            (attr_shape attr.now).args) }
+        ensures nodes { OnOk result (row.new ≡ row.old ++ aside_all self.entry.scope.now self.entry.function (attr_shape attr.now).args) }
     {
-        let locks = self.locks(symbols, attr.args)?;
+        let locks = self.locks(row, attr.args)?;
         if stands_on(attr.kind, bearer) {
             Ok(locks)
         } else {
@@ -107,20 +103,20 @@ impl<'w, 'a> View<'w, 'a> {
         }
     }
 
-    /// Attributes in order: what is wrong with them. Their names are noted.
+    /// Attributes in order: what is wrong with them. Their arguments are put into the row.
     pub fn attributes(
         self,
-        symbols: &mut Symbols,
+        row: &mut Row,
         bearer: Bearer,
         attrs: &[Attr<'_>],
     ) -> Result<Option<Failure>, NoMemory>
         ensures judged { IfOk result (λ failure. failure ≡ first (attributes_premises self.entry.scope.now bearer (attr_shapes attrs.now))) }
-        ensures names { OnOk result (symbols.new ≡ symbols.old ++ names_in_attributes (context_of self.entry.scope.now) self.entry.function
+        ensures nodes { OnOk result (row.new ≡ row.old ++ aside_attributes self.entry.scope.now self.entry.function
             (attr_shapes attrs.now)) }
     {
         let mut failure = None;
         'each: for attr in attrs {
-            failure = first_of(failure, self.attribute(symbols, bearer, attr)?);
+            failure = first_of(failure, self.attribute(row, bearer, attr)?);
         }
         Ok(failure)
     }

@@ -18,7 +18,7 @@ use tsa_tree::meaning::{Entry, Meaning, Tag};
 use tsa_tree::number::Number;
 use tsa_tree::premise::{Failure, TypeCode};
 use tsa_types_operators::single;
-use tsa_types_scope::Symbols;
+use tsa_types_row::Row;
 
 /// A length that was judged: how many elements there are, 1 where that is refused, and what is wrong with it.
 #[derive(Clone, Copy)]
@@ -194,7 +194,7 @@ impl<'w, 'a> View<'w, 'a> {
     ghost use Rattle.tsa_tree.specs.types.DeclaredTypes.{base_of as spec_base_of, resolve as spec_resolve, length_of, thing_type};
     ghost use Rattle.tsa_tree.specs.types.DeclaredTypes.{is_refused as spec_is_refused, may_be as spec_may_be, length_premises};
     ghost use Rattle.tsa_tree.specs.types.Scopes.{context_of};
-    ghost use Rattle.tsa_tree.specs.types.Symbols.{names_in_given};
+    ghost use Rattle.tsa_types_row.specs.BodyRows.{aside_given};
 
     /// What stands before a declarator; an enum is an `int`.
     fn base_of(self, base: &BaseType<'_>) -> Resolved
@@ -240,23 +240,19 @@ impl<'w, 'a> View<'w, 'a> {
         }
     }
 
-    /// A length, whose names are noted.
-    #[tactic(auto, using(crate::proofs::LengthLaws::lengths, crate::proofs::SymbolLaws::notes))]
-    pub fn length(
-        self,
-        symbols: &mut Symbols,
-        length: Option<&Expr<'_>>,
-    ) -> Result<Length, NoMemory>
+    /// A length, which is put into the row.
+    #[tactic(auto, using(crate::proofs::LengthLaws::lengths, crate::proofs::RowLaws::notes))]
+    pub fn length(self, row: &mut Row, length: Option<&Expr<'_>>) -> Result<Length, NoMemory>
         ensures elements { IfOk result (λ told. told.elements
             ≡ length_of (context_of self.entry.scope.now) (option_map (λ x. shape x.now) length.entry)) }
         ensures failure { IfOk result (λ told. told.failure
             ≡ first (length_premises (context_of self.entry.scope.now) (option_map (λ x. shape x.now) length.entry))) }
-        ensures names { OnOk result (symbols.new ≡ symbols.old ++ names_in_given (context_of self.entry.scope.now) self.entry.function
+        ensures nodes { OnOk result (row.new ≡ row.old ++ aside_given self.entry.scope.now self.entry.function
             (option_map (λ x. shape x.now) length.entry)) }
     {
         match length {
             Some(expr) => {
-                let found = self.expression(symbols, expr)?;
+                let found = self.aside(row, expr)?;
                 Ok(told_of(expr.span, found))
             }
             None => Ok(Length {
@@ -266,16 +262,16 @@ impl<'w, 'a> View<'w, 'a> {
         }
     }
 
-    /// A written type with its length, whose names are noted.
-    pub fn written(self, symbols: &mut Symbols, written: &CType<'_>) -> Result<Written, NoMemory>
+    /// A written type with its length, which is put into the row.
+    pub fn written(self, row: &mut Row, written: &CType<'_>) -> Result<Written, NoMemory>
         ensures thing { IfOk result (λ told. told.thing ≡ thing_type self.entry.scope.now (type_shape written.now)) }
         ensures resolved { IfOk result (λ told. told.resolved ≡ spec_resolve self.entry.scope.now (type_shape written.now)) }
         ensures length { IfOk result (λ told. told.length
             ≡ first (length_premises (context_of self.entry.scope.now) (option_map (λ x. shape x.now) written.now.length))) }
-        ensures names { OnOk result (symbols.new ≡ symbols.old ++ names_in_given (context_of self.entry.scope.now) self.entry.function
+        ensures nodes { OnOk result (row.new ≡ row.old ++ aside_given self.entry.scope.now self.entry.function
             (option_map (λ x. shape x.now) written.now.length)) }
     {
-        let length = self.length(symbols, written.length)?;
+        let length = self.length(row, written.length)?;
         let resolved = self.resolve(written);
         Ok(Written {
             thing: thing_of(resolved, length.elements),

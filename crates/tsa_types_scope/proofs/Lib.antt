@@ -1,3 +1,2 @@
 pub mod NameLists
 pub mod OutsetLaws
-pub mod SymbolTables

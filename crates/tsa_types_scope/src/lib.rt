@@ -6,10 +6,8 @@ mod cases;
 mod changes;
 mod names;
 mod scope;
-mod symbols;
 
 pub use beginning::{next_number, outset};
 pub use cases::Cases;
 pub use names::Names;
 pub use scope::{FunctionTypes, Scope};
-pub use symbols::Symbols;

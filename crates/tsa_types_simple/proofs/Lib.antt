@@ -3,3 +3,5 @@ pub mod LoopLaws
 pub mod SimpleLaws
 pub mod CaseLaws
 pub mod TargetLaws
+pub mod LocalRows
+pub mod RowSpans

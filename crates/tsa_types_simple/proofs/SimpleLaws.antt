@@ -27,7 +27,7 @@ use Rattle.tsa_tree.specs.types.Scopes.{Scope}
 use Rattle.tsa_tree.specs.types.Simple.{assignment_breaks, is_written_to, written_type, assignment_premises, tested, tested_premises}
 use Rattle.tsa_tree.specs.types.Simple.{is_void, return_premises}
 use Rattle.tsa_tree.specs.types.Statements.{Around, leaf_premises, init_premises, step_premises, behind_init, is_again}
-use Rattle.tsa_tree.specs.types.Symbols.{names_in_leaf, names_in_step, names_in_for_init}
+use Rattle.tsa_types_row.specs.BodyRows.{row_in_leaf, row_in_step, row_in_for_init}
 use Rattle.tsa_types_expressions.specs.declared.constants.Found.{Found}
 use Rattle.tsa_types_expressions.specs.Found.{constant_in, found_in}
 use Rattle.tsa_types_expressions.specs.Parts.{found_thing}
@@ -36,7 +36,7 @@ use Rattle.tsa_types_expressions.proofs.FoundLaws.{thing_same, err_same}
 use Rattle.tsa_types_expressions.proofs.LengthLaws.{shape_span}
 use Rattle.tsa_types_expressions.proofs.Steps.{alike, found_is, first_append, own}
 use Rattle.tsa_types_expressions.proofs.Walk.{failed_is, or_nothing}
-use Rattle.tsa_types_simple.specs.Leaves.{alone_premises, alone_names}
+use Rattle.tsa_types_simple.specs.Leaves.{alone_premises, alone_nodes}
 use Rattle.tsa_types_simple.specs.Simple.{written_by, assigned, passes, returned}
 use Rattle.tsa_types_simple.specs.declared.verdicts.Target.{Target}
 
@@ -133,7 +133,7 @@ module _ (c : Context) where
 
 -- The third part of a `for`, and the first one that is no local, are such a statement alone.
 module _ (here : Scope) (function : ℕ) (span : Span) where
-  pub step_alone : (k : StmtKind) → (step_premises here (step_of k span) ≡ alone_premises here (stmt_shape k span)) × (names_in_step here function (step_of k span) ≡ alone_names here function (stmt_shape k span))
+  pub step_alone : (k : StmtKind) → (step_premises here (step_of k span) ≡ alone_premises here (stmt_shape k span)) × (row_in_step here function (step_of k span) ≡ alone_nodes here function (stmt_shape k span))
   step_alone (kind.Block' p n row) = (refl, refl)
   step_alone kind.Empty = (refl, refl)
   step_alone (kind.Local d) = (refl, refl)
@@ -154,7 +154,7 @@ module _ (here : Scope) (function : ℕ) (span : Span) where
   step_alone (kind.Return x) = (refl, refl)
 
   pub init_alone : (k : StmtKind) → ((d : Bor Decl) → k ≡ kind.Local d → ⊥)
-      → (init_premises here (init_of k span) ≡ alone_premises here (stmt_shape k span)) × (names_in_for_init here function (init_of k span) ≡ alone_names here function (stmt_shape k span))
+      → (init_premises here (init_of k span) ≡ alone_premises here (stmt_shape k span)) × (row_in_for_init here function (init_of k span) ≡ alone_nodes here function (stmt_shape k span))
   init_alone (kind.Block' p n row) l = (refl, refl)
   init_alone kind.Empty l = (refl, refl)
   init_alone (kind.Local d) l = absurd (l d refl)
@@ -196,7 +196,7 @@ module _ (here : Scope) (function : ℕ) (span : Span) where
 -- Statements that are none of these are nothing here.
 module _ (here : Scope) (function : ℕ) (span : Span) where
   pub no_simple : (k : StmtKind) → ((x : Bor Expr) → k ≡ kind.Eval x → ⊥) → ((x : Bor Expr) (op : Option BinaryOp) (y : Bor Expr) → k ≡ kind.Assign x op y → ⊥)
-      → (alone_premises here (stmt_shape k span) ≡ []) × (alone_names here function (stmt_shape k span) ≡ [])
+      → (alone_premises here (stmt_shape k span) ≡ []) × (alone_nodes here function (stmt_shape k span) ≡ [])
   no_simple (kind.Block' p n row) e s = (refl, refl)
   no_simple kind.Empty e s = (refl, refl)
   no_simple (kind.Local d) e s = (refl, refl)
@@ -217,26 +217,26 @@ module _ (here : Scope) (function : ℕ) (span : Span) where
   no_simple (kind.Return x) e s = (refl, refl)
 
   -- a leaf that is no jump and no return
-  pub no_jump : (a : Around) (k : StmtKind) → (k ≡ kind.Break → ⊥) → (k ≡ kind.Continue → ⊥) → ((n : Name) → k ≡ kind.Goto n → ⊥) → ((x : Option (Bor Expr)) → k ≡ kind.Return x → ⊥)
-      → (leaf_premises a here (stmt_shape k span) ≡ alone_premises here (stmt_shape k span)) × (names_in_leaf here function (stmt_shape k span) ≡ alone_names here function (stmt_shape k span))
-  no_jump a (kind.Block' p n row) b c g r = (refl, refl)
-  no_jump a kind.Empty b c g r = (refl, refl)
-  no_jump a (kind.Local d) b c g r = (refl, refl)
-  no_jump a (kind.Eval x) b c g r = (refl, refl)
-  no_jump a (kind.Assign x op y) b c g r = (refl, refl)
-  no_jump a (kind.If' test p arm point arm_span None') b c g r = (refl, refl)
-  no_jump a (kind.If' test p arm point arm_span (Some' q k i other_span)) b c g r = (refl, refl)
-  no_jump a (kind.While' test p body point body_span) b c g r = (refl, refl)
-  no_jump a (kind.DoWhile' p body point body_span test) b c g r = (refl, refl)
-  no_jump a (kind.For' init test step p body point body_span) b c g r = (refl, refl)
-  no_jump a (kind.Switch' x p body point body_span) b c g r = (refl, refl)
-  no_jump a (kind.Case' x p body point body_span) b c g r = (refl, refl)
-  no_jump a (kind.Otherwise' p body point body_span) b c g r = (refl, refl)
-  no_jump a (kind.Label' x p body point body_span) b c g r = (refl, refl)
-  no_jump a kind.Break b c g r = absurd (b refl)
-  no_jump a kind.Continue b c g r = absurd (c refl)
-  no_jump a (kind.Goto x) b c g r = absurd (g x refl)
-  no_jump a (kind.Return x) b c g r = absurd (r x refl)
+  pub no_jump : (a : Around) (k : StmtKind) → (k ≡ kind.Empty → ⊥) → (k ≡ kind.Break → ⊥) → (k ≡ kind.Continue → ⊥) → ((n : Name) → k ≡ kind.Goto n → ⊥) → ((x : Option (Bor Expr)) → k ≡ kind.Return x → ⊥)
+      → (leaf_premises a here (stmt_shape k span) ≡ alone_premises here (stmt_shape k span)) × (row_in_leaf here function (stmt_shape k span) ≡ alone_nodes here function (stmt_shape k span))
+  no_jump a (kind.Block' p n row) o b c g r = (refl, refl)
+  no_jump a kind.Empty o b c g r = absurd (o refl)
+  no_jump a (kind.Local d) o b c g r = (refl, refl)
+  no_jump a (kind.Eval x) o b c g r = (refl, refl)
+  no_jump a (kind.Assign x op y) o b c g r = (refl, refl)
+  no_jump a (kind.If' test p arm point arm_span None') o b c g r = (refl, refl)
+  no_jump a (kind.If' test p arm point arm_span (Some' q k i other_span)) o b c g r = (refl, refl)
+  no_jump a (kind.While' test p body point body_span) o b c g r = (refl, refl)
+  no_jump a (kind.DoWhile' p body point body_span test) o b c g r = (refl, refl)
+  no_jump a (kind.For' init test step p body point body_span) o b c g r = (refl, refl)
+  no_jump a (kind.Switch' x p body point body_span) o b c g r = (refl, refl)
+  no_jump a (kind.Case' x p body point body_span) o b c g r = (refl, refl)
+  no_jump a (kind.Otherwise' p body point body_span) o b c g r = (refl, refl)
+  no_jump a (kind.Label' x p body point body_span) o b c g r = (refl, refl)
+  no_jump a kind.Break o b c g r = absurd (b refl)
+  no_jump a kind.Continue o b c g r = absurd (c refl)
+  no_jump a (kind.Goto x) o b c g r = absurd (g x refl)
+  no_jump a (kind.Return x) o b c g r = absurd (r x refl)
 
 pub ruleset tests = (tested_is, alone_is, err_is)
 

@@ -10,7 +10,7 @@ mod targets;
 mod verdicts;
 
 pub use context::{Around, Key};
-pub use leaves::{given, simple};
+pub use leaves::{given_value, point_at, simple};
 pub use locals::{Told, declare_local};
 pub use loops::{ForHead, for_head};
 pub use targets::{collect_all_labels, collect_cases, first_default};

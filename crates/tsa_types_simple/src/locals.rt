@@ -5,8 +5,10 @@ ghost use Rattle.tsa_tree.specs.types.Locals.{has_type as spec_has_type, can_not
 ghost use Rattle.tsa_tree.specs.types.Locals.{names_in_init as premises_in_init, names_in_items as premises_in_items, local_premises};
 ghost use Rattle.tsa_tree.specs.types.Locals.{behind_local};
 ghost use Rattle.tsa_tree.specs.types.Premises.{first};
-ghost use Rattle.tsa_tree.specs.types.Scopes.{context_of, is_taken};
-ghost use Rattle.tsa_tree.specs.types.Symbols.{names_in_init, names_in_items, names_in_given_init, names_in_local};
+ghost use Rattle.tsa_tree.specs.types.DeclaredTypes.{thing_type};
+ghost use Rattle.tsa_tree.specs.types.Scopes.{Scope, context_of, is_taken};
+ghost use Rattle.tsa_types_row.specs.BodyRows.{aside_init, aside_items, row_in_init, row_in_given_init, row_in_local};
+ghost use Rattle.tsa_types_row.specs.BodyRows.{is_value as spec_is_value, local_node as spec_local_node};
 ghost use Rattle.tsa_types_simple.specs.Locals.{local_by, value_breaks};
 
 use tsa_base::{NoMemory, Span};
@@ -14,9 +16,12 @@ use tsa_tree::decl::{Decl, Init};
 use tsa_tree::kind::{Declaring, Resolved, ThingType};
 use tsa_tree::meaning::{Entry, Meaning, Symbol};
 use tsa_tree::premise::{Bearer, Failure, TypeCode};
-use tsa_types_expressions::{Found, View, Written, at, first_of, typed_failure};
-use tsa_types_operators::goes_to;
-use tsa_types_scope::{Scope, Symbols};
+use tsa_types_expressions::{
+    Found, Mark, View, Written, at, bare_node, first_of, typed_failure, typed_node,
+};
+use tsa_types_operators::{goes_to, place};
+use tsa_types_row::{Node, Op, Row};
+use tsa_types_scope::Scope;
 
 /// What the initialiser of a local comes to: whether it can't go to it, and the first premise that fails in it.
 #[derive(Clone, Copy)]
@@ -77,22 +82,22 @@ fn local_failure(span: Span, parts: LocalParts) -> Option<Failure>
 
 /// The expressions of an initialiser that goes to no local, or of the items of one.
 #[cycle(naming)]
-#[tactic(auto, unfolding(tsa_tree::specs::types::Symbols::names_in_init), using(crate::proofs::LocalLaws::names))]
+#[tactic(auto, unfolding(tsa_types_row::specs::BodyRows::aside_init), using(crate::proofs::LocalLaws::names))]
 fn names_failure(
     view: View<'_, '_>,
-    symbols: &mut Symbols,
+    row: &mut Row,
     init: &Init<'_>,
 ) -> Result<Option<Failure>, NoMemory>
     ensures judged { IfOk result (λ failure. failure ≡ first (premises_in_init view.entry.scope.now (init_shape init.now))) }
-    ensures names { OnOk result (symbols.new ≡ symbols.old ++ names_in_init (context_of view.entry.scope.now) view.entry.function
+    ensures nodes { OnOk result (row.new ≡ row.old ++ aside_init view.entry.scope.now view.entry.function
         (init_shape init.now)) }
 {
     match init {
         Init::Value(expr) => {
-            let found = view.expression(symbols, expr)?;
+            let found = view.aside(row, expr)?;
             Ok(found.err())
         }
-        Init::List { items, .. } => items_failure(view, symbols, items),
+        Init::List { items, .. } => items_failure(view, row, items),
     }
 }
 
@@ -100,43 +105,43 @@ fn names_failure(
 #[cycle(naming)]
 fn items_failure(
     view: View<'_, '_>,
-    symbols: &mut Symbols,
+    row: &mut Row,
     items: &[Init<'_>],
 ) -> Result<Option<Failure>, NoMemory>
     ensures judged { IfOk result (λ failure. failure ≡ first (premises_in_items view.entry.scope.now (init_shapes items.now))) }
-    ensures names { OnOk result (symbols.new ≡ symbols.old ++ names_in_items (context_of view.entry.scope.now) view.entry.function
+    ensures nodes { OnOk result (row.new ≡ row.old ++ aside_items view.entry.scope.now view.entry.function
         (init_shapes items.now)) }
 {
     let mut failure = None;
     'each: for item in items {
-        failure = first_of(failure, names_failure(view, symbols, item)?);
+        failure = first_of(failure, names_failure(view, row, item)?);
     }
     Ok(failure)
 }
 
 /// The initialiser of a local of a type: a list goes to none.
-#[tactic(auto, unfolding(tsa_tree::specs::types::Symbols::names_in_init), using(crate::proofs::LocalLaws::initial))]
+#[tactic(auto, unfolding(tsa_types_row::specs::BodyRows::row_in_init), using(crate::proofs::LocalLaws::initial))]
 fn initialiser(
     view: View<'_, '_>,
-    symbols: &mut Symbols,
+    row: &mut Row,
     thing: ThingType,
     init: &Init<'_>,
 ) -> Result<Initial, NoMemory>
     ensures breaks { IfOk result (λ told. told.breaks ≡ can_not_go view.entry.scope.now thing (init_shape init.now)) }
     ensures failure { IfOk result (λ told. told.failure ≡ first (premises_in_init view.entry.scope.now (init_shape init.now))) }
-    ensures names { OnOk result (symbols.new ≡ symbols.old ++ names_in_init (context_of view.entry.scope.now) view.entry.function
+    ensures nodes { OnOk result (row.new ≡ row.old ++ row_in_init view.entry.scope.now view.entry.function
         (init_shape init.now)) }
 {
     match init {
         Init::Value(expr) => {
-            let found = view.expression(symbols, expr)?;
+            let found = view.expression(row, expr)?;
             Ok(Initial {
                 breaks: cannot_go(thing, found),
                 failure: found.err(),
             })
         }
         Init::List { items, .. } => {
-            let failure = items_failure(view, symbols, items)?;
+            let failure = items_failure(view, row, items)?;
             Ok(Initial {
                 breaks: true,
                 failure,
@@ -146,10 +151,10 @@ fn initialiser(
 }
 
 /// The initialiser of a local of a type, where there is one.
-#[tactic(auto, using(crate::proofs::LocalLaws::initial, tsa_types_expressions::proofs::SymbolLaws::notes))]
+#[tactic(auto, using(crate::proofs::LocalLaws::initial, tsa_types_expressions::proofs::RowLaws::notes))]
 fn initial_of(
     view: View<'_, '_>,
-    symbols: &mut Symbols,
+    row: &mut Row,
     thing: ThingType,
     init: Option<&Init<'_>>,
 ) -> Result<Initial, NoMemory>
@@ -157,11 +162,11 @@ fn initial_of(
         ≡ init_breaks view.entry.scope.now thing (option_map (λ x. init_shape x.now) init.entry)) }
     ensures failure { IfOk result (λ told. told.failure
         ≡ first (names_in view.entry.scope.now (option_map (λ x. init_shape x.now) init.entry))) }
-    ensures names { OnOk result (symbols.new ≡ symbols.old ++ names_in_given_init (context_of view.entry.scope.now) view.entry.function
+    ensures nodes { OnOk result (row.new ≡ row.old ++ row_in_given_init view.entry.scope.now view.entry.function
         (option_map (λ x. init_shape x.now) init.entry)) }
 {
     match init {
-        Some(init) => initialiser(view, symbols, thing, init),
+        Some(init) => initialiser(view, row, thing, init),
         None => Ok(Initial {
             breaks: false,
             failure: None,
@@ -169,26 +174,50 @@ fn initial_of(
     }
 }
 
-/// A local of a function, which is known behind it where its name isn't taken. The names in it are noted.
-#[tactic(auto, unfolding(tsa_tree::specs::types::Symbols::names_in_declaration), using(crate::proofs::LocalLaws::local, tsa_types_expressions::proofs::SymbolLaws::notes))]
+/// Whether a local begins with a value.
+fn is_value(init: Option<&Init<'_>>) -> bool
+    ensures { result ≡ spec_is_value (option_map (λ x. init_shape x.now) init.entry) }
+{
+    match init {
+        Some(Init::Value(_)) => true,
+        _ => false,
+    }
+}
+
+/// The node of a local by its number and its type.
+#[tactic(auto, using(crate::proofs::RowSpans::inits))]
+fn local_node(local: u32, decl: &Decl<'_>, thing: ThingType) -> Node
+    ensures { (here : Scope) → here.locals ≡ local → thing_type here (decl_shape decl.now).ctype ≡ thing
+        → result ≡ spec_local_node here (decl_shape decl.now) }
+{
+    let has_value = is_value(decl.init.as_ref());
+    let mark = Mark::new(Op::Declare { local, has_value }, decl.span);
+    typed_node(mark, place(thing))
+}
+
+/// A local of a function, which is known behind it where its name isn't taken. It is put into the row.
+#[tactic(auto, unfolding(tsa_types_row::specs::BodyRows::row_in_local, tsa_types_row::specs::BodyRows::local_parts), using(crate::proofs::LocalLaws::local, tsa_types_expressions::proofs::RowLaws::notes))]
 pub fn declare_local<'a>(
     scope: &mut Scope<'a>,
-    symbols: &mut Symbols,
+    row: &mut Row,
     function: u32,
     decl: &Decl<'a>,
 ) -> Result<Told, NoMemory>
     ensures taken { IfOk result (λ told. told.taken ≡ is_taken decl.now.name.text.now scope.old) }
     ensures judged { IfOk result (λ told. told.failure ≡ first (local_premises scope.old (decl_shape decl.now))) }
     ensures behind { OnOk result (scope.new ≡ behind_local scope.old (decl_shape decl.now)) }
-    ensures names { OnOk result (symbols.new ≡ symbols.old ++ names_in_local scope.old function (decl_shape decl.now)) }
+    ensures nodes { OnOk result (row.new ≡ row.old ++ row_in_local scope.old function (decl_shape decl.now)) }
 {
     let number = scope.next_local();
-    symbols.note(decl.name.span, Symbol::Local { function, number })?;
+    let place_of_node = row.open()?;
+    let name = Symbol::Local { function, number };
+    row.leaf(bare_node(Mark::new(Op::Declared(name), decl.name.span)))?;
     let view = View { scope, function };
-    let written = view.written(symbols, &decl.ctype)?;
+    let written = view.written(row, &decl.ctype)?;
     let refused = view.is_refused(Declaring::Thing, written.resolved);
-    let attributes = view.attributes(symbols, Bearer::Local, decl.attrs)?;
-    let init = initial_of(view, symbols, written.thing, decl.init.as_ref())?;
+    let attributes = view.attributes(row, Bearer::Local, decl.attrs)?;
+    let init = initial_of(view, row, written.thing, decl.init.as_ref())?;
+    row.close(place_of_node, local_node(number, decl, written.thing));
     let entry = Entry {
         meaning: Meaning::Local(number),
         thing: written.thing,

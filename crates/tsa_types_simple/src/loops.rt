@@ -4,10 +4,10 @@ ghost use Rattle.tsa_tree.specs.expressions.Shapes.{shape};
 ghost use Rattle.tsa_tree.specs.statements.Shapes.{init_given, step_given};
 ghost use Rattle.tsa_tree.specs.types.Premises.{first};
 ghost use Rattle.tsa_tree.specs.types.Statements.{step_premises, init_premises, behind_init, is_again, for_premises};
-ghost use Rattle.tsa_tree.specs.types.Symbols.{names_in_step, names_in_for_init, names_in_for};
-ghost use Rattle.tsa_types_simple.specs.Loops.{for_by, given_test, given_failure};
+ghost use Rattle.tsa_types_row.specs.BodyRows.{row_in_step, row_in_for_init, row_in_for};
+ghost use Rattle.tsa_types_simple.specs.Loops.{for_by, given_test as spec_given_test, given_failure};
 
-use crate::leaves::{given, simple};
+use crate::leaves::{given_test, simple};
 use crate::locals::{Told, declare_local};
 use crate::verdicts::tested;
 use tsa_base::{NoMemory, Span};
@@ -15,7 +15,8 @@ use tsa_tree::expr::Expr;
 use tsa_tree::premise::Failure;
 use tsa_tree::stmt::{Stmt, StmtKind};
 use tsa_types_expressions::{Found, View, first_of};
-use tsa_types_scope::{Scope, Symbols};
+use tsa_types_row::Row;
+use tsa_types_scope::Scope;
 
 /// A `for` before its body.
 #[derive(Clone, Copy)]
@@ -47,7 +48,7 @@ impl<'t, 'a> ForHead<'t, 'a> {
 
 /// What is wrong with a test by itself that may be left out, in a statement that begins at a span.
 fn test_failure(span: Span, test: Option<Result<Found, Failure>>) -> Option<Failure>
-    ensures { result ≡ given_test span test }
+    ensures { result ≡ spec_given_test span test }
 {
     tested(span, test?)
 }
@@ -76,35 +77,35 @@ fn for_failure(
     }
 }
 
-/// The third part of a `for`, which may be left out. Its names are noted.
-#[tactic(auto, using(crate::proofs::LoopLaws::steps, tsa_types_expressions::proofs::SymbolLaws::notes))]
+/// The third part of a `for`, which may be left out. It is put into the row.
+#[tactic(auto, using(crate::proofs::LoopLaws::steps, tsa_types_expressions::proofs::RowLaws::notes))]
 fn third(
     view: View<'_, '_>,
-    symbols: &mut Symbols,
+    row: &mut Row,
     step: Option<&Stmt<'_>>,
 ) -> Result<Option<Failure>, NoMemory>
     ensures judged { IfOk result (λ failure. failure ≡ first (step_premises view.entry.scope.now (step_given step.entry))) }
-    ensures names { OnOk result (symbols.new ≡ symbols.old
-        ++ names_in_step view.entry.scope.now view.entry.function (step_given step.entry)) }
+    ensures nodes { OnOk result (row.new ≡ row.old
+        ++ row_in_step view.entry.scope.now view.entry.function (step_given step.entry)) }
 {
     match step {
-        Some(part) => simple(view, symbols, part),
+        Some(part) => simple(view, row, part),
         None => Ok(None),
     }
 }
 
 /// The first part of a `for`, which may be left out; a local in it is known behind it.
-#[tactic(auto, using(crate::proofs::LoopLaws::inits, tsa_types_expressions::proofs::SymbolLaws::notes))]
+#[tactic(auto, using(crate::proofs::LoopLaws::inits, tsa_types_expressions::proofs::RowLaws::notes))]
 fn first_part<'a>(
     scope: &mut Scope<'a>,
-    symbols: &mut Symbols,
+    row: &mut Row,
     function: u32,
     init: Option<&Stmt<'a>>,
 ) -> Result<Told, NoMemory>
     ensures taken { IfOk result (λ told. told.taken ≡ is_again scope.old (init_given init.entry)) }
     ensures judged { IfOk result (λ told. told.failure ≡ first (init_premises scope.old (init_given init.entry))) }
     ensures behind { OnOk result (scope.new ≡ behind_init scope.old (init_given init.entry)) }
-    ensures names { OnOk result (symbols.new ≡ symbols.old ++ names_in_for_init scope.old function (init_given init.entry)) }
+    ensures nodes { OnOk result (row.new ≡ row.old ++ row_in_for_init scope.old function (init_given init.entry)) }
 {
     let Some(part) = init else {
         return Ok(Told {
@@ -113,19 +114,19 @@ fn first_part<'a>(
         });
     };
     if let StmtKind::Local(decl) = &part.kind {
-        return declare_local(scope, symbols, function, decl);
+        return declare_local(scope, row, function, decl);
     }
     Ok(Told {
         taken: false,
-        failure: simple(View { scope, function }, symbols, part)?,
+        failure: simple(View { scope, function }, row, part)?,
     })
 }
 
-/// What stands before the body of a `for`, behind which its local is known. Its names are noted.
-#[tactic(auto, unfolding(tsa_tree::specs::types::Symbols::names_in_for), using(crate::proofs::LoopLaws::heads, tsa_types_expressions::proofs::SymbolLaws::notes))]
+/// What stands before the body of a `for`, behind which its local is known. It is put into the row.
+#[tactic(auto, unfolding(tsa_types_row::specs::BodyRows::row_in_for), using(crate::proofs::LoopLaws::heads, tsa_types_expressions::proofs::RowLaws::notes))]
 pub fn for_head<'a>(
     scope: &mut Scope<'a>,
-    symbols: &mut Symbols,
+    row: &mut Row,
     function: u32,
     head: &ForHead<'_, 'a>,
 ) -> Result<Option<Failure>, NoMemory>
@@ -133,12 +134,12 @@ pub fn for_head<'a>(
         ≡ first (for_premises scope.old (init_given head.now.init) (option_map (λ x. shape x.now) head.now.test) (step_given head.now.step)
         head.now.span)) }
     ensures behind { OnOk result (scope.new ≡ behind_init scope.old (init_given head.now.init)) }
-    ensures names { OnOk result (symbols.new ≡ symbols.old ++ names_in_for scope.old function (init_given head.now.init)
+    ensures nodes { OnOk result (row.new ≡ row.old ++ row_in_for head.now.span scope.old function (init_given head.now.init)
         (option_map (λ x. shape x.now) head.now.test) (step_given head.now.step)) }
 {
-    let init = first_part(scope, symbols, function, head.init)?;
+    let init = first_part(scope, row, function, head.init)?;
     let view = View { scope, function };
-    let test = given(view, symbols, head.test)?;
-    let step = third(view, symbols, head.step)?;
+    let test = given_test(view, row, head.span, head.test)?;
+    let step = third(view, row, head.step)?;
     Ok(for_failure(head.span, init, test, step))
 }

@@ -1,3 +1,3 @@
 pub mod Closing
 pub mod StatementLaws
-pub mod StatementNames
+pub mod StatementRows

@@ -26,10 +26,10 @@ each-preserved c =
       behind =
           known_next c.args.params.now c.each.param-index c.each.scope c.each.number _ at_i c.declare_param.new.scope c.in_ok-number.number one.behind count
           ∙ c.each.invariant.behind;
-      names =
+      nodes =
           noted_next c.args.params.now c.each.param-index c.each.scope c.each.number _ at_i c.declare_param.new.scope c.in_ok-number.number one.behind count c.args.function
-          c.each.symbols c.declare_param.new.symbols one.names
-          ∙ c.each.invariant.names;
+          c.each.row c.declare_param.new.row one.nodes
+          ∙ c.each.invariant.nodes;
     }
 
 pub returns-clause-judged : goal.returns-clause-judged
@@ -41,8 +41,8 @@ pub returns-clause-behind : goal.returns-clause-behind
 returns-clause-behind c =
     sym (known_end c.args.params.now c.each.param-index c.each.scope c.each.number (drop_all c.each.param-index c.args.params.now c.each-test.false)) ∙ c.each.invariant.behind
 
-pub returns-clause-names : goal.returns-clause-names
-returns-clause-names c =
-    sym (noted_end c.args.params.now c.each.param-index c.each.scope c.each.number c.args.function c.each.symbols
+pub returns-clause-nodes : goal.returns-clause-nodes
+returns-clause-nodes c =
+    sym (noted_end c.args.params.now c.each.param-index c.each.scope c.each.number c.args.function c.each.row
     (drop_all c.each.param-index c.args.params.now c.each-test.false))
-    ∙ c.each.invariant.names
+    ∙ c.each.invariant.nodes

@@ -22,19 +22,19 @@ each-preserved c = record {
       ∙ ap (λ x. x ∷ drop (suc c.each.item-index) c.args.items.now) (sym c.item-item.is)) c.declare_item.new.walk.scope
       c.in_default.ensures.judged c.in_default.ensures.behind
       ∙ c.each.invariant.judged;
-  names =
-      names.items_next c.each.walk.symbols c.each.walk.scope c.args.items.now c.each.item-index c.item-item.result
+  nodes =
+      names.items_next c.each.walk.row c.each.walk.scope c.args.items.now c.each.item-index c.item-item.result
       (drop-cons c.args.items.now c.each.item-index c.item-item.result c.each-test.true
-      ∙ ap (λ x. x ∷ drop (suc c.each.item-index) c.args.items.now) (sym c.item-item.is)) c.declare_item.new.walk.scope c.declare_item.new.walk.symbols
-      c.in_default.ensures.behind c.in_default.ensures.names
-      ∙ c.each.invariant.names;
+      ∙ ap (λ x. x ∷ drop (suc c.each.item-index) c.args.items.now) (sym c.item-item.is)) c.declare_item.new.walk.scope c.declare_item.new.walk.row
+      c.in_default.ensures.behind c.in_default.ensures.nodes
+      ∙ c.each.invariant.nodes;
 }
 
 pub returns-clause-judged : goal.returns-clause-judged
 returns-clause-judged c =
     sym c.each.invariant.judged ∙ items_end c.each.walk.scope c.args.items.now c.each.item-index (drop_all c.each.item-index c.args.items.now c.each-test.false)
 
-pub returns-clause-names : goal.returns-clause-names
-returns-clause-names c =
-    sym (names.items_end c.each.walk.symbols c.each.walk.scope c.args.items.now c.each.item-index (drop_all c.each.item-index c.args.items.now c.each-test.false))
-    ∙ c.each.invariant.names
+pub returns-clause-nodes : goal.returns-clause-nodes
+returns-clause-nodes c =
+    sym (names.items_end c.each.walk.row c.each.walk.scope c.args.items.now c.each.item-index (drop_all c.each.item-index c.args.items.now c.each-test.false))
+    ∙ c.each.invariant.nodes

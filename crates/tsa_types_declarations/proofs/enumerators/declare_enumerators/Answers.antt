@@ -31,10 +31,10 @@ each-preserved c =
       behind =
           known_next c.args.values.now c.each.enumerator-index c.each.scope next _ at_i c.declare_enumerator.new.scope z _ one.worth one.behind same
           ∙ c.each.invariant.behind;
-      names =
+      nodes =
           noted_next c.args.values.now c.each.enumerator-index c.each.scope next _ at_i c.declare_enumerator.new.scope z _ one.worth one.behind same
-          c.each.symbols c.declare_enumerator.new.symbols one.names
-          ∙ c.each.invariant.names;
+          c.each.row c.declare_enumerator.new.row one.nodes
+          ∙ c.each.invariant.nodes;
     }
 
 pub returns-clause-judged : goal.returns-clause-judged
@@ -47,8 +47,8 @@ returns-clause-behind c =
     sym (known_end c.args.values.now c.each.enumerator-index c.each.scope (next_after c.each.last) (drop_all c.each.enumerator-index c.args.values.now c.each-test.false))
     ∙ c.each.invariant.behind
 
-pub returns-clause-names : goal.returns-clause-names
-returns-clause-names c =
-    sym (noted_end c.args.values.now c.each.enumerator-index c.each.scope (next_after c.each.last) c.each.symbols
+pub returns-clause-nodes : goal.returns-clause-nodes
+returns-clause-nodes c =
+    sym (noted_end c.args.values.now c.each.enumerator-index c.each.scope (next_after c.each.last) c.each.row
     (drop_all c.each.enumerator-index c.args.values.now c.each-test.false))
-    ∙ c.each.invariant.names
+    ∙ c.each.invariant.nodes

@@ -7,12 +7,12 @@ use Rattle.tsa_tree.specs.expressions.Shapes.{shape}
 use Rattle.tsa_tree.specs.types.Initialisers.{parts_of, or_no_parts, initialiser_premises, list_premises}
 use Rattle.tsa_tree.specs.types.Premises.{or_else, first}
 use Rattle.tsa_tree.specs.types.Scopes.{context_of}
-use Rattle.tsa_tree.specs.types.Symbols.{names_in_init}
+use Rattle.tsa_types_row.specs.BodyRows.{aside_init}
 use Rattle.tsa_tree.proofs.declarations.Trees.{list_at}
 use Rattle.tsa_types_expressions.specs.Verdicts.{at}
-use Rattle.tsa_types_expressions.proofs.SymbolLaws as symbols
+use Rattle.tsa_types_expressions.proofs.RowLaws as rows
 use Rattle.tsa_types_declarations.specs.Cells.{cell_by}
-use Rattle.tsa_types_declarations.proofs.InitialiserLaws.{cell_is, init_value, init_list, value_names, items_end, items_next}
+use Rattle.tsa_types_declarations.proofs.InitialiserLaws.{cell_is, init_value, init_list, value_nodes, items_end, items_next}
 use Rattle.tsa_types_declarations.proofs.initialisers.+initialising.Goals as goal
 
 pub initialiser-returns-in_ok-found-in-Value-clause-judged : goal.initialiser-returns-in_ok-found-in-Value-clause-judged
@@ -23,11 +23,11 @@ initialiser-returns-in_ok-found-in-Value-clause-judged t c =
     ∙ cell_is (context_of here) here.globals c.args.thing c.in-Value.expr ∙ init_value here here.globals c.args.thing (shape c.in-Value.expr)
     ∙ ap (λ i. first (initialiser_premises here here.globals c.args.thing (init_shape i))) (sym c.in-Value.is)
 
-pub initialiser-returns-in_ok-found-in-Value-clause-names : goal.initialiser-returns-in_ok-found-in-Value-clause-names
-initialiser-returns-in_ok-found-in-Value-clause-names t c =
-    let known = context_of c.args.view.scope.now in
-    c.in_ok-found-in-Value.ensures.names ∙ value_names known c.args.view.function c.args.symbols.now (shape c.in-Value.expr)
-    ∙ ap (λ i. symbols.noted c.args.symbols.now (names_in_init known c.args.view.function (init_shape i))) (sym c.in-Value.is)
+pub initialiser-returns-in_ok-found-in-Value-clause-nodes : goal.initialiser-returns-in_ok-found-in-Value-clause-nodes
+initialiser-returns-in_ok-found-in-Value-clause-nodes t c =
+    let here = c.args.view.scope.now in
+    c.in_ok-found-in-Value.ensures.nodes ∙ value_nodes here c.args.view.function c.args.row.now (shape c.in-Value.expr)
+    ∙ ap (λ i. rows.noted c.args.row.now (aside_init here c.args.view.function (init_shape i))) (sym c.in-Value.is)
 
 pub initialiser-returns-in_ok-wrong-in-List-clause-judged : goal.initialiser-returns-in_ok-wrong-in-List-clause-judged
 initialiser-returns-in_ok-wrong-in-List-clause-judged t c =
@@ -38,12 +38,12 @@ initialiser-returns-in_ok-wrong-in-List-clause-judged t c =
     ∙ init_list here here.globals c.args.thing (init_shapes c.in-List.items.now) c.in-List.span
     ∙ ap (λ i. first (initialiser_premises here here.globals c.args.thing i)) (sym (list_at c.args.init.now c.in-List.items c.in-List.span c.in-List.is))
 
-pub initialiser-returns-in_ok-wrong-in-List-clause-names : goal.initialiser-returns-in_ok-wrong-in-List-clause-names
-initialiser-returns-in_ok-wrong-in-List-clause-names t c =
-    let known = context_of c.args.view.scope.now in
-    c.in_ok-wrong-in-List.ensures.names
-    ∙ sym (symbols.noted_list known c.args.view.function c.args.symbols.now (init_shapes c.in-List.items.now) c.in-List.span)
-    ∙ ap (λ i. symbols.noted c.args.symbols.now (names_in_init known c.args.view.function i)) (sym (list_at c.args.init.now c.in-List.items c.in-List.span c.in-List.is))
+pub initialiser-returns-in_ok-wrong-in-List-clause-nodes : goal.initialiser-returns-in_ok-wrong-in-List-clause-nodes
+initialiser-returns-in_ok-wrong-in-List-clause-nodes t c =
+    let here = c.args.view.scope.now in
+    c.in_ok-wrong-in-List.ensures.nodes
+    ∙ sym (rows.noted_list here c.args.view.function c.args.row.now (init_shapes c.in-List.items.now) c.in-List.span)
+    ∙ ap (λ i. rows.noted c.args.row.now (aside_init here c.args.view.function i)) (sym (list_at c.args.init.now c.in-List.items c.in-List.span c.in-List.is))
 
 pub list-each-preserved : goal.list-each-preserved
 list-each-preserved t c =
@@ -57,10 +57,10 @@ list-each-preserved t c =
           ∙ items_next here here.globals types c.args.items.now c.each.item-index c.each.number c.item-item.result at_i c.part_at-part.result c.part_at-part.ensures c.each.failure
           c.in_ok-initialiser.field-0 c.in_ok-initialiser.ensures.judged
           ∙ c.each.invariant.failure;
-      names =
-          symbols.items_next (context_of here) c.args.view.function c.each.symbols c.args.items.now c.each.item-index c.item-item.result at_i c.initialiser.new.symbols
-          c.in_ok-initialiser.ensures.names
-          ∙ c.each.invariant.names;
+      nodes =
+          rows.items_next here c.args.view.function c.each.row c.args.items.now c.each.item-index c.item-item.result at_i c.initialiser.new.row
+          c.in_ok-initialiser.ensures.nodes
+          ∙ c.each.invariant.nodes;
     }
 
 pub list-returns-clause-judged : goal.list-returns-clause-judged
@@ -71,8 +71,8 @@ list-returns-clause-judged t c =
     (drop_all c.each.item-index c.args.items.now c.each-test.false))
     ∙ c.each.invariant.failure
 
-pub list-returns-clause-names : goal.list-returns-clause-names
-list-returns-clause-names t c =
-    sym (symbols.items_end (context_of c.args.view.scope.now) c.args.view.function c.each.symbols c.args.items.now c.each.item-index
+pub list-returns-clause-nodes : goal.list-returns-clause-nodes
+list-returns-clause-nodes t c =
+    sym (rows.items_end c.args.view.scope.now c.args.view.function c.each.row c.args.items.now c.each.item-index
     (drop_all c.each.item-index c.args.items.now c.each-test.false))
-    ∙ c.each.invariant.names
+    ∙ c.each.invariant.nodes

@@ -25,10 +25,10 @@ each-preserved c =
       behind =
           known_next c.args.scope.now c.args.decls.now c.each.decl-index c.each.members _ at_i c.each.scope c.each.invariant.same c.declare_member.new.members one.behind
           ∙ c.each.invariant.behind;
-      names =
-          noted_next c.args.scope.now c.args.decls.now c.each.decl-index c.each.members _ at_i c.each.scope c.each.invariant.same c.declare_member.new.members one.behind c.each.symbols
-          c.declare_member.new.symbols one.names
-          ∙ c.each.invariant.names;
+      nodes =
+          noted_next c.args.scope.now c.args.decls.now c.each.decl-index c.each.members _ at_i c.each.scope c.each.invariant.same c.declare_member.new.members one.behind c.each.row
+          c.declare_member.new.row one.nodes
+          ∙ c.each.invariant.nodes;
       same = one.same ∙ c.each.invariant.same;
     }
 
@@ -41,7 +41,7 @@ pub returns-clause-behind : goal.returns-clause-behind
 returns-clause-behind c =
     sym (known_end c.args.scope.now c.args.decls.now c.each.decl-index c.each.members (drop_all c.each.decl-index c.args.decls.now c.each-test.false)) ∙ c.each.invariant.behind
 
-pub returns-clause-names : goal.returns-clause-names
-returns-clause-names c =
-    sym (noted_end c.args.scope.now c.args.decls.now c.each.decl-index c.each.members c.each.symbols (drop_all c.each.decl-index c.args.decls.now c.each-test.false))
-    ∙ c.each.invariant.names
+pub returns-clause-nodes : goal.returns-clause-nodes
+returns-clause-nodes c =
+    sym (noted_end c.args.scope.now c.args.decls.now c.each.decl-index c.each.members c.each.row (drop_all c.each.decl-index c.args.decls.now c.each-test.false))
+    ∙ c.each.invariant.nodes

@@ -4,8 +4,9 @@ use Rattle.tsa_tree.specs.declarations.Shapes.{init_shapes}
 use Rattle.tsa_tree.specs.types.Locals.{can_not_go, names_in_init as premises_in_init}
 use Rattle.tsa_tree.specs.types.Premises.{first}
 use Rattle.tsa_tree.specs.types.Scopes.{context_of}
-use Rattle.tsa_tree.specs.types.Symbols.{names_in_init}
-use Rattle.tsa_types_expressions.proofs.SymbolLaws.{noted, noted_list}
+use Rattle.tsa_types_row.specs.BodyRows.{row_in_init}
+use Rattle.tsa_types_expressions.proofs.RowLaws.{noted}
+use Rattle.tsa_types_simple.proofs.LocalRows.{init_list}
 use Rattle.tsa_types_simple.proofs.LocalLaws.{names_list}
 use Rattle.tsa_types_simple.proofs.locals.initialiser.Goals as goal
 
@@ -19,8 +20,8 @@ returns-in_ok-failure-in-List-clause-failure c =
     ∙ sym (ap (λ i. first (premises_in_init c.args.view.scope.now i)) (list_at c.args.init.now c.in-List.items c.in-List.span c.in-List.is)
     ∙ names_list c.args.view.scope.now (init_shapes c.in-List.items.now) c.in-List.span)
 
-pub returns-in_ok-failure-in-List-clause-names : goal.returns-in_ok-failure-in-List-clause-names
-returns-in_ok-failure-in-List-clause-names c =
-    c.in_ok-failure-in-List.ensures.names
-    ∙ sym (ap (λ i. noted c.args.symbols.now (names_in_init (context_of c.args.view.scope.now) c.args.view.function i)) (list_at c.args.init.now c.in-List.items c.in-List.span c.in-List.is)
-    ∙ noted_list (context_of c.args.view.scope.now) c.args.view.function c.args.symbols.now (init_shapes c.in-List.items.now) c.in-List.span)
+pub returns-in_ok-failure-in-List-clause-nodes : goal.returns-in_ok-failure-in-List-clause-nodes
+returns-in_ok-failure-in-List-clause-nodes c =
+    c.in_ok-failure-in-List.ensures.nodes
+    ∙ sym (ap (λ i. noted c.args.row.now (row_in_init c.args.view.scope.now c.args.view.function i)) (list_at c.args.init.now c.in-List.items c.in-List.span c.in-List.is)
+    ∙ init_list c.args.view.scope.now c.args.view.function c.args.row.now (init_shapes c.in-List.items.now) c.in-List.span)

@@ -2,8 +2,8 @@ use Rattle.std.proofs.Common.{◌≡◌, ◌∙◌, IfOk, OnOk, subst, ap, sym}
 use Rattle.tsa_tree.specs.statements.Shapes.{step_given}
 use Rattle.tsa_tree.specs.types.Premises.{first}
 use Rattle.tsa_tree.specs.types.Statements.{step_premises}
-use Rattle.tsa_tree.specs.types.Symbols.{names_in_step}
-use Rattle.tsa_types_expressions.proofs.SymbolLaws.{noted}
+use Rattle.tsa_types_row.specs.BodyRows.{row_in_step}
+use Rattle.tsa_types_expressions.proofs.RowLaws.{noted}
 use Rattle.tsa_types_simple.proofs.SimpleLaws.{step_alone}
 use Rattle.tsa_types_simple.proofs.loops.third.Goals as goal
 
@@ -14,9 +14,9 @@ returns-in-Some-clause-judged c =
     ∙ ap first (step_alone c.args.view.scope.now c.args.view.function c.in-Some.part.now.span c.in-Some.part.now.kind).0))
     c.simple.ensures.judged
 
-pub returns-in-Some-clause-names : goal.returns-in-Some-clause-names
-returns-in-Some-clause-names c =
-    subst (λ n. OnOk c.simple.result (c.simple.new.symbols ≡ n))
-    (sym (ap (λ s. noted c.args.symbols.now (names_in_step c.args.view.scope.now c.args.view.function (step_given s))) c.in-Some.is
-    ∙ ap (noted c.args.symbols.now) (step_alone c.args.view.scope.now c.args.view.function c.in-Some.part.now.span c.in-Some.part.now.kind).1))
-    c.simple.ensures.names
+pub returns-in-Some-clause-nodes : goal.returns-in-Some-clause-nodes
+returns-in-Some-clause-nodes c =
+    subst (λ n. OnOk c.simple.result (c.simple.new.row ≡ n))
+    (sym (ap (λ s. noted c.args.row.now (row_in_step c.args.view.scope.now c.args.view.function (step_given s))) c.in-Some.is
+    ∙ ap (noted c.args.row.now) (step_alone c.args.view.scope.now c.args.view.function c.in-Some.part.now.span c.in-Some.part.now.kind).1))
+    c.simple.ensures.nodes

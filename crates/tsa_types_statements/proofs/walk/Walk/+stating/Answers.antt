@@ -3,10 +3,10 @@ use Rattle.std.proofs.Math.Seq.{drop-cons}
 use Rattle.std.proofs.lemmas.List.{drop_all}
 use Rattle.tsa_tree.specs.expressions.Shapes.{shape}
 use Rattle.tsa_tree.specs.statements.Shapes.{stmt_shapes, init_given, step_given}
-use Rattle.tsa_tree.specs.types.Symbols.{names_in, names_in_statement}
-use Rattle.tsa_types_expressions.proofs.SymbolLaws.{noted, noted_append}
-use Rattle.tsa_types_statements.proofs.StatementNames as names
-use Rattle.tsa_types_statements.proofs.StatementNames.{block_names}
+use Rattle.tsa_types_row.specs.BodyRows.{row_in_statement, row_in_test}
+use Rattle.tsa_types_expressions.proofs.RowLaws.{noted, noted_append}
+use Rattle.tsa_types_statements.proofs.StatementRows as rows
+use Rattle.tsa_types_statements.proofs.StatementRows.{block_row, test_kept}
 use Rattle.tsa_types_expressions.specs.Judgements.{Judges}
 use Rattle.tsa_tree.specs.types.Premises.{first}
 use Rattle.tsa_tree.specs.types.Scopes.{context_of}
@@ -48,10 +48,10 @@ statements-each-preserved t c =
       behind =
           behind_next c.args.around.now c.each.self.scope c.args.items.now c.each.stmt-index _ at c.statement.new.self.scope c.in_default.ensures.behind
           ∙ c.each.invariant.behind;
-      names =
-          names.statements_next c.each.self.symbols c.each.self.scope c.args.around.now.function c.args.items.now c.each.stmt-index _ at c.statement.new.self.scope
-          c.statement.new.self.symbols c.in_default.ensures.behind c.in_default.ensures.names
-          ∙ c.each.invariant.names;
+      nodes =
+          rows.statements_next c.each.self.row c.each.self.scope c.args.around.now.function c.args.items.now c.each.stmt-index _ at c.statement.new.self.scope
+          c.statement.new.self.row c.in_default.ensures.behind c.in_default.ensures.nodes
+          ∙ c.each.invariant.nodes;
       low = omega (arith, ap (λ xs. talls (stmt_shapes xs)) at, c.each.invariant.low, ap (λ j. talls (stmt_shapes (drop j c.args.items.now))) (plus_one c.each.stmt-index));
     }
 
@@ -65,18 +65,18 @@ statements-returns-clause-behind t c =
     sym (behind_end c.args.around.now c.each.self.scope c.args.items.now c.each.stmt-index (drop_all c.each.stmt-index c.args.items.now c.each-test.false))
     ∙ c.each.invariant.behind
 
-pub statements-returns-clause-names : goal.statements-returns-clause-names
-statements-returns-clause-names t c =
-    sym (names.statements_end c.each.self.symbols c.each.self.scope c.args.around.now.function c.args.items.now c.each.stmt-index
+pub statements-returns-clause-nodes : goal.statements-returns-clause-nodes
+statements-returns-clause-nodes t c =
+    sym (rows.statements_end c.each.self.row c.each.self.scope c.args.around.now.function c.args.items.now c.each.stmt-index
     (drop_all c.each.stmt-index c.args.items.now c.each-test.false))
-    ∙ c.each.invariant.names
+    ∙ c.each.invariant.nodes
 
-pub statement-returns-in-Block-clause-names : goal.statement-returns-in-Block-clause-names
-statement-returns-in-Block-clause-names t c =
-    subst (λ x. OnOk c.block.result (c.block.new.self.symbols ≡ x))
-    (sym (ap (λ s. noted c.args.self.now.symbols (names_in_statement c.args.self.now.scope c.args.around.now.function s)) (block_at c.args.stmt.now c.in-Block.items c.in-Block.is)
-    ∙ ap (noted c.args.self.now.symbols) (block_names c.args.self.now.scope c.args.around.now.function _ _)))
-    c.block.ensures.names
+pub statement-returns-in-Block-clause-nodes : goal.statement-returns-in-Block-clause-nodes
+statement-returns-in-Block-clause-nodes t c =
+    subst (λ x. OnOk c.block.result (c.block.new.self.row ≡ x))
+    (sym (ap (λ s. noted c.args.self.now.row (row_in_statement c.args.self.now.scope c.args.around.now.function s)) (block_at c.args.stmt.now c.in-Block.items c.in-Block.is)
+    ∙ ap (noted c.args.self.now.row) (block_row c.args.self.now.scope c.args.around.now.function _ _)))
+    c.block.ensures.nodes
 
 pub statement-block-requires : goal.statement-block-requires
 statement-block-requires t c = (omega (arith, ap tall (block_at c.args.stmt.now c.in-Block.items c.in-Block.is)), tt)
@@ -99,15 +99,16 @@ do_loop-returns-clause-judged t c =
     c.in_ok-wrong.ensures.judged c.in_a_loop.ensures c.in_default.ensures.judged c.after.new.self.scope (declared_in (shape_of c.args.body.now)) c.in_default.ensures.behind
     c.evaluate.result c.evaluate.ensures.judged
 
-pub do_loop-returns-clause-names : goal.do_loop-returns-clause-names
-do_loop-returns-clause-names t c =
+pub do_loop-returns-clause-nodes : goal.do_loop-returns-clause-nodes
+do_loop-returns-clause-nodes t c =
     let here = c.args.self.now.scope in
     let function = c.args.around.now.function in
-    let inside = names_in (context_of here) function (shape c.args.tail.test.now) in
-    subst (λ n. OnOk c.evaluate.result (c.evaluate.new.self.symbols ≡ n))
-    (ap (λ a. noted c.after.new.self.symbols (names_in (context_of c.after.new.self.scope) a.function (shape c.args.tail.test.now))) c.around.view_is
-    ∙ ap (λ s. noted c.after.new.self.symbols (names_in (context_of s) function (shape c.args.tail.test.now))) c.in_default.ensures.behind
-    ∙ ap (λ n. noted n inside) c.in_default.ensures.names
-    ∙ ap (λ b. noted (noted c.args.self.now.symbols (names_in_statement here b.function (shape_of c.args.body.now))) inside) c.in_a_loop.ensures
-    ∙ sym (noted_append c.args.self.now.symbols (names_in_statement here function (shape_of c.args.body.now)) inside))
-    c.evaluate.ensures.names
+    let inside = row_in_test here function (shape c.args.tail.test.now) in
+    subst (λ n. OnOk c.evaluate.result (c.evaluate.new.self.row ≡ n))
+    (ap (λ a. noted c.after.new.self.row (row_in_test c.after.new.self.scope a.function (shape c.args.tail.test.now))) c.around.view_is
+    ∙ ap (λ s. noted c.after.new.self.row (row_in_test s function (shape c.args.tail.test.now))) c.in_default.ensures.behind
+    ∙ ap (noted c.after.new.self.row) (test_kept here function (declared_in (shape_of c.args.body.now)) (shape c.args.tail.test.now))
+    ∙ ap (λ n. noted n inside) c.in_default.ensures.nodes
+    ∙ ap (λ b. noted (noted c.args.self.now.row (row_in_statement here b.function (shape_of c.args.body.now))) inside) c.in_a_loop.ensures
+    ∙ sym (noted_append c.args.self.now.row (row_in_statement here function (shape_of c.args.body.now)) inside))
+    c.evaluate.ensures.nodes
