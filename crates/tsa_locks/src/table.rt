@@ -1,5 +1,5 @@
 //! A table of locks: for each lock its owner, and for each thread how often it shares the lock. No call but `new` takes memory.
-ghost use Rattle.std.specs.Prelude.{◌≡◌, ℕ, ◌*◌, ◌+◌, ◌<◌, length, Some, None, IsSome, get_or, IfOk};
+ghost use Rattle.std.specs.Prelude.{◌≡◌, ℕ, ◌*◌, ◌+◌, ◌<◌, nat_lt, length, Some, None, IsSome, get_or, IfOk};
 ghost use Rattle.tsa_locks.specs.declared.table.Owner.{Owner};
 
 use std::alloc::Global;
@@ -54,6 +54,13 @@ impl LockTable {
             owners,
             counts,
         })
+    }
+
+    /// Whether a lock is in the table.
+    pub fn has(&self, lock: u32) -> bool
+        ensures { result ≡ nat_lt lock (locks_of self.now) }
+    {
+        (lock as usize) < self.owners.len()
     }
 
     /// How often a thread shares a lock.
