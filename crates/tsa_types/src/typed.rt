@@ -15,7 +15,7 @@ use tsa_tree::expr::Name;
 use tsa_tree::item::UnitTree;
 use tsa_tree::meaning::Symbol;
 use tsa_types_expressions::TypeRefusal;
-use tsa_types_row::{Node, Row};
+use tsa_types_row::Row;
 
 /// A unit that is well read and of which no node fails a premise of types, and its row.
 #[derive(Drop)]
@@ -35,11 +35,11 @@ impl<'a> Typed<'a> {
         self.unit
     }
 
-    /// The nodes of the unit's row: its expressions and the points of its bodies, each in front of its parts.
-    pub fn nodes(&self) -> &[Node]
+    /// The row of the unit: its expressions and the points of its bodies as nodes, each in front of its parts.
+    pub fn row(&self) -> &Row
         ensures { result.now ≡ row_in_unit (item_shapes self.now.unit.now.items.now) }
     {
-        self.row.nodes()
+        &self.row
     }
 
     /// What a name means: none where its span is no use and no declaration of a global, a local, a function or an enumerator.

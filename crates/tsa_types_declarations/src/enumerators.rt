@@ -90,8 +90,8 @@ fn worth(
 }
 
 /// Puts the name of an enumerator that is worth this, and then the nodes of its value.
-fn put_enumerator(row: &mut Row, span: Span, worth: i32, inside: &Row) -> Result<(), NoMemory>
-    ensures { OnOk result (row.new ≡ row.old ++ (declared_row (Symbol.Constant worth) span ++ inside.now)) }
+fn put_enumerator(row: &mut Row, span: Span, worth: i32, inside: &mut Row) -> Result<(), NoMemory>
+    ensures { OnOk result (row.new ≡ row.old ++ (declared_row (Symbol.Constant worth) span ++ inside.old)) }
 {
     let name = Mark::new(Op::Declared(Symbol::Constant(worth)), span);
     row.leaf(bare_node(name))?;
@@ -120,7 +120,7 @@ fn declare_enumerator<'a>(
             if !scope.declare(enumerator.name.text, enumerator_entry(value))? {
                 return Err(refused(again));
             }
-            put_enumerator(row, enumerator.name.span, value, &inside)?;
+            put_enumerator(row, enumerator.name.span, value, &mut inside)?;
             Ok(value)
         }
         Err(failure) => {

@@ -1,5 +1,5 @@
 -- Members that are found with their numbers are those that are found by their names.
-use Rattle.std.proofs.Common.{◌≡◌, ◌∙◌, ℕ, suc, List, [], ◌∷◌, Option, Some, None, option_map, Bool, true, false, if◌then◌else◌, refl, sym, ap}
+use Rattle.std.proofs.Common.{◌≡◌, ℕ, suc, List, [], ◌∷◌, Option, Some, option_map, Bool, true, false, if◌then◌else◌, refl}
 use Rattle.std.specs.Str.{bytes_eq}
 use Rattle.tsa_tree.specs.types.Lookups.{numbered}
 use Rattle.tsa_tree.specs.types.Scopes.{found}

@@ -1,6 +1,6 @@
 -- Rows of nodes one behind the other.
 use native.Mathlib.Numerals.{unary_clauses}
-use Rattle.std.proofs.Common.{◌≡◌, ◌∙◌, ◌+◌, ◌-◌, ℕ, zero, suc, arith, Option, Result, Ok, Err, List, [], ◌∷◌, ◌++◌, drop, length, slice_set, refl, sym, ap}
+use Rattle.std.proofs.Common.{◌≡◌, ◌∙◌, ◌+◌, ◌-◌, ℕ, suc, arith, Option, Result, Ok, Err, List, [], ◌∷◌, ◌++◌, drop, length, slice_set, refl, sym, ap}
 use Rattle.std.proofs.lemmas.List.{append-nil, append_assoc}
 use Rattle.tsa_base.proofs.Numbers.{plus_one}
 use Rattle.tsa_tree.specs.declared.attr.Attr.{Attr}
@@ -22,7 +22,7 @@ use Rattle.tsa_types_row.specs.Rows.{sized, framed, hole, closed}
 use Rattle.tsa_types_row.specs.declared.node.Node.{Node}
 use Rattle.tsa_types_row.specs.declared.node.Op.{Op}
 use Rattle.tsa_types_row.specs.ExpressionRows.{args_count, callee_node, op_in, node_span, node_in, type_or_bare, row_in, row_in_all}
-use Rattle.tsa_types_expressions.specs.Found.{found_in, found_value, with_constant, constant_in}
+use Rattle.tsa_types_expressions.specs.Found.{found_in, found_value, constant_in}
 use Rattle.tsa_types_expressions.specs.Parts.{found_thing}
 use Rattle.tsa_types_expressions.specs.RowParts.{thing_or_bare, found_node, parts_in}
 use Rattle.tsa_types_expressions.specs.Verdicts.{verdict_of}

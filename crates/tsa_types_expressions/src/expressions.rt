@@ -70,7 +70,9 @@ impl<'w, 'a> View<'w, 'a> {
     ghost use Rattle.std.specs.Prelude.{◌++◌, not, nat_eq, length, IfOk, OnOk};
     ghost use Rattle.tsa_tree.specs.expressions.Shapes.{name_shape, shape, shapes};
     ghost use Rattle.tsa_tree.specs.types.Expressions.{types_of, arguments_break};
-    ghost use Rattle.tsa_tree.specs.types.Scopes.{context_of};
+    ghost use Rattle.tsa_tree.specs.expressions.Syntax.{named};
+    ghost use Rattle.tsa_tree.specs.types.Scopes.{context_of, known_in};
+    ghost use Rattle.tsa_types_row.specs.ExpressionRows.{name_op as spec_name_op};
     ghost use Rattle.tsa_types_row.specs.BodyRows.{aside, marked_row};
     ghost use Rattle.tsa_types_expressions.specs.Found.{found_in};
     ghost use Rattle.tsa_types_expressions.specs.Parts.{field_part, found_thing, params_seen};
@@ -124,6 +126,18 @@ impl<'w, 'a> View<'w, 'a> {
         Part::new(op, access.span, found)
     }
 
+    /// A name that stands alone.
+    #[tactic(auto, using(crate::proofs::FoundLaws::steps))]
+    fn named(self, name: Name<'_>) -> Part
+        ensures op { result.mark.op ≡ spec_name_op self.entry.function (known_in self.entry.scope.now name.entry.text.now) }
+        ensures span { result.mark.span ≡ name.entry.span }
+        ensures found { result.found ≡ found_in (context_of self.entry.scope.now) (named (name_shape name.entry) name.entry.span) }
+    {
+        let entry = self.scope.known(name.text);
+        let op = name_op(self.function, entry);
+        Part::new(op, name.span, name_verdict(name.span, entry))
+    }
+
     /// What an expression is found to be, or the first premise that fails in it. It is put into the row, in front of its parts.
     #[cycle(typing)]
     #[tactic(auto, using(crate::proofs::RowLaws::notes, crate::proofs::RowLaws::whole))]
@@ -137,7 +151,7 @@ impl<'w, 'a> View<'w, 'a> {
     {
         let place = row.open()?;
         let part = self.parts(row, expr)?;
-        row.close(place, found_node(part.mark, part.found));
+        row.close(place, found_node(part.mark, part.found))?;
         Ok(part.found)
     }
 
@@ -156,11 +170,7 @@ impl<'w, 'a> View<'w, 'a> {
                 Ok(Part::new(Op::Number, span, Ok(number(*value, *unsigned))))
             }
             ExprKind::Null => Ok(Part::new(Op::Null, span, Ok(null()))),
-            ExprKind::Named(name) => {
-                let entry = self.scope.known(name.text);
-                let op = name_op(self.function, entry);
-                Ok(Part::new(op, name.span, name_verdict(name.span, entry)))
-            }
+            ExprKind::Named(name) => Ok(self.named(*name)),
             ExprKind::Call { callee, args } => {
                 let entry = self.scope.known(callee.text);
                 row.leaf(callee_node(self.function, *callee, entry))?;
@@ -175,11 +185,8 @@ impl<'w, 'a> View<'w, 'a> {
             ExprKind::Binary { op, left, right } => {
                 let left = self.expression(row, left)?;
                 let right = self.expression(row, right)?;
-                Ok(Part::new(
-                    Op::Binary(*op),
-                    span,
-                    binary_verdict(*op, span, left, right),
-                ))
+                let found = binary_verdict(*op, span, left, right);
+                Ok(Part::new(Op::Binary(*op), span, found))
             }
             ExprKind::Field { base, name, arrow } => {
                 let base = self.expression(row, base)?;
@@ -243,7 +250,7 @@ impl<'w, 'a> View<'w, 'a> {
     {
         let place = row.open()?;
         let found = self.expression(row, expr)?;
-        row.close(place, bare_node(mark));
+        row.close(place, bare_node(mark))?;
         Ok(found)
     }
 

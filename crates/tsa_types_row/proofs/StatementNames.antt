@@ -1,5 +1,5 @@
 -- The names of the rows of statements are those of the statements.
-use Rattle.std.proofs.Common.{◌≡◌, ◌∙◌, ℕ, List, [], ◌∷◌, ◌++◌, Option, Some, None, refl, sym, ap}
+use Rattle.std.proofs.Common.{◌≡◌, ◌∙◌, ℕ, ◌∷◌, ◌++◌, Option, Some, None, refl, ap}
 use Rattle.std.proofs.lemmas.List.{append-nil}
 use Rattle.tsa_base.specs.declared.token.Span.{Span}
 use Rattle.tsa_tree.specs.declarations.Syntax.{Declaration}
@@ -12,14 +12,14 @@ use Rattle.tsa_tree.specs.statements.Syntax.{label, break, continue, goto, retur
 use Rattle.tsa_tree.specs.types.Scopes.{Scope, context_of, further}
 use Rattle.tsa_tree.specs.types.Statements.{behind_init, behind}
 use Rattle.tsa_tree.specs.types.Symbols.{names_in, names_in_given, names_in_local, names_in_simple, names_in_for_init, names_in_step, names_in_for}
-use Rattle.tsa_tree.specs.types.Symbols.{names_in_leaf, names_in_statement, names_in_statements}
+use Rattle.tsa_tree.specs.types.Symbols.{names_in_statement, names_in_statements}
 use Rattle.tsa_tree.specs.types.Targets.{declared_in}
 use Rattle.tsa_types_row.specs.BodyRows.{alone_row, aside, marked_row, local_parts, row_in_local, row_in_simple, row_in_for_init, row_in_step, row_in_test}
-use Rattle.tsa_types_row.specs.BodyRows.{row_in_given_test, row_in_for, row_in_return, row_in_leaf, row_in_statement, row_in_statements, row_in_body}
+use Rattle.tsa_types_row.specs.BodyRows.{row_in_given_test, row_in_for, row_in_return, row_in_statement, row_in_statements, row_in_body}
 use Rattle.tsa_types_row.specs.ExpressionRows.{row_in}
 use Rattle.tsa_types_row.specs.Rows.{names_read}
 use Rattle.tsa_types_row.specs.declared.node.Op.TheVariants as op
-use Rattle.tsa_types_row.proofs.ExpressionNames.{both, names, aside_names, local_names}
+use Rattle.tsa_types_row.proofs.ExpressionNames.{both, names, local_names}
 
 module _ (f : ℕ) where
   -- an expression behind a point

@@ -1,5 +1,5 @@
 -- The names of the row of a unit are those of the unit.
-use Rattle.std.proofs.Common.{◌≡◌, ◌∙◌, ℕ, ℤ, ◌+ℤ◌, pos, suc, Bool, true, false, List, [], ◌∷◌, ◌++◌, Option, Some, None, refl, sym, ap}
+use Rattle.std.proofs.Common.{◌≡◌, ℕ, ℤ, ◌+ℤ◌, pos, suc, Bool, true, false, List, [], ◌∷◌, ◌++◌, Option, Some, None, refl, ap}
 use Rattle.tsa_tree.specs.declarations.Syntax.{Declaration, Parameter, EnumConstant, Head}
 use Rattle.tsa_tree.specs.declared.meaning.Symbol.TheVariants as symbol
 use Rattle.tsa_tree.specs.expressions.Syntax.{Identifier}

@@ -1,7 +1,7 @@
 -- Rows as units are written: what each node is, and how many nodes it is with its parts.
 use Rattle.std.specs.Prelude.{◌≡◌, ℕ, pos, true, false, List, [], ◌∷◌, map, Option, Some, None, codes}
 use Rattle.tsa_lex.specs.Quick.{quick_tokens_of}
-use Rattle.tsa_tree.specs.declared.expr.BinaryOp.TheVariants.{Plus, Times}
+use Rattle.tsa_tree.specs.declared.expr.BinaryOp.TheVariants.{Plus}
 use Rattle.tsa_tree.specs.declared.expr.UnaryOp.TheVariants.{Not, Address}
 use Rattle.tsa_tree.specs.declared.kind.Kind.{Kind}
 use Rattle.tsa_tree.specs.declared.kind.Kind.TheVariants as type

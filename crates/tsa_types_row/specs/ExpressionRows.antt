@@ -1,5 +1,5 @@
 -- The rows of expressions (C11 6.5): each node in front of its parts, with its type and what it is worth.
-use Rattle.std.specs.Prelude.{ℕ, zero, suc, Bool, false, ◌&&◌, List, [], ◌∷◌, ◌++◌, Option, Some, None, option_and_then}
+use Rattle.std.specs.Prelude.{ℕ, zero, suc, Bool, false, ◌&&◌, List, [], ◌++◌, Option, Some, None, option_and_then}
 use Rattle.tsa_base.specs.declared.token.Span.{Span}
 use Rattle.tsa_tree.specs.declared.kind.ExpressionType.{ExpressionType}
 use Rattle.tsa_tree.specs.declared.kind.Kind.TheVariants as type

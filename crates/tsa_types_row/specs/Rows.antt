@@ -1,7 +1,6 @@
 -- Rows of nodes: each node stands in front of its parts, and says how many nodes it is with them.
-use Rattle.std.specs.Prelude.{ℕ, suc, ◌-◌, false, List, [], ◌∷◌, ◌++◌, length, Option, Some, None, slice_set}
+use Rattle.std.specs.Prelude.{ℕ, suc, ◌-◌, List, ◌∷◌, length, Option, Some, None, slice_set}
 use Rattle.std.specs.List.{flat_map}
-use Rattle.tsa_base.specs.declared.token.Span.{Span}
 use Rattle.tsa_tree.specs.declared.meaning.Symbol.{Symbol}
 use Rattle.tsa_tree.specs.expressions.Syntax.{nowhere}
 use Rattle.tsa_tree.specs.types.Symbols.{Names, name_at}

@@ -1,19 +1,19 @@
 //! The row of a unit: its expressions and the points of its bodies as nodes, each in front of its parts.
-ghost use Rattle.std.specs.Prelude.{◌≡◌, ◌++◌, ◌∷◌, [], length, OnOk, OnErr, IfOk};
+ghost use Rattle.std.specs.Prelude.{◌≡◌, ◌++◌, ◌∷◌, [], length, slice_get, OnOk, OnErr, IfOk};
 ghost use Rattle.tsa_tree.specs.types.Symbols.{symbol_in};
 ghost use Rattle.tsa_types_row.specs.Rows.{framed, hole, closed, names_read, op_symbol};
 
+use crate::kept::Kept;
 use crate::node::{Node, Op};
 use std::alloc::Global;
 use std::marker::Model;
 use tsa_base::{NoMemory, Span};
-use tsa_tree::kind::{ExpressionType, Kind, ThingType};
 use tsa_tree::meaning::Symbol;
 
 /// Nodes in the order of the text, each in front of its parts. Contracts see the list of them.
 #[derive(Drop)]
 pub struct Row {
-    nodes: Vec<Node>,
+    nodes: Vec<Kept>,
 }
 
 impl Model for Row {
@@ -36,27 +36,6 @@ fn op_meaning(op: Op) -> Option<Symbol>
     }
 }
 
-/// What stands in front of parts until their node is known.
-fn hole() -> Node
-    ensures { result ≡ hole }
-{
-    Node {
-        op: Op::Aside,
-        thing: ExpressionType {
-            thing: ThingType {
-                kind: Kind::Void,
-                length: None,
-                is_const: false,
-            },
-            is_place: false,
-            is_zero: false,
-        },
-        worth: None,
-        size: 1,
-        span: Span { from: 0, to: 0 },
-    }
-}
-
 impl Row {
     /// No nodes. No memory is taken.
     pub fn new(alloc: Global) -> Row
@@ -67,11 +46,26 @@ impl Row {
         }
     }
 
-    /// The nodes, in order.
-    pub fn nodes(&self) -> &[Node]
-        ensures { result.now ≡ self.now }
+    /// The allocator that the nodes are kept by.
+    fn allocator(&self) -> Global {
+        *self.nodes.allocator()
+    }
+
+    /// How many nodes there are.
+    pub fn len(&self) -> usize
+        ensures { result ≡ length self.now }
     {
-        &self.nodes
+        self.nodes.len()
+    }
+
+    /// The node of a number.
+    pub fn get(&self, at: usize) -> Option<Node>
+        ensures { result ≡ slice_get self.now at }
+    {
+        match self.nodes.get(at) {
+            Some(kept) => Some(kept.whole()),
+            None => None,
+        }
     }
 
     /// What the first name means that begins where a span does, if it ends there too. It goes along the row.
@@ -80,9 +74,10 @@ impl Row {
         ensures { result ≡ symbol_in (names_read self.now) span }
     {
         'each: for node in &self.nodes {
-            if let Some(symbol) = op_meaning(node.op) {
-                if node.span.from == span.from {
-                    return if node.span.to == span.to {
+            if let Some(symbol) = op_meaning(node.op()) {
+                let found = node.span();
+                if found.from == span.from {
+                    return if found.to == span.to {
                         Some(symbol)
                     } else {
                         None
@@ -98,7 +93,8 @@ impl Row {
         ensures put { OnOk result (self.new ≡ self.old ++ framed node []) }
         ensures refused { OnErr result (self.new ≡ self.old) }
     {
-        self.nodes.push(node.sized(1))?;
+        let kept = Kept::new(self.allocator(), &node, 1)?;
+        self.nodes.push(kept)?;
         Ok(())
     }
 
@@ -109,25 +105,28 @@ impl Row {
         ensures refused { OnErr result (self.new ≡ self.old) }
     {
         let at = self.nodes.len();
-        self.nodes.push(hole())?;
+        self.nodes.push(Kept::hole())?;
         Ok(at)
     }
 
     /// Puts a node into its room, in front of the parts that came since.
-    pub fn close(&mut self, at: usize, node: Node)
-        ensures { self.new ≡ closed at node self.old }
+    pub fn close(&mut self, at: usize, node: Node) -> Result<(), NoMemory>
+        ensures put { OnOk result (self.new ≡ closed at node self.old) }
+        ensures refused { OnErr result (self.new ≡ self.old) }
     {
         let size = self.nodes.len().saturating_sub(at);
+        let kept = Kept::new(self.allocator(), &node, size)?;
         if let Some(room) = self.nodes.get_mut(at) {
-            *room = node.sized(size);
+            *room = kept;
         }
+        Ok(())
     }
 
-    /// Puts the nodes of another row, in their order. A refused call may have put the first of them.
-    pub fn append(&mut self, other: &Row) -> Result<(), NoMemory>
-        ensures { OnOk result (self.new ≡ self.old ++ other.now) }
+    /// Moves the nodes of another row behind its own. A refused call may have moved the first of them.
+    pub fn append(&mut self, other: &mut Row) -> Result<(), NoMemory>
+        ensures { OnOk result (self.new ≡ self.old ++ other.old) }
     {
-        self.nodes.extend_from_slice(&other.nodes)?;
+        self.nodes.append(&mut other.nodes)?;
         Ok(())
     }
 }

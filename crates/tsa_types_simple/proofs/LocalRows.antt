@@ -1,5 +1,5 @@
 -- The rows of locals, part by part.
-use Rattle.std.proofs.Common.{◌≡◌, ◌∙◌, ℕ, List, [], ◌∷◌, ◌++◌, length, refl, sym, ap}
+use Rattle.std.proofs.Common.{◌≡◌, ◌∙◌, ℕ, [], ◌∷◌, ◌++◌, length, refl, sym, ap}
 use Rattle.tsa_base.specs.declared.token.Span.{Span}
 use Rattle.tsa_tree.specs.declarations.Syntax.{Declaration, Initialisers, list}
 use Rattle.tsa_tree.specs.declared.meaning.Symbol.TheVariants as symbol

@@ -115,7 +115,7 @@ fn assignment(
     let place = row.open()?;
     let left = view.expression(row, sides.left)?;
     let right = view.expression(row, sides.right)?;
-    row.close(place, bare_node(mark));
+    row.close(place, bare_node(mark))?;
     Ok(SidesFound { left, right })
 }
 

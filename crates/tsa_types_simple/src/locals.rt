@@ -217,7 +217,7 @@ pub fn declare_local<'a>(
     let refused = view.is_refused(Declaring::Thing, written.resolved);
     let attributes = view.attributes(row, Bearer::Local, decl.attrs)?;
     let init = initial_of(view, row, written.thing, decl.init.as_ref())?;
-    row.close(place_of_node, local_node(number, decl, written.thing));
+    row.close(place_of_node, local_node(number, decl, written.thing))?;
     let entry = Entry {
         meaning: Meaning::Local(number),
         thing: written.thing,

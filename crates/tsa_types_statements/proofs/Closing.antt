@@ -11,7 +11,6 @@ use Rattle.tsa_tree.specs.types.Heads as head
 use Rattle.tsa_tree.specs.declared.meaning.Meaning.TheVariants as known
 use Rattle.tsa_tree.specs.declared.meaning.Entry.{Entry}
 use Rattle.tsa_tree.specs.declared.meaning.Meaning.{Meaning}
-use Rattle.tsa_tree.specs.types.Locals.{local_entry}
 use Rattle.tsa_tree.specs.types.Scopes.{Scope, FunctionEntry, found, with_names, with_named, with_locals, further}
 use Rattle.tsa_tree.specs.types.Statements.{behind_init, behind, behind_all}
 use Rattle.tsa_tree.specs.types.Targets.{declared_by_init, declared_in, declared_in_all}

@@ -10,7 +10,7 @@ returns-clause-nodes c =
     let left = row_in c.args.view.scope.now c.args.view.function (shape c.args.sides.left.now) in
     let right = row_in c.args.view.scope.now c.args.view.function (shape c.args.sides.right.now) in
     let notes = c.args.row.now in
-    c.close.ensures
+    c.in_ok-close.ensures.put
     ∙ closed_is notes c.in_ok-place.place c.bare_node.result (left ++ right) c.expression-2.new.row c.in_ok-place.ensures.number
     (c.in_ok-right.ensures.nodes
     ∙ ap (λ r. noted r right) c.in_ok-left.ensures.nodes

@@ -5,7 +5,6 @@ use Rattle.tsa_tree.proofs.declarations.Trees.{list_at}
 use Rattle.tsa_tree.specs.declarations.Shapes.{init_shapes}
 use Rattle.tsa_tree.specs.types.Locals.{names_in_init as premises_in_init, names_in_items as premises_in_items}
 use Rattle.tsa_tree.specs.types.Premises.{or_else, first}
-use Rattle.tsa_tree.specs.types.Scopes.{context_of}
 use Rattle.tsa_types_row.specs.BodyRows.{aside_init}
 use Rattle.tsa_types_expressions.proofs.RowLaws.{noted, noted_list, items_end, items_next}
 use Rattle.tsa_types_simple.proofs.LocalLaws.{names_list, names_end, names_next}

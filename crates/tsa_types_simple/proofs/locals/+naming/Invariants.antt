@@ -2,7 +2,6 @@ use Rattle.std.proofs.Common.{◌≡◌, drop}
 use Rattle.tsa_tree.specs.declarations.Shapes.{init_shapes}
 use Rattle.tsa_tree.specs.types.Locals.{names_in_items as premises_in_items}
 use Rattle.tsa_tree.specs.types.Premises.{or_else, first}
-use Rattle.tsa_tree.specs.types.Scopes.{context_of}
 use Rattle.tsa_types_row.specs.BodyRows.{aside_items}
 use Rattle.tsa_types_expressions.proofs.RowLaws.{noted}
 use Rattle.tsa_types_simple.proofs.locals.+naming.Given as goal

@@ -40,7 +40,7 @@ returns-clause-nodes c =
     let here = c.args.scope.now in
     let f = c.args.function in
     let d = decl_shape c.args.decl.now in
-    c.close.ensures
+    c.in_ok-close.ensures.put
     ∙ local_row here f d c.args.row.now c.open.new.self c.leaf.new.self c.written.new.row c.attributes.new.row c.initial_of.new.row
     c.in_ok-place_of_node.place_of_node c.local_node.result
     c.in_ok-place_of_node.ensures.number

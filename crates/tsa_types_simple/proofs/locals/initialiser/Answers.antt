@@ -3,7 +3,6 @@ use Rattle.tsa_tree.proofs.declarations.Trees.{list_at}
 use Rattle.tsa_tree.specs.declarations.Shapes.{init_shapes}
 use Rattle.tsa_tree.specs.types.Locals.{can_not_go, names_in_init as premises_in_init}
 use Rattle.tsa_tree.specs.types.Premises.{first}
-use Rattle.tsa_tree.specs.types.Scopes.{context_of}
 use Rattle.tsa_types_row.specs.BodyRows.{row_in_init}
 use Rattle.tsa_types_expressions.proofs.RowLaws.{noted}
 use Rattle.tsa_types_simple.proofs.LocalRows.{init_list}

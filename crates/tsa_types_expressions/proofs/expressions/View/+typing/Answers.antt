@@ -59,7 +59,7 @@ expression-returns-clause-nodes t c =
     let f = c.args.self.function in
     let e = shape c.args.expr.now in
     let done = c.in_ok-part.ensures in
-    c.close.ensures
+    c.in_ok-close.ensures.put
     ∙ closed_is c.args.row.now c.in_ok-place.place c.found_node.result (parts_in here f e) c.parts.new.row c.in_ok-place.ensures.number
     (done.nodes ∙ ap (λ r. r ++ parts_in here f e) c.in_ok-place.ensures.put)
     ∙ ap (λ n. noted c.args.row.now (framed n (parts_in here f e)))
@@ -71,7 +71,7 @@ parts-returns-in_ok-told-in-Call-clause-op t c =
     let here = c.args.self.scope.now in
     ap (λ p. p.mark.op) c.new-in-Call.ensures
     ∙ c.call_op.ensures
-    ∙ ap (λ entry. call_op entry (length c.in-Call.args.now)) c.known-entry-in-Call.ensures
+    ∙ ap (λ entry. call_op entry (length c.in-Call.args.now)) c.known-entry.ensures
     ∙ ap (call_op (known_in here c.in-Call.callee.text.now)) (sym (count_is c.in-Call.args.now))
     ∙ sym (ap (op_in here c.args.self.function) (call_at c.args.expr.now c.in-Call.callee c.in-Call.args c.in-Call.is))
 
@@ -83,7 +83,7 @@ parts-returns-in_ok-told-in-Call-clause-found t c =
     ap (λ p. p.found) c.new-in-Call.ensures
     ∙ c.call_verdict-found.ensures
     ∙ sym (ap (found_in known) (call_at c.args.expr.now c.in-Call.callee c.in-Call.args c.in-Call.is)
-    ∙ call_found known (name_shape c.in-Call.callee) c.in-Call.args.now c.args.expr.now.span told.told c.known-entry-in-Call.result c.known-entry-in-Call.ensures
+    ∙ call_found known (name_shape c.in-Call.callee) c.in-Call.args.now c.args.expr.now.span told.told c.known-entry.result c.known-entry.ensures
     (told.ensures.breaks ∙ ap (λ ps. arguments_break ps (types_of known (shapes c.in-Call.args.now))) params)
     (told.ensures.miscounts ∙ ap (λ ps. not (nat_eq (length ps) (length c.in-Call.args.now))) params)
     told.ensures.failure)
@@ -96,7 +96,7 @@ parts-returns-in_ok-told-in-Call-clause-nodes t c =
     c.in_ok-told-in-Call.ensures.nodes
     ∙ ap (λ r. noted r rest) c.in_ok-leaf-in-Call.ensures.put
     ∙ ap (λ n. noted (noted c.args.row.now (framed n [])) rest)
-    (c.callee_node.ensures ∙ ap (callee_node f (name_shape c.in-Call.callee)) c.known-entry-in-Call.ensures)
+    (c.callee_node.ensures ∙ ap (callee_node f (name_shape c.in-Call.callee)) c.known-entry.ensures)
     ∙ sym (ap (λ e. noted c.args.row.now (parts_in here f e)) (call_at c.args.expr.now c.in-Call.callee c.in-Call.args c.in-Call.is)
     ∙ noted_call here f c.args.row.now (name_shape c.in-Call.callee) (shapes c.in-Call.args.now) c.args.expr.now.span)
 

@@ -4,7 +4,6 @@ use Rattle.std.proofs.lemmas.List.{drop_all}
 use Rattle.tsa_tree.specs.attributes.Syntax.{attr_shapes}
 use Rattle.tsa_tree.specs.types.Attributes.{attributes_premises}
 use Rattle.tsa_tree.specs.types.Premises.{or_else, first}
-use Rattle.tsa_tree.specs.types.Scopes.{context_of}
 use Rattle.tsa_types_expressions.proofs.LockLaws.{attrs_end, attrs_next}
 use Rattle.tsa_types_expressions.proofs.RowLaws.{attributes_end, attributes_next}
 use Rattle.tsa_types_expressions.proofs.expressions.View.attributes.Goals as goal

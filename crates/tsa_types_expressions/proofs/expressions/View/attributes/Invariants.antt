@@ -2,7 +2,6 @@ use Rattle.std.proofs.Common.{◌≡◌, drop}
 use Rattle.tsa_tree.specs.attributes.Syntax.{attr_shapes}
 use Rattle.tsa_tree.specs.types.Attributes.{attributes_premises}
 use Rattle.tsa_tree.specs.types.Premises.{or_else, first}
-use Rattle.tsa_tree.specs.types.Scopes.{context_of}
 use Rattle.tsa_types_row.specs.BodyRows.{aside_attributes}
 use Rattle.tsa_types_expressions.proofs.RowLaws.{noted}
 use Rattle.tsa_types_expressions.proofs.expressions.View.attributes.Given as goal

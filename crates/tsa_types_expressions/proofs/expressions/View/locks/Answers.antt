@@ -4,7 +4,6 @@ use Rattle.std.proofs.lemmas.List.{drop_all}
 use Rattle.tsa_tree.specs.expressions.Shapes.{shapes}
 use Rattle.tsa_tree.specs.types.Attributes.{lock_premises}
 use Rattle.tsa_tree.specs.types.Premises.{or_else, first}
-use Rattle.tsa_tree.specs.types.Scopes.{context_of}
 use Rattle.tsa_types_expressions.proofs.LockLaws.{locks_end, locks_next}
 use Rattle.tsa_types_expressions.proofs.RowLaws.{asides_end, asides_next}
 use Rattle.tsa_types_expressions.proofs.expressions.View.locks.Goals as goal

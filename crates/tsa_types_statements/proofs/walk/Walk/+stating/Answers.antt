@@ -9,7 +9,6 @@ use Rattle.tsa_types_statements.proofs.StatementRows as rows
 use Rattle.tsa_types_statements.proofs.StatementRows.{block_row, test_kept}
 use Rattle.tsa_types_expressions.specs.Judgements.{Judges}
 use Rattle.tsa_tree.specs.types.Premises.{first}
-use Rattle.tsa_tree.specs.types.Scopes.{context_of}
 use Rattle.tsa_tree.specs.types.Statements.{statement_premises, behind}
 use Rattle.tsa_tree.specs.types.Targets.{declared_in}
 use Rattle.tsa_types_statements.proofs.StatementLaws.{block_wrong, block_behind, do_stops, do_goes, for_goes, statements_end, behind_end}
