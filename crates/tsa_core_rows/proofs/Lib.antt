@@ -2,4 +2,9 @@ pub mod AnyParts
 pub mod TypedParts
 pub mod BodyPoints
 pub mod BodyLocals
+pub mod BodyStable
+pub mod PlainRows
+pub mod BodyNodes
+pub mod StretchesRead
+pub mod UnitBodies
 pub mod RowExamples

@@ -1,5 +1,5 @@
 -- Rows as they are written and read: which nodes a body has, and what they come to.
-use Rattle.std.specs.Prelude.{◌≡◌, ℕ, pos, true, false, List, [], ◌∷◌, ◌++◌, map, Option, Some, None, codes}
+use Rattle.std.specs.Prelude.{◌≡◌, ℕ, pos, Bool, true, false, List, [], ◌∷◌, ◌++◌, map, Option, Some, None, codes}
 use Rattle.tsa_base.specs.declared.value.Value.TheVariants.{Int}
 use Rattle.tsa_lex.specs.Quick.{quick_tokens_of}
 use Rattle.tsa_tree.specs.declared.expr.BinaryOp.TheVariants as binary
@@ -14,6 +14,7 @@ use Rattle.tsa_tree.specs.types.Texts.{unit_in}
 use Rattle.tsa_tree.specs.types.Units.{outset}
 use Rattle.tsa_tree.specs.units.Syntax.{UnitItem}
 use Rattle.tsa_types_row.specs.BodyRows.{row_in_body}
+use Rattle.tsa_types_row.specs.ItemRows.{row_in_unit}
 use Rattle.tsa_types_row.specs.declared.node.Node.{Node}
 use Rattle.tsa_types_row.specs.declared.node.Op.{Op}
 use Rattle.tsa_types_row.specs.declared.node.Op.TheVariants as op
@@ -21,7 +22,8 @@ use Rattle.tsa_core.specs.Bodies.{Action, set_local, set_cell, declare, test, br
 use Rattle.tsa_core.specs.Meanings.{null_pointer}
 use Rattle.tsa_core.specs.Programs.{Bodied, bodied_function}
 use Rattle.tsa_core.specs.Terms.{Term, constant, variable, answer, global, member, target, load, address, converted, prefixed, joined}
-use Rattle.tsa_core_rows.specs.Reading.{Reading, nothing_read, points_alone, read_row, kinds_read}
+use Rattle.tsa_core_rows.specs.Reading.{Reading, nothing_read, points_alone, read_row, kinds_read, stable_read}
+use Rattle.tsa_core_rows.specs.Stretches.{stretches_read, bodies_read, bodies_in, row_of_body}
 
 abbrev body_of_h : List UnitItem → Option Bodied
 body_of_h items = bodied_function (codes "h") (outset items) items
@@ -53,6 +55,10 @@ reading text = read_by (body text)
 
 abbrev pub kinds : List ℕ → List Kind
 kinds text = kinds_read (row_by (body text))
+
+-- which of them and of the three parameters never change
+abbrev pub stables : List ℕ → List Bool
+stables text = stable_read (true ∷ true ∷ true ∷ []) (row_by (body text))
 
 abbrev alone : Action → Point
 alone action = point None action
@@ -96,3 +102,24 @@ pub record RowsAreReadAsWritten : Type 0 where
   pub cases_aside : reading (codes "switch (a) { case 1: return n; }") ≡
       points_alone (alone (branch (variable 0)) ∷ alone (give type.Int (load false (global 1))) ∷ ending)
   pub locals : kinds (codes "int k = 1; { unsigned u; } for (struct s *r = q; ; ) ;") ≡ type.Int ∷ type.Unsigned ∷ type.Pointer 0 false ∷ []
+  pub never_changed : stables (codes "int k = a; k;") ≡ true ∷ true ∷ true ∷ true ∷ []
+  pub changed : stables (codes "int k = a; for (w = 2; ; k += 1) ; int i;") ≡ true ∷ false ∷ true ∷ false ∷ true ∷ []
+  pub changed_through : stables (codes "q->x = a; n = w; (q) = NULL;") ≡ true ∷ true ∷ false ∷ []
+
+-- where the bodies of a unit stand in its row: function, first node, node behind
+abbrev pub stretches : List ℕ → List (ℕ × ℕ × ℕ)
+stretches text = map (λ s. (s.function, s.from, s.to)) (stretches_read (row_in_unit (unit_in (quick_tokens_of text))))
+
+-- the same, by the bodies that are written
+abbrev both_ways : List UnitItem → Type 0
+both_ways items = bodies_read (row_in_unit items) ≡ map row_of_body (bodies_in (outset items) items)
+
+pub record BodiesStandAsWritten : Type 0 where
+  pub empty_body : stretches (codes "void f(void) {}") ≡ (0, 1, 2) ∷ []
+  pub behind_prototypes : stretches (codes "int n; int f(int a, int b); void g(int); void g(int k) { n = k; } int f(int a, int b) { return a; }") ≡
+      (1, 7, 11) ∷ (0, 14, 17) ∷ []
+  pub behind_attributes : stretches (codes "int v[2]; struct __attribute__((capability(\"mutex\"))) m { int x; }; struct m k; void f(void) __attribute__((requires_capability(k))); void f(void) { v[0] = 1; }") ≡
+      (0, 8, 14) ∷ []
+  pub begins_with_a_loop : stretches (codes "void f(void) { for (;;) ; } void g(int n) { do { again: ; } while (n); } void h(void) { first: {} }") ≡
+      (0, 1, 4) ∷ (1, 6, 10) ∷ (2, 11, 12) ∷ []
+  pub are_the_bodies : both_ways (unit_in (quick_tokens_of (codes "int n; void f(int a) { int b[3]; n = a; } void g(void) {} int h(void) { switch (n) { case 1: return 2; } }")))

@@ -1,5 +1,5 @@
 -- What rows have to be read as: what expressions mean, and what bodies do.
-use Rattle.std.specs.Prelude.{◌≡◌, ℕ, List, ◌∷◌, Some, None}
+use Rattle.std.specs.Prelude.{◌≡◌, ℕ, true, List, ◌∷◌, map, replicate, Some, None}
 use Rattle.tsa_base.specs.declared.token.Span.{Span}
 use Rattle.tsa_tree.specs.declared.kind.ExpressionType.{ExpressionType}
 use Rattle.tsa_tree.specs.declared.kind.Kind.{Kind}
@@ -15,10 +15,12 @@ use Rattle.tsa_tree.specs.types.Units.{outset, refusal_of_types}
 use Rattle.tsa_tree.specs.units.Syntax.{UnitItem}
 use Rattle.tsa_types_row.specs.BodyRows.{row_in_body}
 use Rattle.tsa_types_row.specs.ExpressionRows.{row_in}
+use Rattle.tsa_types_row.specs.ItemRows.{row_in_unit}
 use Rattle.tsa_core.specs.Bodies.{body_of}
 use Rattle.tsa_core.specs.Meanings.{meaning, call_in}
 use Rattle.tsa_core.specs.Programs.{Bodied, bodied_function, body_in}
-use Rattle.tsa_core_rows.specs.Reading.{Part, Reading, read_before, read_row, points_alone, kinds_read}
+use Rattle.tsa_core_rows.specs.Reading.{Part, Reading, read_before, read_row, points_alone, kinds_read, stable_read}
+use Rattle.tsa_core_rows.specs.Stretches.{bodies_read, bodies_in, row_of_body, reading_of, points_of, first_named}
 
 -- the part that an expression is, and a part in front of what was read
 abbrev pub part_of : Scope → Expression → Part
@@ -51,3 +53,20 @@ UnitsAreRead = (items : List UnitItem) (name : List ℕ) (b : Bodied) (f : ℕ) 
 abbrev pub LocalsAreRead : Type 0
 LocalsAreRead = (here : Scope) (f : ℕ) (result : Kind) (body : Statements) (close : Span)
     → kinds_read (row_in_body here f body close) ≡ (body_of here result body).locals
+
+-- a row says which locals of the body never change, typed or not: so many parameters stand before it
+abbrev pub StableLocalsAreRead : Type 0
+StableLocalsAreRead = (here : Scope) (f : ℕ) (result : Kind) (body : Statements) (close : Span)
+    → stable_read (replicate here.locals true) (row_in_body here f body close) ≡ (body_of here result body).stable
+
+-- the bodies that are read from the row of a typed unit are those of its items, in order, each whole
+abbrev pub BodiesAreRead : Type 0
+BodiesAreRead = (items : List UnitItem) → refusal_of_types items ≡ None → bodies_read (row_in_unit items) ≡ map row_of_body (bodies_in (outset items) items)
+
+-- and the row of each is read as the points of the core program
+abbrev pub AllBodiesAreRead : Type 0
+AllBodiesAreRead = (items : List UnitItem) → refusal_of_types items ≡ None → map reading_of (bodies_in (outset items) items) ≡ map points_of (bodies_in (outset items) items)
+
+-- the first body of a name, typed or not, is the first of them with that name
+abbrev pub BodiesHaveNames : Type 0
+BodiesHaveNames = (items : List UnitItem) (name : List ℕ) → first_named name (bodies_in (outset items) items) ≡ bodied_function name (outset items) items

@@ -1,5 +1,5 @@
 -- What a row of nodes says. It is read from its end on: each node takes its parts from what stands behind it, and gives a part or a point.
-use Rattle.std.specs.Prelude.{ℕ, zero, suc, pos, Bool, true, false, List, [], ◌∷◌, Option, Some, None}
+use Rattle.std.specs.Prelude.{ℕ, zero, suc, pos, Bool, true, false, List, [], ◌∷◌, ◌++◌, Option, Some, None, slice_set}
 use Rattle.std.specs.List.{flat_map}
 use Rattle.tsa_base.specs.declared.value.Value.TheVariants.{Int}
 use Rattle.tsa_tree.specs.declared.expr.BinaryOp.{BinaryOp}
@@ -167,3 +167,25 @@ op_kinds _ kind = []
 
 abbrev pub kinds_read : List Node → List Kind
 kinds_read row = flat_map (λ n. op_kinds n.op n.thing.thing.kind) row
+
+-- Which locals never change, the parameters first: each declaration begins one, and an assignment whose left side is a local changes it.
+abbrev pub symbol_changes : List Bool → Option Symbol → List Bool
+symbol_changes stable (Some (symbol.Local f n)) = slice_set stable n false
+symbol_changes stable _ = stable
+
+abbrev pub op_changes : List Bool → Op → List Bool
+op_changes stable (op.Name s is_fixed) = symbol_changes stable s
+op_changes stable _ = stable
+
+abbrev pub first_changes : List Bool → List Node → List Bool
+first_changes stable [] = stable
+first_changes stable (left ∷ rest) = op_changes stable left.op
+
+abbrev pub stable_at : List Bool → Op → List Node → List Bool
+stable_at stable (op.Declare n has_value) rest = stable ++ true ∷ []
+stable_at stable (op.Set o) rest = first_changes stable rest
+stable_at stable _ rest = stable
+
+abbrev pub stable_read : List Bool → List Node → List Bool
+stable_read stable [] = stable
+stable_read stable (node ∷ rest) = stable_read (stable_at stable node.op rest) rest

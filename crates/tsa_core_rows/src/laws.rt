@@ -1,6 +1,6 @@
 //! Laws of what rows say.
-ghost use Rattle.tsa_core_rows.specs.Examples.{NodesAreAsWritten, RowsAreReadAsWritten};
-ghost use Rattle.tsa_core_rows.specs.Laws.{ExpressionsAreRead, PointsAreRead, UnitsAreRead, LocalsAreRead};
+ghost use Rattle.tsa_core_rows.specs.Examples.{NodesAreAsWritten, RowsAreReadAsWritten, BodiesStandAsWritten};
+ghost use Rattle.tsa_core_rows.specs.Laws.{ExpressionsAreRead, PointsAreRead, UnitsAreRead, LocalsAreRead, StableLocalsAreRead, BodiesAreRead, AllBodiesAreRead, BodiesHaveNames};
 
 /// The row of a typed expression says what the expression means, and which call is in it.
 #[tactic(auto, using(crate::proofs::TypedParts::expressions_are_read))]
@@ -25,6 +25,29 @@ pub fn locals_are_read()
     ensures { LocalsAreRead }
 {}
 
+/// The row of a body says which locals of the core program never change.
+pub fn stable_locals_are_read()
+    ensures { StableLocalsAreRead }
+{}
+
+/// The row of a typed unit has the bodies of its items, in their order.
+#[tactic(auto, using(crate::proofs::StretchesRead::bodies_are_read))]
+pub fn bodies_are_read()
+    ensures { BodiesAreRead }
+{}
+
+/// The row of each body of a typed unit says what the core program does at the points of the body.
+#[tactic(auto, using(crate::proofs::UnitBodies::all_bodies_are_read))]
+pub fn all_bodies_are_read()
+    ensures { AllBodiesAreRead }
+{}
+
+/// The bodies of a unit are those that the core program has by their names.
+#[tactic(auto, using(crate::proofs::UnitBodies::bodies_have_names))]
+pub fn bodies_have_names()
+    ensures { BodiesHaveNames }
+{}
+
 /// Rows have the nodes that are written, each in front of its parts.
 #[tactic(auto, using(crate::proofs::RowExamples::nodes_are_as_written))]
 pub fn nodes_are_as_written()
@@ -35,4 +58,10 @@ pub fn nodes_are_as_written()
 #[tactic(auto, using(crate::proofs::RowExamples::rows_are_read_as_written))]
 pub fn rows_are_read_as_written()
     ensures { RowsAreReadAsWritten }
+{}
+
+/// Bodies stand in rows where they are written.
+#[tactic(auto, using(crate::proofs::RowExamples::bodies_stand_as_written))]
+pub fn bodies_stand_as_written()
+    ensures { BodiesStandAsWritten }
 {}
