@@ -1,0 +1,4 @@
+pub mod Walks
+pub mod Programs
+pub mod Laws
+pub mod Examples
