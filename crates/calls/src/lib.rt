@@ -1,10 +1,12 @@
 //! Calls that no command makes, each once with ample memory, and ends that fail in mid-stream: the tokens of a text, expressions and
-//! attributes alone, the places of a unit, paths with their texts, names, the control of bodies, a table of locks, schedules, choosers and
-//! watchers, the lines of events, how threads begin, what a unit in the profile tells, what walks bring to the points of its functions, the
-//! rules that fail there, and what the lines of warnings and of held sets say. What commands show stands in the data of the program
-//! `cases`.
+//! attributes alone, the places of a unit, paths with their texts, names, the bodies of units and their control, a table of locks,
+//! schedules, choosers and watchers, the lines of events, how threads begin, what a unit in the profile tells, what walks bring to the
+//! points of its functions, the rules that fail there, and what the lines of warnings and of held sets say. What commands show stands in
+//! the data of the program `cases`.
 #![tactic(auto)]
 
+#[cfg(test)]
+mod bodies;
 #[cfg(test)]
 mod ends;
 #[cfg(test)]

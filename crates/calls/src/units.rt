@@ -7,6 +7,7 @@ ghost use Rattle.tsa_tree.specs.tokens.Signs.{lexemes};
 ghost use Rattle.tsa_tree.specs.tokens.Texts.{AreOfText};
 ghost use Rattle.tsa_tree.specs.units.Shapes.{item_shapes};
 
+use crate::bodies::put_bodies;
 use crate::flows::{put_functions, put_told};
 use crate::graphs::put_graph;
 use crate::nodes::{put_attributes, put_expressions};
@@ -33,6 +34,8 @@ pub enum Shown {
     Expressions,
     /// The attributes that it begins with at a depth.
     Attributes(u32),
+    /// The bodies of the typed unit that it is.
+    Bodies,
     /// The graph of the only function of the typed unit that it is.
     Graph,
     /// The places of the unit.
@@ -170,6 +173,7 @@ fn put_typed(out: &mut Vec<u8>, shown: Shown, typed: Typed<'_>, places: &Places)
     requires placed { placed_in (item_shapes typed.unit.now.items.now) ≡ Ok places.now }
 {
     match shown {
+        Shown::Bodies => put_bodies(out, &typed),
         Shown::Graph => put_graph(out, &typed, places),
         _ => put_in_profile(out, shown, typed, places),
     }
