@@ -1,0 +1,2 @@
+pub mod PointsOfUnits
+pub mod Cases

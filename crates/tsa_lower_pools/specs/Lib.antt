@@ -1,0 +1,5 @@
+pub mod Needs
+pub mod Inside
+pub mod Pools
+pub mod Units
+pub mod Laws
