@@ -1,0 +1,6 @@
+pub mod Frames
+pub mod Running
+pub mod Deeds
+pub mod Turning
+pub mod Answering
+pub mod Examples
