@@ -1,0 +1,7 @@
+mod NodeParts
+mod Patched
+pub mod Expressions
+mod Heights
+mod WrittenCodes
+mod Places
+pub mod AnyResult
