@@ -1,0 +1,3 @@
+pub mod CallCodes
+pub mod PointCodesWritten
+pub mod PointsRead

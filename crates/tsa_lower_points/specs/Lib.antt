@@ -1,0 +1,4 @@
+pub mod Actions
+pub mod Callees
+pub mod Examples
+pub mod Points
